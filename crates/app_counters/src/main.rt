@@ -5,10 +5,10 @@ ghost use Rattle.std.specs.Prelude.{◌≡◌};
 
 mod clock;
 
-use board_server::{GatedDoor, NoRecords, OpenGate, serve_run};
+use board_server::{GatedAcceptor, NoRecords, OpenGate, serve_run};
 use clock::MachineClock;
 use http_config::{Sink, StdSink};
-use net_sockets::{Linger, TcpDoor};
+use net_sockets::{Linger, TcpAcceptor};
 use std::alloc::{AllocGlobal, Global};
 use std::io::ErrorKind;
 use std::marker::Brand;
@@ -64,7 +64,7 @@ where
     let ran = serve_run::<_, _, _, _, M, _, _, _, _>(
         rt,
         words,
-        GatedDoor::new(TcpDoor::new(*rt, WAIT, LINGER)),
+        GatedAcceptor::new(TcpAcceptor::new(*rt, WAIT, LINGER)),
         MachineClock::new(*rt),
         &OpenGate,
         NoRecords,

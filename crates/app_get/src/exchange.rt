@@ -5,7 +5,7 @@ ghost use Rattle.app_get.specs.Exchange.{Ends, file_left, Goes, IsWhole};
 use crate::answer::Taken;
 use crate::error::GetError;
 use crate::patience::Patience;
-use crate::wire::Sent;
+use crate::transport::Sent;
 use h1_client::ClientConnection;
 use http_types::{Sink, Source};
 use net_sockets::{TimedSink, TimedSource};

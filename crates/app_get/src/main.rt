@@ -11,8 +11,8 @@ mod patience;
 mod request;
 mod show;
 mod target;
+mod transport;
 mod upload;
-mod wire;
 
 use crate::fetch::fetch_all;
 use crate::options::{Command, HELP, VERSION};

@@ -44,7 +44,7 @@
 //!
 //! ```ignore
 //! let service = BoardService::new(&rt, rt.alloc(), &shared, &OpenGate, 0, pass);
-//! let mut dispatcher = Dispatcher::new(rt.alloc(), wire, service, config, NoRecord);
+//! let mut dispatcher = Dispatcher::new(rt.alloc(), transport, service, config, NoRecord);
 //! ```
 //!
 //! # Contract

@@ -8,7 +8,7 @@ use Rattle.board_server.specs.contracts.accept.Newcomer as Newcomer
 use Rattle.board_server.specs.contracts.accept.Serving as Serving
 
 pub newcomer_send : (W L : RattleType) → IsSend W → IsSend L → IsSend (Newcomer.the_row W L)
-newcomer_send W L wire recorder = search sendable depth 40
+newcomer_send W L transport recorder = search sendable depth 40
 
 -- the deepest of the settings by themselves, since a search through all of them runs out of steps
 address_send : IsSend SocketAddr.the_row

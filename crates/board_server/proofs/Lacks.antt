@@ -12,7 +12,7 @@ use Rattle.model_h1.specs.Sums.{step_taken, step_written, taken, written}
 use Rattle.model_h1.specs.Trace.{IsTrace}
 use Rattle.h1_connection.specs.Meaning.{setting_of}
 use Rattle.h1_connection.specs.Steps.{Pair}
-use Rattle.h1_traced.specs.Line.{LineView, SaysNoted, LineStands}
+use Rattle.h1_traced.specs.Traced.{TracedView, SaysNoted, TracedStands}
 use Rattle.h1_dispatcher.specs.View.{View}
 use Rattle.h1_dispatcher.specs.Steps.{Step, Lacked, IsStep, ticked, drained, written as wrote, read, shut, next, closed, continued, ready, called, answered, pulled, paused, dropped, replied, sent, failed, failed_write, failed_read, failed_fed, failed_sent, asked_to_drain, asked_to_hold, declined, let_on, turned_away, refused as upgrade_refused}
 use Rattle.h1_dispatcher.specs.Traces.{IsNoted, of_request, requests_in, answers_in}
@@ -33,8 +33,8 @@ written_one s trace none = ap (λ l. written trace ++ l) none ∙ append-nil (wr
 -- once a step was added to this trace
 pub record After (v w : View) (before : List sums.Step) : Type 0 where
   pub trace : List sums.Step
-  pub traced : IsTrace (setting_of v.line.state.settings) trace
-  pub notes : SaysNoted w.line.noted trace
+  pub traced : IsTrace (setting_of v.traced.state.settings) trace
+  pub notes : SaysNoted w.traced.noted trace
   pub taken_so : taken trace ≡ taken before
   pub written_so : written trace ≡ written before
   pub answers_so : answers_in trace ≡ answers_in before
@@ -42,11 +42,11 @@ pub record After (v w : View) (before : List sums.Step) : Type 0 where
   pub service_so : w.service ≡ v.service
 
 -- nothing more was noted
-same_notes : (v w : View) (trace : List sums.Step) → Grows v.line.noted w.line.noted [] → w.service ≡ v.service → LineStands v.line trace → After v w trace
+same_notes : (v w : View) (trace : List sums.Step) → Grows v.traced.noted w.traced.noted [] → w.service ≡ v.service → TracedStands v.traced trace → After v w trace
 same_notes v w trace same service stands = record {
   trace = trace;
   traced = stands.stands.traced;
-  notes = subst (λ (n : Option (List Pair)). SaysNoted n trace) (sym (same ∙ sym (grown-none v.line.noted))) stands.noted;
+  notes = subst (λ (n : Option (List Pair)). SaysNoted n trace) (sym (same ∙ sym (grown-none v.traced.noted))) stands.noted;
   taken_so = refl;
   written_so = refl;
   answers_so = refl;
@@ -54,18 +54,18 @@ same_notes v w trace same service stands = record {
   service_so = service;
 }
 
-line_notes : (v w : View) (trace : List sums.Step) → w.line ≡ v.line → w.service ≡ v.service → LineStands v.line trace → After v w trace
-line_notes v w trace same service stands = same_notes v w trace (ap (λ (l : LineView). l.noted) same ∙ grown-none v.line.noted) service stands
+traced_notes : (v w : View) (trace : List sums.Step) → w.traced ≡ v.traced → w.service ≡ v.service → TracedStands v.traced trace → After v w trace
+traced_notes v w trace same service stands = same_notes v w trace (ap (λ (l : TracedView). l.noted) same ∙ grown-none v.traced.noted) service stands
 
-sent_notes : (v w : View) (piece : Piece) (trace : List sums.Step) → Lacked v.line w.line piece → w.service ≡ v.service → LineStands v.line trace → After v w trace
+sent_notes : (v w : View) (piece : Piece) (trace : List sums.Step) → Lacked v.traced w.traced piece → w.service ≡ v.service → TracedStands v.traced trace → After v w trace
 sent_notes v w (Ready (Some (Ok bytes))) trace fails service stands = same_notes v w trace fails.noted service stands
 sent_notes v w (Ready (Some (Err (Body n)))) trace fails service stands = same_notes v w trace fails.noted service stands
-sent_notes v w (Ready (Some (Err NoMemory))) trace same service stands = line_notes v w trace same service stands
+sent_notes v w (Ready (Some (Err NoMemory))) trace same service stands = traced_notes v w trace same service stands
 sent_notes v w (Ready None) trace fails service stands = same_notes v w trace fails.noted service stands
 sent_notes v w Pending trace fails service stands = absurd fails
 
 -- the bytes of a body that were handed out couldn't be fed
-fed_notes : (v w : View) (bytes : List ℕ) (trace : List sums.Step) → IsStep v (failed_fed bytes) w → LineStands v.line trace → After v w trace
+fed_notes : (v w : View) (bytes : List ℕ) (trace : List sums.Step) → IsStep v (failed_fed bytes) w → TracedStands v.traced trace → After v w trace
 fed_notes v w bytes trace is stands =
     let x = is.1.steps trace stands in
     let s : sums.Step = record { event = on.pull; outcome = x.0 } in
@@ -82,7 +82,7 @@ fed_notes v w bytes trace is stands =
       service_so = ap (λ (y : View). y.service) is.2;
     }
 
-lack_notes : (v w : View) (d : Step) (trace : List sums.Step) → ¬ IsNoted d → IsStep v d w → LineStands v.line trace → After v w trace
+lack_notes : (v w : View) (d : Step) (trace : List sums.Step) → ¬ IsNoted d → IsStep v d w → TracedStands v.traced trace → After v w trace
 lack_notes v w (failed event) trace lacks is stands = same_notes v w trace is.1.noted (ap (λ (y : View). y.service) is.2) stands
 lack_notes v w (failed_write count) trace lacks is stands = same_notes v w trace is.3.noted (ap (λ (y : View). y.service) is.4) stands
 lack_notes v w (failed_read came event) trace lacks is stands = same_notes v w trace is.3.noted (ap (λ (y : View). y.service) is.4) stands
@@ -111,6 +111,6 @@ lack_notes v w let_on trace lacks is stands = absurd (lacks tt)
 lack_notes v w (turned_away request answer) trace lacks is stands = absurd (lacks tt)
 lack_notes v w (upgrade_refused limit error) trace lacks is stands = absurd (lacks tt)
 
-pub after_end : (v w : View) (trace : List sums.Step) → (w ≡ v) ⊎ ((d : Step) × (¬ IsNoted d) × IsStep v d w) → LineStands v.line trace → After v w trace
-after_end v w trace (inl is) stands = line_notes v w trace (ap (λ (y : View). y.line) is) (ap (λ (y : View). y.service) is) stands
+pub after_end : (v w : View) (trace : List sums.Step) → (w ≡ v) ⊎ ((d : Step) × (¬ IsNoted d) × IsStep v d w) → TracedStands v.traced trace → After v w trace
+after_end v w trace (inl is) stands = traced_notes v w trace (ap (λ (y : View). y.traced) is) (ap (λ (y : View). y.service) is) stands
 after_end v w trace (inr is) stands = lack_notes v w is.0 trace is.1 is.2 stands

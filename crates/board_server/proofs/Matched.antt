@@ -39,7 +39,7 @@ module _ {W L : Type 0} (settings : Settings) (polls : ℕ) (may_give : ℕ → 
   visit_of : (journal : List Entry) (v : Visit W L) (p : Held) → of_pass p.number journal ≡ p.entries → Matches settings polls may_give wiring noted v p → IsVisit settings polls may_give wiring noted journal v
   visit_of journal v p entries_are is = record {
     calls = is.calls ∙ ap length (sym entries_are) ∙ ap (λ n. length (of_pass n journal)) (sym is.number);
-    served = subst (λ (x : Held). WasServed settings polls may_give (wiring v.wire) (noted v.recorder) x v.end) (own_is p v.number journal is.number entries_are) is.served;
+    served = subst (λ (x : Held). WasServed settings polls may_give (wiring v.transport) (noted v.recorder) x v.end) (own_is p v.number journal is.number entries_are) is.served;
   }
 
   pub visits_are : (journal : List Entry) (visits : List (Visit W L)) (passes : List Held) → AllByRecursion (λ (p : Held). of_pass p.number journal ≡ p.entries) passes

@@ -1,4 +1,4 @@
--- What the wire shows of how a connection ended.
+-- What the transport shows of how a connection ended.
 use Rattle.std.proofs.Common.{◌≡◌, ◌≤◌, ℕ, Bool, true, Result, Ok, Err, inl, inr}
 use Rattle.std.specs.Prelude.{is_some}
 use Rattle.futures.specs.declared.task.Poll.TheVariants.{Ready}
@@ -22,16 +22,16 @@ use Rattle.board_server.proofs.Steps.{run_kept}
 at_end : (polls : ℕ) (may_give : ℕ → Bool) (v w : View) (result : Result Unit DispatchError) (ends : EndsAt may_give polls v w (Ready result)) → HasCause ends.between w result
 at_end polls may_give v w result ends = poll_has ends.between w ends.last.cx ends.last.moment result ends.last.says
 
--- the wire's count before the last poll
+-- the transport's count before the last poll
 at_last : (polls : ℕ) (may_give : ℕ → Bool) (v w : View) (answer : Poll (Result Unit DispatchError)) (ends : EndsAt may_give polls v w answer) → is_some v.service.called ≡ true
-    → v.wire.faults ≤ ends.between.wire.faults
+    → v.transport.faults ≤ ends.between.transport.faults
 at_last polls may_give v w answer ends known =
     let r = acts_run v ends.between ends.waits.acts ends.waits.say in
     let k = run_kept v ends.between r.steps (r.noted (waits_have may_give ends.waits.acts ends.waits.each)) r.undecided r.run known in
     k.counts
 
-by_cause : (v u w : View) (e : DispatchError) → v.wire.faults ≤ u.wire.faults → HasCause u w (Err e) → Shows v.wire w.wire (Err (Dispatch e))
-by_cause v u w error.Io before has = rose_since v.wire.faults u.wire.faults w.wire.faults before has
+by_cause : (v u w : View) (e : DispatchError) → v.transport.faults ≤ u.transport.faults → HasCause u w (Err e) → Shows v.transport w.transport (Err (Dispatch e))
+by_cause v u w error.Io before has = rose_since v.transport.faults u.transport.faults w.transport.faults before has
 by_cause v u w error.NoMemory before has = tt
 by_cause v u w error.DisconnectTimeout before has = tt
 by_cause v u w error.SlowRequestTimeout before has = has.shut
@@ -46,7 +46,7 @@ by_cause v u w error.H2 before has = absurd has
 by_cause v u w error.HandlerDroppedPayload before has = absurd has
 by_cause v u w error.InternalError before has = absurd has
 
-pub shows_end : (polls : ℕ) (may_give : ℕ → Bool) (v w : View) (end : Result Unit ServeError) → Ends polls may_give v w end → is_some v.service.called ≡ true → Shows v.wire w.wire end
+pub shows_end : (polls : ℕ) (may_give : ℕ → Bool) (v w : View) (end : Result Unit ServeError) → Ends polls may_give v w end → is_some v.service.called ≡ true → Shows v.transport w.transport end
 shows_end polls may_give v w (Ok x) ends known = let has = at_end polls may_give v w (Ok tt) ends.0 in has.2.shut
 shows_end polls may_give v w (Err (Dispatch e)) ends known =
     by_cause v ends.0.between w e (at_last polls may_give v w (Ready (Err e)) ends.0 known) (at_end polls may_give v w (Err e) ends.0)

@@ -1,4 +1,4 @@
--- What each step of a dispatcher keeps, and a run: the settings, the wire's count, what the service tells, and the requests.
+-- What each step of a dispatcher keeps, and a run: the settings, the transport's count, what the service tells, and the requests.
 use Rattle.std.proofs.Common.{◌≡◌, ◌≤◌, ℕ, true, Option, Some, None, List, [], ◌∷◌, ◌++◌, map, option_to_list, Result, Ok, Err, inl, inr, refl, sym, ap, ◌∙◌, subst, arith}
 use Rattle.std.specs.Prelude.{is_some}
 use Rattle.std.proofs.lemmas.List.{map-append}
@@ -12,7 +12,7 @@ use Rattle.http_bodies.proofs.Histories.{grown, grown-none}
 use Rattle.http_services.specs.Serving.{Serving, NeverFails, given}
 use Rattle.h1_payload.specs.declared.pulled.Pulled.{Pulled}
 use Rattle.h1_payload.specs.declared.pulled.Pulled.TheVariants as pieces
-use Rattle.h1_traced.specs.Line.{LineView}
+use Rattle.h1_traced.specs.Traced.{TracedView}
 use Rattle.h1_dispatcher.specs.View.{View, Asking, Answer}
 use Rattle.h1_dispatcher.specs.Steps.{Step, Wrote, Took, Sent, TakesNone, IsStep, IsRun, request_at, ticked, drained, written, read, shut, next, closed, continued, ready, called, answered, pulled, paused, dropped, replied, sent, failed, failed_write, failed_read, failed_fed, failed_sent, asked_to_drain, asked_to_hold, declined, let_on, turned_away, refused as upgrade_refused}
 use Rattle.h1_dispatcher.specs.Order.{refused, refusals, step_requests, step_calls, step_left, step_answers, requests, calls, left, answers}
@@ -48,8 +48,8 @@ asked_in (c ∷ more) = asked_by c ++ asked_in more
 -- ---- one step
 
 record Keeps (v : View) (d : Step) (w : View) : Type 0 where
-  settings : w.line.state.settings ≡ v.line.state.settings
-  counts : v.wire.faults ≤ w.wire.faults
+  settings : w.traced.state.settings ≡ v.traced.state.settings
+  counts : v.transport.faults ≤ w.transport.faults
   answered_so : Grows v.service.answered w.service.answered (step_results d)
   values : step_answers d ≡ map value_of (step_results d)
   left_so : step_left d ≡ step_calls d
@@ -66,7 +66,7 @@ caused before now Pending is = is
 
 -- nothing is asked of the service, and it stays
 apart : (v w : View) (d : Step) → step_results d ≡ [] → step_answers d ≡ [] → step_left d ≡ [] → step_calls d ≡ [] → asked_in (step_came d) ≡ step_requests d
-    → w.line.state.settings ≡ v.line.state.settings → v.wire.faults ≤ w.wire.faults → w.service ≡ v.service → is_some v.service.called ≡ true → Keeps v d w
+    → w.traced.state.settings ≡ v.traced.state.settings → v.transport.faults ≤ w.transport.faults → w.service ≡ v.service → is_some v.service.called ≡ true → Keeps v d w
 apart v w d none_given none_answered none_left none_called came_so set count service known = record {
   settings = set;
   counts = count;
@@ -79,29 +79,29 @@ apart v w d none_given none_answered none_left none_called came_so set count ser
   asked_so = came_so;
 }
 
--- and the wire stays too
+-- and the transport stays too
 quiet : (v w : View) (d : Step) → step_results d ≡ [] → step_answers d ≡ [] → step_left d ≡ [] → step_calls d ≡ [] → asked_in (step_came d) ≡ step_requests d
-    → w.line.state.settings ≡ v.line.state.settings → w.wire ≡ v.wire → w.service ≡ v.service → is_some v.service.called ≡ true → Keeps v d w
-quiet v w d none_given none_answered none_left none_called came_so set wire service known =
-    apart v w d none_given none_answered none_left none_called came_so set (same_count v.wire.faults w.wire.faults (ap (λ x. x.faults) wire)) service known
+    → w.traced.state.settings ≡ v.traced.state.settings → w.transport ≡ v.transport → w.service ≡ v.service → is_some v.service.called ≡ true → Keeps v d w
+quiet v w d none_given none_answered none_left none_called came_so set transport service known =
+    apart v w d none_given none_answered none_left none_called came_so set (same_count v.transport.faults w.transport.faults (ap (λ x. x.faults) transport)) service known
 
-wrote_settings : (v w : View) (answer : Poll (Result ℕ Failed)) → Wrote v.line w.line answer → w.line.state.settings ≡ v.line.state.settings
+wrote_settings : (v w : View) (answer : Poll (Result ℕ Failed)) → Wrote v.traced w.traced answer → w.traced.state.settings ≡ v.traced.state.settings
 wrote_settings v w (Ready (Ok n)) goes = goes.1.settings
-wrote_settings v w (Ready (Err e)) line = ap (λ (l : LineView). l.state.settings) line
-wrote_settings v w Pending line = ap (λ (l : LineView). l.state.settings) line
+wrote_settings v w (Ready (Err e)) line = ap (λ (l : TracedView). l.state.settings) line
+wrote_settings v w Pending line = ap (λ (l : TracedView). l.state.settings) line
 
-took_settings : (v w : View) (came_so : List ℕ) (answer : Poll (Result ℕ Failed)) → Took v.line w.line came_so answer → w.line.state.settings ≡ v.line.state.settings
+took_settings : (v w : View) (came_so : List ℕ) (answer : Poll (Result ℕ Failed)) → Took v.traced w.traced came_so answer → w.traced.state.settings ≡ v.traced.state.settings
 took_settings v w came_so (Ready (Ok n)) (inl end) = end.1.settings
 took_settings v w came_so (Ready (Ok n)) (inr some) = some.1.1.settings
-took_settings v w came_so (Ready (Err e)) line = ap (λ (l : LineView). l.state.settings) line
-took_settings v w came_so Pending line = ap (λ (l : LineView). l.state.settings) line
+took_settings v w came_so (Ready (Err e)) line = ap (λ (l : TracedView). l.state.settings) line
+took_settings v w came_so Pending line = ap (λ (l : TracedView). l.state.settings) line
 
-sent_settings : (v w : View) (piece : Piece) → Sent v.line w.line piece → w.line.state.settings ≡ v.line.state.settings
+sent_settings : (v w : View) (piece : Piece) → Sent v.traced w.traced piece → w.traced.state.settings ≡ v.traced.state.settings
 sent_settings v w (Ready (Some (Ok bytes))) goes = goes.settings
 sent_settings v w (Ready (Some (Err (Body n)))) goes = goes.settings
 sent_settings v w (Ready (Some (Err NoMemory))) goes = absurd goes
 sent_settings v w (Ready None) goes = goes.settings
-sent_settings v w Pending line = ap (λ (l : LineView). l.state.settings) line
+sent_settings v w Pending line = ap (λ (l : TracedView). l.state.settings) line
 
 -- the head's request is the one that comes
 asked_once : (request : Option Asking) → asked_in (heads_of request) ≡ option_to_list request
@@ -133,19 +133,19 @@ still_some None new more is some = absurd (cc some)
 still_some (Some l) new more is some = ap is_some is
 
 step_keeps : (v w : View) (d : Step) → IsNoted d → DecidesNone d → IsStep v d w → is_some v.service.called ≡ true → Keeps v d w
-step_keeps v w (ticked moment expiry) noted none is known = quiet v w _ refl refl refl refl refl is.0.settings (ap (λ (x : View). x.wire) is.1) (ap (λ (x : View). x.service) is.1) known
-step_keeps v w drained noted none is known = quiet v w _ refl refl refl refl refl is.0.settings (ap (λ (x : View). x.wire) is.1) (ap (λ (x : View). x.service) is.1) known
-step_keeps v w (written answer) noted none is known = apart v w _ refl refl refl refl refl (wrote_settings v w answer is.3) (caused v.wire.faults w.wire.faults answer is.2.faults) (ap (λ (x : View). x.service) is.4) known
-step_keeps v w (read came_so answer) noted none is known = apart v w _ refl refl refl refl refl (took_settings v w came_so answer is.3) (caused v.wire.faults w.wire.faults answer is.2.4.faults) (ap (λ (x : View). x.service) is.4) known
-step_keeps v w (shut answer) noted none is known = apart v w _ refl refl refl refl refl (ap (λ (x : View). x.line.state.settings) is.2) (caused v.wire.faults w.wire.faults answer is.1.faults) (ap (λ (x : View). x.service) is.2) known
-step_keeps v w (next head) noted none is known = quiet v w (next head) refl refl refl refl (asked_once (request_at head)) is.3.settings (ap (λ (x : View). x.wire) is.4) (ap (λ (x : View). x.service) is.4) known
-step_keeps v w (closed end) noted none is known = quiet v w _ refl refl refl refl refl is.3.1.settings (ap (λ (x : View). x.wire) is.4) (ap (λ (x : View). x.service) is.4) known
-step_keeps v w continued noted none is known = quiet v w _ refl refl refl refl refl is.2.settings (ap (λ (x : View). x.wire) is.3) (ap (λ (x : View). x.service) is.3) known
+step_keeps v w (ticked moment expiry) noted none is known = quiet v w _ refl refl refl refl refl is.0.settings (ap (λ (x : View). x.transport) is.1) (ap (λ (x : View). x.service) is.1) known
+step_keeps v w drained noted none is known = quiet v w _ refl refl refl refl refl is.0.settings (ap (λ (x : View). x.transport) is.1) (ap (λ (x : View). x.service) is.1) known
+step_keeps v w (written answer) noted none is known = apart v w _ refl refl refl refl refl (wrote_settings v w answer is.3) (caused v.transport.faults w.transport.faults answer is.2.faults) (ap (λ (x : View). x.service) is.4) known
+step_keeps v w (read came_so answer) noted none is known = apart v w _ refl refl refl refl refl (took_settings v w came_so answer is.3) (caused v.transport.faults w.transport.faults answer is.2.4.faults) (ap (λ (x : View). x.service) is.4) known
+step_keeps v w (shut answer) noted none is known = apart v w _ refl refl refl refl refl (ap (λ (x : View). x.traced.state.settings) is.2) (caused v.transport.faults w.transport.faults answer is.1.faults) (ap (λ (x : View). x.service) is.2) known
+step_keeps v w (next head) noted none is known = quiet v w (next head) refl refl refl refl (asked_once (request_at head)) is.3.settings (ap (λ (x : View). x.transport) is.4) (ap (λ (x : View). x.service) is.4) known
+step_keeps v w (closed end) noted none is known = quiet v w _ refl refl refl refl refl is.3.1.settings (ap (λ (x : View). x.transport) is.4) (ap (λ (x : View). x.service) is.4) known
+step_keeps v w continued noted none is known = quiet v w _ refl refl refl refl refl is.2.settings (ap (λ (x : View). x.transport) is.3) (ap (λ (x : View). x.service) is.3) known
 step_keeps v w (ready request answer) noted apart_of_all is known =
     let none = none_refused v.service.called request answer known is.2.sure is.1 in
     record {
-      settings = ap (λ (x : View). x.line.state.settings) is.3;
-      counts = same_count v.wire.faults w.wire.faults (ap (λ (x : View). x.wire.faults) is.3);
+      settings = ap (λ (x : View). x.traced.state.settings) is.3;
+      counts = same_count v.transport.faults w.transport.faults (ap (λ (x : View). x.transport.faults) is.3);
       answered_so = is.2.answered ∙ grown-none v.service.answered;
       values = none.1;
       left_so = none.0;
@@ -153,8 +153,8 @@ step_keeps v w (ready request answer) noted apart_of_all is known =
       asked_so = refl;
     }
 step_keeps v w (called request) noted none is known = record {
-  settings = ap (λ (x : View). x.line.state.settings) is.2.2;
-  counts = same_count v.wire.faults w.wire.faults (ap (λ (x : View). x.wire.faults) is.2.2);
+  settings = ap (λ (x : View). x.traced.state.settings) is.2.2;
+  counts = same_count v.transport.faults w.transport.faults (ap (λ (x : View). x.transport.faults) is.2.2);
   answered_so = is.1.begun.answered ∙ is.1.is_ready.answered ∙ grown-none v.service.answered;
   values = refl;
   left_so = refl;
@@ -162,25 +162,25 @@ step_keeps v w (called request) noted none is known = record {
   asked_so = refl;
 }
 step_keeps v w (answered answer) noted none is known = record {
-  settings = ap (λ (x : View). x.line.state.settings) is.same;
-  counts = same_count v.wire.faults w.wire.faults (ap (λ (x : View). x.wire.faults) is.same);
+  settings = ap (λ (x : View). x.traced.state.settings) is.same;
+  counts = same_count v.transport.faults w.transport.faults (ap (λ (x : View). x.transport.faults) is.same);
   answered_so = is.says.answered;
   values = given_values answer;
   left_so = refl;
   tells = ap is_some is.says.called ∙ known;
   asked_so = refl;
 }
-step_keeps v w (pulled piece) noted none is known = quiet v w (pulled piece) refl refl refl refl (none_asked piece) is.1.settings (ap (λ (x : View). x.wire) is.2) (ap (λ (x : View). x.service) is.2) known
-step_keeps v w paused noted none is known = quiet v w _ refl refl refl refl refl (ap (λ (x : View). x.line.state.settings) is.4) (ap (λ (x : View). x.wire) is.4) (ap (λ (x : View). x.service) is.4) known
-step_keeps v w dropped noted none is known = quiet v w _ refl refl refl refl refl is.2.settings (ap (λ (x : View). x.wire) is.3) (ap (λ (x : View). x.service) is.3) known
-step_keeps v w (replied answer) noted none is known = quiet v w _ refl refl refl refl refl is.2.settings (ap (λ (x : View). x.wire) is.3) (ap (λ (x : View). x.service) is.3) known
-step_keeps v w (sent piece) noted none is known = quiet v w _ refl refl refl refl refl (sent_settings v w piece is.2) (ap (λ (x : View). x.wire) is.3) (ap (λ (x : View). x.service) is.3) known
+step_keeps v w (pulled piece) noted none is known = quiet v w (pulled piece) refl refl refl refl (none_asked piece) is.1.settings (ap (λ (x : View). x.transport) is.2) (ap (λ (x : View). x.service) is.2) known
+step_keeps v w paused noted none is known = quiet v w _ refl refl refl refl refl (ap (λ (x : View). x.traced.state.settings) is.4) (ap (λ (x : View). x.transport) is.4) (ap (λ (x : View). x.service) is.4) known
+step_keeps v w dropped noted none is known = quiet v w _ refl refl refl refl refl is.2.settings (ap (λ (x : View). x.transport) is.3) (ap (λ (x : View). x.service) is.3) known
+step_keeps v w (replied answer) noted none is known = quiet v w _ refl refl refl refl refl is.2.settings (ap (λ (x : View). x.transport) is.3) (ap (λ (x : View). x.service) is.3) known
+step_keeps v w (sent piece) noted none is known = quiet v w _ refl refl refl refl refl (sent_settings v w piece is.2) (ap (λ (x : View). x.transport) is.3) (ap (λ (x : View). x.service) is.3) known
 step_keeps v w (failed event) noted none is known = absurd noted
 step_keeps v w (failed_write count) noted none is known = absurd noted
 step_keeps v w (failed_read came_so event) noted none is known = absurd noted
 step_keeps v w (failed_fed bytes) noted none is known = absurd noted
 step_keeps v w (failed_sent piece) noted none is known = absurd noted
-step_keeps v w asked_to_drain noted none is known = quiet v w _ refl refl refl refl refl (ap (λ (x : View). x.line.state.settings) is) (ap (λ (x : View). x.wire) is) (ap (λ (x : View). x.service) is) known
+step_keeps v w asked_to_drain noted none is known = quiet v w _ refl refl refl refl refl (ap (λ (x : View). x.traced.state.settings) is) (ap (λ (x : View). x.transport) is) (ap (λ (x : View). x.service) is) known
 step_keeps v w (asked_to_hold upgrades expects) noted none is known = absurd none
 step_keeps v w declined noted none is known = absurd none
 step_keeps v w let_on noted none is known = absurd none
@@ -190,8 +190,8 @@ step_keeps v w (upgrade_refused limit error) noted none is known = absurd none
 -- ---- a run
 
 pub record AllKept (v : View) (steps : List Step) (w : View) : Type 0 where
-  pub settings : w.line.state.settings ≡ v.line.state.settings
-  pub counts : v.wire.faults ≤ w.wire.faults
+  pub settings : w.traced.state.settings ≡ v.traced.state.settings
+  pub counts : v.transport.faults ≤ w.transport.faults
   pub answered_so : Grows v.service.answered w.service.answered (results steps)
   pub values : answers steps ≡ map value_of (results steps)
   pub left_so : left steps ≡ calls steps
@@ -211,7 +211,7 @@ more_counts a b c first then = omega (arith, first, then)
 keeps_on : (v u w : View) (d : Step) (steps : List Step) → Keeps v d u → AllKept u steps w → AllKept v (d ∷ steps) w
 keeps_on v u w d steps first then = record {
   settings = then.settings ∙ first.settings;
-  counts = more_counts v.wire.faults u.wire.faults w.wire.faults first.counts then.counts;
+  counts = more_counts v.transport.faults u.transport.faults w.transport.faults first.counts then.counts;
   answered_so = grown (step_results d) (results steps) _ _ _ first.answered_so then.answered_so;
   values =
       both (step_answers d) (map value_of (step_results d)) (answers steps) (map value_of (results steps)) first.values then.values
@@ -222,8 +222,8 @@ keeps_on v u w d steps first then = record {
 
 none_kept : (v w : View) → w ≡ v → AllKept v [] w
 none_kept v w is = record {
-  settings = ap (λ (x : View). x.line.state.settings) is;
-  counts = same_count v.wire.faults w.wire.faults (ap (λ (x : View). x.wire.faults) is);
+  settings = ap (λ (x : View). x.traced.state.settings) is;
+  counts = same_count v.transport.faults w.transport.faults (ap (λ (x : View). x.transport.faults) is);
   answered_so = ap (λ (x : View). x.service.answered) is ∙ grown-none v.service.answered;
   values = refl;
   left_so = refl;

@@ -13,7 +13,7 @@ use Rattle.model_h1.specs.Sums.{taken, written}
 use Rattle.model_h1.specs.Trace.{IsTrace}
 use Rattle.h1_connection.specs.Meaning.{setting_of}
 use Rattle.h1_connection.specs.Steps as noted
-use Rattle.h1_traced.specs.Line.{SaysNoted, LineStands}
+use Rattle.h1_traced.specs.Traced.{SaysNoted, TracedStands}
 use Rattle.h1_dispatcher.specs.View.{View, Answer, told_result, told_service, is_replying}
 use Rattle.h1_dispatcher.specs.Steps.{Step}
 use Rattle.h1_dispatcher.specs.Order.{waits_in, reply_in, calls_in, requests, calls, left, answers, replies, KeepsOrder}
@@ -97,18 +97,18 @@ only_then polls may_give v w (Err NoMemory) ends some = refl
 
 -- ---- together
 
-moved_so : (begun between : View) (was now : Wiring) (before trace : List sums.Step) → begun.wire ≡ was → between.wire ≡ now → taken trace ≡ taken before → written trace ≡ written before
-    → Grows begun.wire.received between.wire.received (taken before) → Grows begun.wire.sent between.wire.sent (written before)
+moved_so : (begun between : View) (was now : Wiring) (before trace : List sums.Step) → begun.transport ≡ was → between.transport ≡ now → taken trace ≡ taken before → written trace ≡ written before
+    → Grows begun.transport.received between.transport.received (taken before) → Grows begun.transport.sent between.transport.sent (written before)
     → Grows was.received now.received (taken trace) × Grows was.sent now.sent (written trace)
 moved_so begun between was now before trace first last taken_so written_so received sent_so = (
   subst (λ (x : Wiring). Grows was.received x.received (taken trace)) last
-      (subst (λ (x : Wiring). Grows x.received between.wire.received (taken trace)) first (subst (λ l. Grows begun.wire.received between.wire.received l) (sym taken_so) received)),
+      (subst (λ (x : Wiring). Grows x.received between.transport.received (taken trace)) first (subst (λ l. Grows begun.transport.received between.transport.received l) (sym taken_so) received)),
   subst (λ (x : Wiring). Grows was.sent x.sent (written trace)) last
-      (subst (λ (x : Wiring). Grows x.sent between.wire.sent (written trace)) first (subst (λ l. Grows begun.wire.sent between.wire.sent l) (sym written_so) sent_so)),
+      (subst (λ (x : Wiring). Grows x.sent between.transport.sent (written trace)) first (subst (λ l. Grows begun.transport.sent between.transport.sent l) (sym written_so) sent_so)),
 )
 
 pub told : (was now : Wiring) (number : ℕ) (settings : Settings) (recorded later : Option (List noted.Pair)) (polls : ℕ) (may_give : ℕ → Bool) (pass : Held) (end : Result Unit ServeError)
-    → LineStands (begun_view was number settings recorded).line [] → HasServed (begun_view was number settings recorded) polls may_give now later pass end
+    → TracedStands (begun_view was number settings recorded).traced [] → HasServed (begun_view was number settings recorded) polls may_give now later pass end
     → IsTold settings was now later pass end
 told was now number settings recorded later polls may_give pass end stands served =
     let begun : View = begun_view was number settings recorded in
@@ -118,7 +118,7 @@ told was now number settings recorded later polls may_give pass end stands serve
     let kept : AllKept begun ran.steps u = run_kept begun u ran.steps ran.noted ran.undecided ran.run refl in
     let order : KeepsOrder begun ran.steps u = run_keeps begun u ran.steps ran.run in
     let f : Follows begun u [] (hands ran.steps) (came ran.steps) = run_follows begun u ran.steps ran.noted ran.run [] stands in
-    let a : After u served.last f.more = after_end u served.last f.more ran.end (subst (λ (l : List sums.Step). LineStands u.line l) (append-nil f.more) f.stands) in
+    let a : After u served.last f.more = after_end u served.last f.more ran.end (subst (λ (l : List sums.Step). TracedStands u.traced l) (append-nil f.more) f.stands) in
     let w : WorkedBy begun ran.steps u work = by_work begun u ran.steps work refl refl refl (sym a.service_so ∙ served.service_is) kept order in
     let in_order : InOrder false work.calls work.answers work.waiting = not_lost work.is_lost work.calls work.answers work.waiting u.stage served.kept.order w.count in
     let one : OneWaits u.stage work.waiting = one_waits u.stage work.waiting (waits_count work.calls work.answers work.waiting u.stage in_order w.count) in
@@ -128,8 +128,8 @@ told was now number settings recorded later polls may_give pass end stands serve
       trace = a.trace;
       traced = subst (λ (set : Settings). IsTrace (setting_of set) a.trace) kept.settings a.traced;
       notes = subst (λ (n : Option (List noted.Pair)). SaysNoted n a.trace) served.noted_is a.notes;
-      moved = λ enough. moved_so begun u was now f.more a.trace refl (ap (λ (x : View). x.wire) (sym (ran.whole enough)) ∙ served.wire_is) a.taken_so a.written_so f.received f.sent;
-      shows = subst (λ (x : Wiring). Shows was x end) served.wire_is (shows_end polls may_give begun served.last end served.ends refl);
+      moved = λ enough. moved_so begun u was now f.more a.trace refl (ap (λ (x : View). x.transport) (sym (ran.whole enough)) ∙ served.transport_is) a.taken_so a.written_so f.received f.sent;
+      shows = subst (λ (x : Wiring). Shows was x end) served.transport_is (shows_end polls may_give begun served.last end served.ends refl);
       answered = work.answers;
       waiting = one.waiting;
       requests =

@@ -1,6 +1,6 @@
 pub mod Serves
 pub mod Told
-pub mod MemDoors
+pub mod MemAcceptors
 pub mod Visits
 pub mod Reports
 pub mod Texts

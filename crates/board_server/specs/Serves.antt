@@ -17,9 +17,9 @@ use Rattle.board_server.specs.declared.error.ServeError.{ServeError}
 use Rattle.board_server.specs.declared.error.ServeError.TheVariants.{Dispatch, Budget, NoMemory}
 use Rattle.board.specs.Work.{Worked, begun_work, serving_of, IsKept}
 
--- a new dispatcher over this wire, for the pass of this number, to which nothing was asked
+-- a new dispatcher over this transport, for the pass of this number, to which nothing was asked
 abbrev pub begun_view : Wiring → ℕ → Settings → Option (List Pair) → View
-begun_view wire number settings noted = view_begun wire (told_service (λ _. holds []) (serving_of (begun_work number))) settings noted
+begun_view transport number settings noted = view_begun transport (told_service (λ _. holds []) (serving_of (begun_work number))) settings noted
 
 -- a poll at a moment that the clock may give, which was pending
 abbrev pub IsWait : (ℕ → Bool) → Act → Type 0
@@ -64,12 +64,12 @@ Ends polls may_give v w (Err NoMemory) =
     (w ≡ v) ⊎ ((answer : Poll (Result Unit DispatchError)) × EndsAt may_give polls v w answer × (0 < w.service.call_waits))
 
 -- A connection was served from this view of its dispatcher on: how it ended, with what was asked of the board and answered,
--- the wire, what was noted, and the pass.
-pub record HasServed (begun : View) (polls : ℕ) (may_give : ℕ → Bool) (wire : Wiring) (noted : Option (List Pair)) (pass : Held) (end : Result Unit ServeError) : Type 0 where
+-- the transport, what was noted, and the pass.
+pub record HasServed (begun : View) (polls : ℕ) (may_give : ℕ → Bool) (transport : Wiring) (noted : Option (List Pair)) (pass : Held) (end : Result Unit ServeError) : Type 0 where
   pub last : View
   pub ends : Ends polls may_give begun last end
-  pub wire_is : last.wire ≡ wire
-  pub noted_is : last.line.noted ≡ noted
+  pub transport_is : last.transport ≡ transport
+  pub noted_is : last.traced.noted ≡ noted
   pub work : Worked
   pub service_is : last.service ≡ told_service (λ _. holds []) (serving_of work)
   pub pass_is : work.pass ≡ pass

@@ -41,8 +41,8 @@ pub record IsReportText (journal : List Entry) (text : List ℕ) : Type 0 where
 abbrev pub usage_text : List ℕ
 usage_text = codes "usage: app_counters PORT N POLLS\n"
 
-abbrev pub door_text : List ℕ
-door_text = codes "door fault\n"
+abbrev pub acceptor_text : List ℕ
+acceptor_text = codes "acceptor fault\n"
 
 abbrev pub memory_text : List ℕ
 memory_text = codes "no memory\n"

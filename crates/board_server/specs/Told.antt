@@ -16,7 +16,7 @@ use Rattle.model_h1.specs.Sums.{taken, written}
 use Rattle.model_h1.specs.Trace.{IsTrace}
 use Rattle.h1_connection.specs.Meaning.{setting_of}
 use Rattle.h1_connection.specs.Steps as noted
-use Rattle.h1_traced.specs.Line.{SaysNoted}
+use Rattle.h1_traced.specs.Traced.{SaysNoted}
 use Rattle.h1_dispatcher.specs.Traces.{HasHead, answers_in, requests_in}
 use Rattle.board.specs.declared.command.Entry.{Entry}
 use Rattle.board.specs.Views.{Held}
@@ -53,7 +53,7 @@ HadMemory (Err (Dispatch e)) = ⊤
 HadMemory (Err Budget) = ⊤
 HadMemory (Err NoMemory) = ⊥
 
--- What the wire shows of an end: that it was shut down, or that it failed.
+-- What the transport shows of an end: that it was shut down, or that it failed.
 abbrev pub Shows : Wiring → Wiring → Result Unit ServeError → Type 0
 Shows was now (Ok x) = IsTrue now.shut
 Shows was now (Err (Dispatch error.Io)) = Rose was.faults now.faults
@@ -66,8 +66,8 @@ Shows was now (Err (Dispatch e)) = ⊥
 Shows was now (Err Budget) = ⊤
 Shows was now (Err NoMemory) = ⊤
 
--- A connection with these settings was served, with a pass that is now this, from that wire on to this. What was noted is a
--- trace of it, the newest step first. Its reads took what the wire gave, all of it and in order, and what the wire took is
+-- A connection with these settings was served, with a pass that is now this, from that transport on to this. What was noted is a
+-- trace of it, the newest step first. Its reads took what the transport gave, all of it and in order, and what the transport took is
 -- what it wrote, where memory didn't run out. The requests of its heads are those that were answered, each with its answer,
 -- and at most one more. Its answers are theirs, in order; where memory ran out the last one may not be among them. The pass has one entry
 -- for each answer of a call, in order, with the command of its request and the reply of its answer, and no other; but where

@@ -1,4 +1,4 @@
--- What is known of connections that a door gave, and that were served.
+-- What is known of connections that an acceptor gave, and that were served.
 use Rattle.std.specs.Prelude.{◌≡◌, ◌≤◌, ◌⊎◌, ℕ, zero, suc, Bool, true, false, Option, List, length, IsTrue, Result}
 use Rattle.std.specs.List.{AllZip}
 use Rattle.http_config.specs.Causes.{Rose, counted}
@@ -13,7 +13,7 @@ use Rattle.board_server.specs.declared.error.ServeError.{ServeError}
 use Rattle.board_server.specs.declared.visit.Visit.{Visit}
 
 -- A connection was served with these settings and as many polls at most, at moments that the clock may give, from a new
--- wire on that moved no byte, with a pass that had no entry and a recorder that had noted nothing: how that went, and what
+-- transport on that moved no byte, with a pass that had no entry and a recorder that had noted nothing: how that went, and what
 -- it came to.
 pub record WasServed (settings : Settings) (polls : ℕ) (may_give : ℕ → Bool) (now : Wiring) (noted : Option (List Pair)) (pass : Held) (end : Result Unit ServeError) : Type 0 where
   pub was : Wiring
@@ -28,7 +28,7 @@ abbrev pub counted_on : ℕ → ℕ → ℕ
 counted_on zero count = count
 counted_on (suc more) count = counted (counted_on more count)
 
--- The door gave so many connections, and then it failed; or it answered that none follows, or as many passes as this were left.
+-- The acceptor gave so many connections, and then it failed; or it answered that none follows, or as many passes as this were left.
 pub record IsTaken (was now : Opening) (served left : ℕ) (has_failed : Bool) : Type 0 where
   pub given : now.given ≡ counted_on served was.given
   pub never_falls : was.faults ≤ now.faults
@@ -39,7 +39,7 @@ pub record IsTaken (was now : Opening) (served left : ℕ) (has_failed : Bool) :
 pub record Matches {W L : Type 0} (settings : Settings) (polls : ℕ) (may_give : ℕ → Bool) (wiring : W → Wiring) (noted : L → Option (List Pair)) (visit : Visit W L) (pass : Held) : Type 0 where
   pub number : visit.number ≡ pass.number
   pub calls : visit.calls ≡ length pass.entries
-  pub served : WasServed settings polls may_give (wiring visit.wire) (noted visit.recorder) pass visit.end
+  pub served : WasServed settings polls may_give (wiring visit.transport) (noted visit.recorder) pass visit.end
 
 -- each visit is told of the pass at its place
 abbrev pub AreMatched : {W L : Type 0} → Settings → ℕ → (ℕ → Bool) → (W → Wiring) → (L → Option (List Pair)) → List (Visit W L) → List Held → Type 0

@@ -9,7 +9,7 @@ ghost use Rattle.board_server.specs.Visits.{WasServed, IsTaken};
 use crate::{Gate, Recorders, Served, serve_connection};
 use board::{Carried, Pass, Shared};
 use h1_traced::Recorder;
-use http_transport::{Clock, Door, Wire};
+use http_transport::{Acceptor, Clock, Transport};
 use http_types::ServiceConfig;
 use std::alloc::AllocGlobal;
 use std::marker::Model;
@@ -71,23 +71,23 @@ pub(crate) struct Serving<K> {
     pub(crate) clock: K,
 }
 
-impl<W: Wire, K: Clock, L: Recorder, M: Ledger> Promise<Served<W, L, M>> for Serving<K> {
-    ghost kept_by = { λ p s. WasServed p.config p.polls (K.may_give p.clock) (W.wiring s.wire) (L.noted s.recorder) s.pass.pass s.end };
+impl<W: Transport, K: Clock, L: Recorder, M: Ledger> Promise<Served<W, L, M>> for Serving<K> {
+    ghost kept_by = { λ p s. WasServed p.config p.polls (K.may_give p.clock) (W.wiring s.transport) (L.noted s.recorder) s.pass.pass s.end };
 }
 
 /// A connection that came, and its number.
 #[derive(Drop)]
 struct Newcomer<W, L> {
-    wire: W,
+    transport: W,
     recorder: L,
     conn: usize,
 }
 
-/// What came of the connections: the door and the recorders, what was served, the passes that are left, and whether the
-/// door failed.
+/// What came of the connections: the acceptor and the recorders, what was served, the passes that are left, and whether the
+/// acceptor failed.
 #[derive(Drop)]
-pub(crate) struct Taken<D: Door, Q: Recorders, M: Ledger> {
-    pub(crate) door: D,
+pub(crate) struct Taken<D: Acceptor, Q: Recorders, M: Ledger> {
+    pub(crate) acceptor: D,
     pub(crate) recorders: Q,
     pub(crate) served: Vec<Served<D::Conn, Q::Rec, M>>,
     pub(crate) spare: Vec<Fresh<M>>,
@@ -104,7 +104,7 @@ fn serve_new<W, K, G, L, M, R>(
     gate: &G,
 ) -> Served<W, L, M>
 where
-    W: Wire,
+    W: Transport,
     K: Clock,
     G: Gate,
     L: Recorder,
@@ -112,9 +112,9 @@ where
     R: Wait + RandomSource + AllocGlobal,
     requires some { 0 < serving.polls }
     requires is_new { pass.pass.entries ≡ [] }
-    requires fresh { IsFresh (W.wiring newcomer.wire) }
+    requires fresh { IsFresh (W.wiring newcomer.transport) }
     requires unnoted { (L.noted newcomer.recorder ≡ None) ⊎ (L.noted newcomer.recorder ≡ Some []) }
-    ensures { WasServed serving.config serving.polls (K.may_give serving.clock) (W.wiring result.wire) (L.noted result.recorder) result.pass.pass result.end }
+    ensures { WasServed serving.config serving.polls (K.may_give serving.clock) (W.wiring result.transport) (L.noted result.recorder) result.pass.pass result.end }
 {
     let Serving {
         config,
@@ -122,14 +122,14 @@ where
         clock,
     } = serving;
     let Newcomer {
-        wire,
+        transport,
         recorder,
         conn,
     } = newcomer;
     serve_connection(
         rt,
         config,
-        wire,
+        transport,
         clock,
         shared,
         pass.into_pass(),
@@ -144,7 +144,7 @@ where
 fn start<
     's,
     'e,
-    W: Wire + Send + 's,
+    W: Transport + Send + 's,
     K: Clock + Copy + Send + 's,
     G: Gate + Sync + 's,
     L: Recorder + Send + 's,
@@ -154,7 +154,7 @@ fn start<
     rt: &'s R,
     scope: &'s Scope<'s, &'e ()>,
     serving: Serving<K>,
-    wire: W,
+    transport: W,
     shared: &'s Shared<M>,
     pass: Fresh<M>,
     gate: &'s G,
@@ -163,13 +163,13 @@ fn start<
     may_start: bool,
 ) -> Result<PromisedHandle<Served<W, L, M>, Serving<K>>, Served<W, L, M>>
     requires some { 0 < serving.polls }
-    requires fresh { IsFresh (W.wiring wire) }
+    requires fresh { IsFresh (W.wiring transport) }
     requires unnoted { (L.noted recorder ≡ None) ⊎ (L.noted recorder ≡ Some []) }
     ensures promise { IfOk result (λ h. h.promise ≡ serving) }
-    ensures here { IfErr result (λ s. WasServed serving.config serving.polls (K.may_give serving.clock) (W.wiring s.wire) (L.noted s.recorder) s.pass.pass s.end) }
+    ensures here { IfErr result (λ s. WasServed serving.config serving.polls (K.may_give serving.clock) (W.wiring s.transport) (L.noted s.recorder) s.pass.pass s.end) }
 {
     let newcomer = Newcomer {
-        wire,
+        transport,
         recorder,
         conn,
     };
@@ -178,8 +178,8 @@ fn start<
         return Err(serve_new(rt, serving, newcomer, shared, pass, gate));
     }
     let job = move || -> Served<W, L, M>
-        requires { (0 < serving.polls) × (pass.pass.entries ≡ []) × IsFresh (W.wiring newcomer.wire) × ((L.noted newcomer.recorder ≡ None) ⊎ (L.noted newcomer.recorder ≡ Some [])) }
-        ensures { WasServed serving.config serving.polls (K.may_give serving.clock) (W.wiring result.wire) (L.noted result.recorder) result.pass.pass result.end }
+        requires { (0 < serving.polls) × (pass.pass.entries ≡ []) × IsFresh (W.wiring newcomer.transport) × ((L.noted newcomer.recorder ≡ None) ⊎ (L.noted newcomer.recorder ≡ Some [])) }
+        ensures { WasServed serving.config serving.polls (K.may_give serving.clock) (W.wiring result.transport) (L.noted result.recorder) result.pass.pass result.end }
     { serve_new(rt, serving, newcomer, shared, pass, gate) };
     match scope.spawn_with(serving, job) {
         Ok(handle) => Ok(handle),
@@ -232,13 +232,13 @@ fn join_all<T: Drop, P: Promise<T>, R: Threads>(
     served
 }
 
-/// Accepts until the door gives no more, fails, or no pass is left, and joins the threads, of which there are so many at most.
-/// Without memory for their handles the door and the recorders come back.
+/// Accepts until the acceptor gives no more, fails, or no pass is left, and joins the threads, of which there are so many at most.
+/// Without memory for their handles the acceptor and the recorders come back.
 fn accept_all<
     's,
     'e,
-    D: Door<Conn = W>,
-    W: Wire + Send + 's,
+    D: Acceptor<Conn = W>,
+    W: Transport + Send + 's,
     K: Clock + Copy + Send + 's,
     G: Gate + Sync + 's,
     Q: Recorders<Rec = L>,
@@ -253,33 +253,33 @@ fn accept_all<
     shared: &'s Shared<M>,
     gate: &'s G,
     passes: Vec<Fresh<M>>,
-    door: D,
+    acceptor: D,
     recorders: Q,
 ) -> Result<Taken<D, Q, M>, (D, Q)>
     requires some { 0 < serving.polls }
-    ensures served { IfOk result (λ t. AllByRecursion (λ s. WasServed serving.config serving.polls (K.may_give serving.clock) (W.wiring s.wire) (L.noted s.recorder) s.pass.pass s.end) t.served.items) }
-    ensures taken { IfOk result (λ t. IsTaken (D.opening door) (D.opening t.door) (vec_len t.served) (vec_len t.spare) t.has_failed) }
+    ensures served { IfOk result (λ t. AllByRecursion (λ s. WasServed serving.config serving.polls (K.may_give serving.clock) (W.wiring s.transport) (L.noted s.recorder) s.pass.pass s.end) t.served.items) }
+    ensures taken { IfOk result (λ t. IsTaken (D.opening acceptor) (D.opening t.acceptor) (vec_len t.served) (vec_len t.spare) t.has_failed) }
     ensures count { IfOk result (λ t. vec_len t.served + vec_len t.spare ≡ vec_len passes) }
-    ensures back { IfErr result (λ r. D.opening r.0 ≡ D.opening door) }
+    ensures back { IfErr result (λ r. D.opening r.0 ≡ D.opening acceptor) }
 {
     let mut passes = passes;
-    let mut door = door;
+    let mut acceptor = acceptor;
     let mut recorders = recorders;
     let mut has_failed = false;
     let alloc = *passes.allocator();
     let mut handles: Vec<PromisedHandle<Served<W, L, M>, Serving<K>>> = Vec::new(alloc);
     let mut served: Vec<Served<W, L, M>> = Vec::new(alloc);
     if handles.reserve(passes.len()).is_err() || served.reserve(passes.len()).is_err() {
-        return Err((door, recorders));
+        return Err((acceptor, recorders));
     }
     let mut conn: usize = 0;
     while let Some(pass) = passes.pop() {
-        match door.accept() {
-            Ok(Some(wire)) => {
+        match acceptor.accept() {
+            Ok(Some(transport)) => {
                 let recorder = recorders.make();
                 let may_start = handles.len() < threads;
                 let started = start(
-                    rt, scope, serving, wire, shared, pass, gate, conn, recorder, may_start,
+                    rt, scope, serving, transport, shared, pass, gate, conn, recorder, may_start,
                 );
                 keep(&serving, started, &mut handles, &mut served);
                 conn += 1;
@@ -296,7 +296,7 @@ fn accept_all<
         }
     }
     Ok(Taken {
-        door,
+        acceptor,
         recorders,
         served: join_all(rt, &serving, handles, served),
         spare: passes,
@@ -306,8 +306,8 @@ fn accept_all<
 
 /// Serves each connection on a thread of its own, of which there are so many at most, or here, and waits for all.
 pub(crate) fn serve_all<
-    D: Door<Conn = W>,
-    W: Wire + Send,
+    D: Acceptor<Conn = W>,
+    W: Transport + Send,
     K: Clock + Copy + Send,
     G: Gate + Sync,
     Q: Recorders<Rec = L>,
@@ -321,27 +321,27 @@ pub(crate) fn serve_all<
     shared: &Shared<M>,
     gate: &G,
     passes: Vec<Fresh<M>>,
-    door: D,
+    acceptor: D,
     recorders: Q,
 ) -> Result<Taken<D, Q, M>, (D, Q)>
     requires some { 0 < serving.polls }
-    ensures served { IfOk result (λ t. AllByRecursion (λ s. WasServed serving.config serving.polls (K.may_give serving.clock) (W.wiring s.wire) (L.noted s.recorder) s.pass.pass s.end) t.served.items) }
-    ensures taken { IfOk result (λ t. IsTaken (D.opening door) (D.opening t.door) (vec_len t.served) (vec_len t.spare) t.has_failed) }
+    ensures served { IfOk result (λ t. AllByRecursion (λ s. WasServed serving.config serving.polls (K.may_give serving.clock) (W.wiring s.transport) (L.noted s.recorder) s.pass.pass s.end) t.served.items) }
+    ensures taken { IfOk result (λ t. IsTaken (D.opening acceptor) (D.opening t.acceptor) (vec_len t.served) (vec_len t.spare) t.has_failed) }
     ensures count { IfOk result (λ t. vec_len t.served + vec_len t.spare ≡ vec_len passes) }
-    ensures back { IfErr result (λ r. D.opening r.0 ≡ D.opening door) }
+    ensures back { IfErr result (λ r. D.opening r.0 ≡ D.opening acceptor) }
 {
     thread::scope(
         thread::scope_env(),
         rt,
         move |scope| -> Result<Taken<D, Q, M>, (D, Q)>
             requires { (0 < serving.polls) × IsSync R.row × IsSend W.row × IsSend L.row × IsSend K.row × IsSync G.row × IsSend M.row × IsSync M.row }
-            ensures served { IfOk result (λ t. AllByRecursion (λ s. WasServed serving.config serving.polls (K.may_give serving.clock) (W.wiring s.wire) (L.noted s.recorder) s.pass.pass s.end) t.served.items) }
-            ensures taken { IfOk result (λ t. IsTaken (D.opening door) (D.opening t.door) (vec_len t.served) (vec_len t.spare) t.has_failed) }
+            ensures served { IfOk result (λ t. AllByRecursion (λ s. WasServed serving.config serving.polls (K.may_give serving.clock) (W.wiring s.transport) (L.noted s.recorder) s.pass.pass s.end) t.served.items) }
+            ensures taken { IfOk result (λ t. IsTaken (D.opening acceptor) (D.opening t.acceptor) (vec_len t.served) (vec_len t.spare) t.has_failed) }
             ensures count { IfOk result (λ t. vec_len t.served + vec_len t.spare ≡ vec_len passes) }
-            ensures back { IfErr result (λ r. D.opening r.0 ≡ D.opening door) }
+            ensures back { IfErr result (λ r. D.opening r.0 ≡ D.opening acceptor) }
         {
             accept_all(
-                rt, scope, threads, serving, shared, gate, passes, door, recorders,
+                rt, scope, threads, serving, shared, gate, passes, acceptor, recorders,
             )
         },
     )

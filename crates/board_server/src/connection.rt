@@ -2,7 +2,7 @@
 ghost use Rattle.std.specs.Prelude.{◌≡◌, ◌<◌, ◌⊎◌, ℕ, None, Some, [], nat_lt};
 ghost use Rattle.http_bodies.specs.Values.{holds};
 ghost use Rattle.http_services.specs.Serving.{unknown_call};
-ghost use Rattle.h1_traced.specs.Line.{LineStands};
+ghost use Rattle.h1_traced.specs.Traced.{TracedStands};
 ghost use Rattle.h1_dispatcher.specs.View.{view_of, MayBePolled};
 ghost use Rattle.board_server.specs.Serves.{begun_view, HasServed, Ends, PollsAt, end_of};
 ghost use Rattle.board_server.specs.Told.{IsTold};
@@ -13,7 +13,7 @@ use board::{BoardService, Carried, Gate, Pass, Shared};
 use futures::task::{Doorbell, Poll, Solo};
 use h1_dispatcher::Dispatcher;
 use h1_traced::Recorder;
-use http_transport::{Clock, Wire};
+use http_transport::{Clock, Transport};
 use http_types::{DispatchError, ServiceConfig};
 use std::alloc::AllocGlobal;
 use std::random::RandomSource;
@@ -26,8 +26,8 @@ pub struct Served<W, L, M: Ledger> {
     /// The pass, which has the entries of its calls.
     pub pass: Carried<M>,
 
-    /// The wire.
-    pub wire: W,
+    /// The transport.
+    pub transport: W,
 
     /// Who noted the steps.
     pub recorder: L,
@@ -49,7 +49,7 @@ pub struct Served<W, L, M: Ledger> {
 pub fn serve_connection<W, K, G, L, M, R>(
     rt: &R,
     config: ServiceConfig,
-    wire: W,
+    transport: W,
     clock: K,
     shared: &Shared<M>,
     pass: Pass<M>,
@@ -59,7 +59,7 @@ pub fn serve_connection<W, K, G, L, M, R>(
     recorder: L,
 ) -> Served<W, L, M>
 where
-    W: Wire,
+    W: Transport,
     K: Clock,
     G: Gate,
     L: Recorder,
@@ -67,11 +67,11 @@ where
     R: Wait + RandomSource + AllocGlobal,
     requires is_new { pass.entries ≡ [] }
     requires some { 0 < polls }
-    ensures served { HasServed (begun_view (W.wiring wire) pass.number config (L.noted recorder)) polls (K.may_give clock) (W.wiring result.wire) (L.noted result.recorder) result.pass.pass result.end }
-    ensures told { (L.noted recorder ≡ None) ⊎ (L.noted recorder ≡ Some []) → IsTold config (W.wiring wire) (W.wiring result.wire) (L.noted result.recorder) result.pass.pass result.end }
+    ensures served { HasServed (begun_view (W.wiring transport) pass.number config (L.noted recorder)) polls (K.may_give clock) (W.wiring result.transport) (L.noted result.recorder) result.pass.pass result.end }
+    ensures told { (L.noted recorder ≡ None) ⊎ (L.noted recorder ≡ Some []) → IsTold config (W.wiring transport) (W.wiring result.transport) (L.noted result.recorder) result.pass.pass result.end }
 {
     poll_service(
-        rt, config, wire, clock, shared, pass, gate, conn, polls, recorder,
+        rt, config, transport, clock, shared, pass, gate, conn, polls, recorder,
     )
 }
 
@@ -79,7 +79,7 @@ where
 fn poll_service<W, K, G, L, M, R>(
     rt: &R,
     config: ServiceConfig,
-    wire: W,
+    transport: W,
     clock: K,
     shared: &Shared<M>,
     pass: Pass<M>,
@@ -89,7 +89,7 @@ fn poll_service<W, K, G, L, M, R>(
     recorder: L,
 ) -> Served<W, L, M>
 where
-    W: Wire,
+    W: Transport,
     K: Clock,
     G: Gate,
     L: Recorder,
@@ -97,17 +97,17 @@ where
     R: Wait + RandomSource + AllocGlobal,
     requires is_new { pass.entries ≡ [] }
     requires some { 0 < polls }
-    ensures served { HasServed (begun_view (W.wiring wire) pass.number config (L.noted recorder)) polls (K.may_give clock) (W.wiring result.wire) (L.noted result.recorder) result.pass.pass result.end }
-    ensures stands { (L.noted recorder ≡ None) ⊎ (L.noted recorder ≡ Some []) → LineStands (begun_view (W.wiring wire) pass.number config (L.noted recorder)).line [] }
+    ensures served { HasServed (begun_view (W.wiring transport) pass.number config (L.noted recorder)) polls (K.may_give clock) (W.wiring result.transport) (L.noted result.recorder) result.pass.pass result.end }
+    ensures stands { (L.noted recorder ≡ None) ⊎ (L.noted recorder ≡ Some []) → TracedStands (begun_view (W.wiring transport) pass.number config (L.noted recorder)).traced [] }
 {
     let alloc = rt.alloc();
     let service = BoardService::new(rt, alloc, shared, gate, conn, pass);
-    let mut dispatcher = Dispatcher::new(alloc, wire, service, config, recorder);
+    let mut dispatcher = Dispatcher::new(alloc, transport, service, config, recorder);
     let end = poll_as_task(rt, &mut dispatcher, clock, polls);
-    let (wire, service, recorder) = dispatcher.into_parts();
+    let (transport, service, recorder) = dispatcher.into_parts();
     Served {
         pass: service.into_pass(),
-        wire,
+        transport,
         recorder,
         end,
     }
@@ -121,7 +121,7 @@ fn poll_as_task<W, K, G, L, M, R>(
     polls: u64,
 ) -> Result<(), ServeError>
 where
-    W: Wire,
+    W: Transport,
     K: Clock,
     G: Gate,
     L: Recorder,
@@ -145,7 +145,7 @@ fn poll_to_end<W, K, G, L, M, R>(
     polls: u64,
 ) -> Result<(), ServeError>
 where
-    W: Wire,
+    W: Transport,
     K: Clock,
     G: Gate,
     L: Recorder,
@@ -186,7 +186,7 @@ fn poll_once<W, K, G, L, M, R>(
     clock: &mut K,
 ) -> Poll<Result<(), DispatchError>>
 where
-    W: Wire,
+    W: Transport,
     K: Clock,
     G: Gate,
     L: Recorder,
@@ -206,7 +206,7 @@ where
 /// Whether a call wasn't answered, as memory ran out.
 fn is_stuck<W, G, L, M, R>(dispatcher: &Dispatcher<W, BoardService<'_, R, G, M>, (), L>) -> bool
 where
-    W: Wire,
+    W: Transport,
     G: Gate,
     L: Recorder,
     M: Ledger,

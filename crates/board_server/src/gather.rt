@@ -10,20 +10,20 @@ use crate::accept::{Fresh, Serving};
 use crate::visit::Visit;
 use board::Pass;
 use h1_traced::Recorder;
-use http_transport::{Clock, Wire};
+use http_transport::{Clock, Transport};
 use std::sync::ledger::Ledger;
 
 /// What is told of a connection that was served, and its pass.
-fn visit_of<W: Wire, K: Clock, L: Recorder, M: Ledger>(
+fn visit_of<W: Transport, K: Clock, L: Recorder, M: Ledger>(
     serving: &Serving<K>,
     one: Served<W, L, M>,
 ) -> (Visit<W, L>, Pass<M>)
-    requires { WasServed serving.now.config serving.now.polls (K.may_give serving.now.clock) (W.wiring one.wire) (L.noted one.recorder) one.pass.pass one.end }
+    requires { WasServed serving.now.config serving.now.polls (K.may_give serving.now.clock) (W.wiring one.transport) (L.noted one.recorder) one.pass.pass one.end }
     ensures { Matches serving.now.config serving.now.polls (K.may_give serving.now.clock) W.wiring L.noted result.0 result.1 }
 {
     let Served {
         pass,
-        wire,
+        transport,
         recorder,
         end,
     } = one;
@@ -31,7 +31,7 @@ fn visit_of<W: Wire, K: Clock, L: Recorder, M: Ledger>(
     let visit = Visit {
         number: pass.number(),
         calls: pass.entries().len() as u64,
-        wire,
+        transport,
         recorder,
         end,
     };
@@ -39,13 +39,13 @@ fn visit_of<W: Wire, K: Clock, L: Recorder, M: Ledger>(
 }
 
 /// A visit for each connection that was served, and its pass beside it.
-pub(crate) fn visits_of<W: Wire, K: Clock, L: Recorder, M: Ledger>(
+pub(crate) fn visits_of<W: Transport, K: Clock, L: Recorder, M: Ledger>(
     serving: &Serving<K>,
     served: Vec<Served<W, L, M>>,
     visits: Vec<Visit<W, L>>,
     back: Vec<Pass<M>>,
 ) -> (Vec<Visit<W, L>>, Vec<Pass<M>>)
-    requires served { AllByRecursion (λ s. WasServed serving.now.config serving.now.polls (K.may_give serving.now.clock) (W.wiring s.wire) (L.noted s.recorder) s.pass.pass s.end) served.items }
+    requires served { AllByRecursion (λ s. WasServed serving.now.config serving.now.polls (K.may_give serving.now.clock) (W.wiring s.transport) (L.noted s.recorder) s.pass.pass s.end) served.items }
     requires matched { AreMatched serving.now.config serving.now.polls (K.may_give serving.now.clock) W.wiring L.noted visits.items back.items }
     requires room_for_visits { vec_len served + vec_len visits ≤ vec_capacity visits }
     requires room_for_passes { vec_len served + vec_len back ≤ vec_capacity back }

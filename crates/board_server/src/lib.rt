@@ -1,12 +1,12 @@
-//! A connection over a board of counters that others share: a dispatcher drives it over any wire, and each request is
+//! A connection over a board of counters that others share: a dispatcher drives it over any transport, and each request is
 //! answered by one call of the board at most.
 //!
 //! # Example
 //!
 //! ```ignore
-//! let served = serve_connection(&rt, config, wire, clock, &shared, pass, &OpenGate, 0, 1_000_000, NoRecord);
+//! let served = serve_connection(&rt, config, transport, clock, &shared, pass, &OpenGate, 0, 1_000_000, NoRecord);
 //! match served.end {
-//!     Ok(()) => {}                            // it ended in good order, and the wire is shut down
+//!     Ok(()) => {}                            // it ended in good order, and the transport is shut down
 //!     Err(ServeError::Dispatch(error)) => {}  // why it broke off
 //!     Err(ServeError::Budget) => {}           // it was pending as often as it was polled
 //!     Err(ServeError::NoMemory) => {}
@@ -25,10 +25,10 @@
 //! # Example
 //!
 //! ```ignore
-//! let ran = serve(&rt, config, door, clock, &OpenGate, NoRecords, 100, 1_000_000, blank);
+//! let ran = serve(&rt, config, acceptor, clock, &OpenGate, NoRecords, 100, 1_000_000, blank);
 //! match ran.end {
 //!     Ok(report) => {}                      // the board, and what came of each connection
-//!     Err(ServeFault::Door(report)) => {}   // the same, as the door failed
+//!     Err(ServeFault::Acceptor(report)) => {}   // the same, as the acceptor failed
 //!     Err(ServeFault::Unlike(_)) => {}      // the journal isn't that of the passes
 //!     Err(ServeFault::NoMemory) => {}
 //! }
@@ -36,7 +36,7 @@
 //!
 //! # Contract
 //!
-//! A report has one visit for each connection that the door gave. Each was served as `board_server` says, and the board's
+//! A report has one visit for each connection that the acceptor gave. Each was served as `board_server` says, and the board's
 //! journal has just the calls of the visits, those of each visit in its order, each with the reply that the calls before it
 //! give.
 #![tactic(auto)]
@@ -52,9 +52,9 @@ pub use http_transport::Clock;
 pub use recorders::{NoRecords, Recorders};
 
 mod accept;
-mod gated_door;
+mod gated_acceptor;
 mod gather;
-mod mem_door;
+mod mem_acceptor;
 mod report;
 mod run;
 mod server;
@@ -63,10 +63,10 @@ mod visit;
 mod words;
 mod write;
 
-pub use gated_door::GatedDoor;
-pub use http_transport::Door;
-pub use mem_door::{MemDoor, MemPeer};
-pub use net_sockets::{Gated, Linger, TcpDoor, TcpWire};
+pub use gated_acceptor::GatedAcceptor;
+pub use http_transport::Acceptor;
+pub use mem_acceptor::{MemAcceptor, MemPeer};
+pub use net_sockets::{Gated, Linger, TcpAcceptor, TcpTransport};
 pub use report::print_report;
 pub use run::{Run, serve_run};
 pub use server::{serve, serve_by};

@@ -13,7 +13,7 @@ use crate::write::say;
 use crate::{Gate, Recorders};
 use h1_traced::Recorder;
 use http_config::Sink;
-use http_transport::{Clock, Door, Wire};
+use http_transport::{Acceptor, Clock, Transport};
 use http_types::ServiceConfig;
 use std::alloc::{AllocGlobal, Global};
 use std::random::RandomSource;
@@ -21,28 +21,28 @@ use std::sync::Wait;
 use std::sync::ledger::{Blank, Ledger};
 use std::thread::Threads;
 
-/// What came of a run: the status of the program, the door, and what `serve` answered, where it was called.
+/// What came of a run: the status of the program, the acceptor, and what `serve` answered, where it was called.
 #[derive(Drop)]
-pub struct Run<D: Door, Q: Recorders, M: Ledger> {
+pub struct Run<D: Acceptor, Q: Recorders, M: Ledger> {
     /// The status of the program.
     pub status: u8,
 
-    /// The door.
-    pub door: D,
+    /// The acceptor.
+    pub acceptor: D,
 
     /// What `serve` answered.
     pub end: Option<Result<Report<D::Conn, Q::Rec, M>, ServeFault<D::Conn, Q::Rec, M>>>,
 }
 
-/// Reads the words `PORT N POLLS`, opens the door, serves with the settings that are the default, and writes the report.
+/// Reads the words `PORT N POLLS`, opens the acceptor, serves with the settings that are the default, and writes the report.
 /// With port 0 the system chooses one. `N` is at most 65536, and `POLLS` above 0.
 ///
-/// The status is 0; 1 where the words are others, 2 where the door failed, 3 where the journal isn't that of the passes, 5
+/// The status is 0; 1 where the words are others, 2 where the acceptor failed, 3 where the journal isn't that of the passes, 5
 /// where the sink failed, 7 where there was no memory. With each but 5 its text was written whole.
 pub fn serve_run<D, K, G, Q, M, R, W, L, O>(
     rt: &R,
     words: &[String],
-    door: D,
+    acceptor: D,
     clock: K,
     gate: &G,
     recorders: Q,
@@ -50,8 +50,8 @@ pub fn serve_run<D, K, G, Q, M, R, W, L, O>(
     blank: Blank,
 ) -> Run<D, Q, M>
 where
-    D: Door<Conn = W>,
-    W: Wire + Send,
+    D: Acceptor<Conn = W>,
+    W: Transport + Send,
     K: Clock + Copy + Send,
     G: Gate + Sync,
     Q: Recorders<Rec = L>,
@@ -61,28 +61,28 @@ where
     O: Sink,
     requires is_its_ledger { (blank.name ≡ M.name) × (blank.parts ≡ M.parts) }
     requires has_a_part_for_each_pass { M.parts ≡ 65536 }
-    ensures end { SaysEnd (map (λ w. string_bytes w) words.now) (K.may_give clock) W.wiring L.noted (D.opening door) (D.opening result.door) result.end }
-    ensures status { SaysAnswer (map (λ w. string_bytes w) words.now) result.end (D.opening door) (D.opening result.door) result.status (O.given output.old) (O.given output.new) (O.faults output.old) (O.faults output.new) }
+    ensures end { SaysEnd (map (λ w. string_bytes w) words.now) (K.may_give clock) W.wiring L.noted (D.opening acceptor) (D.opening result.acceptor) result.end }
+    ensures status { SaysAnswer (map (λ w. string_bytes w) words.now) result.end (D.opening acceptor) (D.opening result.acceptor) result.status (O.given output.old) (O.given output.new) (O.faults output.old) (O.faults output.new) }
 {
     let Some(words) = read_words(words) else {
         return Run {
             status: say(output, b"usage: app_counters PORT N POLLS\n", 1),
-            door,
+            acceptor,
             end: None,
         };
     };
-    let mut door = door;
-    if door.open(words.port).is_err() {
+    let mut acceptor = acceptor;
+    if acceptor.open(words.port).is_err() {
         return Run {
-            status: say(output, b"door fault\n", 2),
-            door,
+            status: say(output, b"acceptor fault\n", 2),
+            acceptor,
             end: None,
         };
     }
     let ran = serve(
         rt,
         ServiceConfig::default(),
-        door,
+        acceptor,
         clock,
         gate,
         recorders,
@@ -93,7 +93,7 @@ where
     let status = tell(rt.alloc(), &ran.end, output);
     Run {
         status,
-        door: ran.door,
+        acceptor: ran.acceptor,
         end: Some(ran.end),
     }
 }
@@ -108,7 +108,7 @@ fn tell<W, L, M: Ledger, O: Sink>(
 {
     match end {
         Ok(report) => print_report(alloc, report, output),
-        Err(ServeFault::Door(_)) => say(output, b"door fault\n", 2),
+        Err(ServeFault::Acceptor(_)) => say(output, b"acceptor fault\n", 2),
         Err(ServeFault::Unlike(differing)) => tell_unlike(alloc, differing.unlike.number, output),
         Err(ServeFault::NoMemory) => say(output, b"no memory\n", 7),
     }

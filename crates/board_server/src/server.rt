@@ -1,4 +1,4 @@
-//! All connections that a door gives.
+//! All connections that an acceptor gives.
 ghost use Rattle.std.specs.Prelude.{◌≡◌, ◌≤◌, ◌<◌, ◌+◌, [], vec_len, IfOk};
 ghost use Rattle.std.specs.List.{AllByRecursion};
 ghost use Rattle.std.specs.Vec.{vec_capacity};
@@ -12,7 +12,7 @@ use crate::visit::{Differing, Ran, Report, ServeFault, Visit};
 use crate::{Gate, Recorders};
 use board::{Board, Pass, Shared};
 use h1_traced::Recorder;
-use http_transport::{Clock, Door, Wire};
+use http_transport::{Acceptor, Clock, Transport};
 use http_types::ServiceConfig;
 use std::alloc::{AllocError, AllocGlobal, Global};
 use std::random::RandomSource;
@@ -20,16 +20,16 @@ use std::sync::Wait;
 use std::sync::ledger::{Blank, Ledger};
 use std::thread::Threads;
 
-/// Serves the connections that the door gives, each on a thread of its own, over one new board: `most` of them, or fewer
-/// where the door gives no more. Where no thread can be made, a connection is served here. It returns once all are served.
+/// Serves the connections that the acceptor gives, each on a thread of its own, over one new board: `most` of them, or fewer
+/// where the acceptor gives no more. Where no thread can be made, a connection is served here. It returns once all are served.
 ///
 /// # Errors
 ///
-/// In `end`: `Door` where the door failed; `Unlike` where the journal isn't that of the passes; `NoMemory`.
+/// In `end`: `Acceptor` where the acceptor failed; `Unlike` where the journal isn't that of the passes; `NoMemory`.
 pub fn serve<D, K, G, Q, M, R, W, L>(
     rt: &R,
     config: ServiceConfig,
-    door: D,
+    acceptor: D,
     clock: K,
     gate: &G,
     recorders: Q,
@@ -38,8 +38,8 @@ pub fn serve<D, K, G, Q, M, R, W, L>(
     blank: Blank,
 ) -> Ran<D, Q, M>
 where
-    D: Door<Conn = W>,
-    W: Wire + Send,
+    D: Acceptor<Conn = W>,
+    W: Transport + Send,
     K: Clock + Copy + Send,
     G: Gate + Sync,
     Q: Recorders<Rec = L>,
@@ -50,13 +50,13 @@ where
     requires has_a_part_for_each_pass { M.parts ≡ 65536 }
     requires passes { most ≤ 65536 }
     requires some { 0 < polls }
-    ensures { SaysRan config polls (K.may_give clock) W.wiring L.noted most (D.opening door) (D.opening result.door) result.end }
+    ensures { SaysRan config polls (K.may_give clock) W.wiring L.noted most (D.opening acceptor) (D.opening result.acceptor) result.end }
 {
     serve_by(
         rt,
         usize::MAX,
         config,
-        door,
+        acceptor,
         clock,
         gate,
         recorders,
@@ -71,12 +71,12 @@ where
 ///
 /// # Errors
 ///
-/// In `end`: `Door` where the door failed; `Unlike` where the journal isn't that of the passes; `NoMemory`.
+/// In `end`: `Acceptor` where the acceptor failed; `Unlike` where the journal isn't that of the passes; `NoMemory`.
 pub fn serve_by<D, K, G, Q, M, R, W, L>(
     rt: &R,
     threads: usize,
     config: ServiceConfig,
-    door: D,
+    acceptor: D,
     clock: K,
     gate: &G,
     recorders: Q,
@@ -85,8 +85,8 @@ pub fn serve_by<D, K, G, Q, M, R, W, L>(
     blank: Blank,
 ) -> Ran<D, Q, M>
 where
-    D: Door<Conn = W>,
-    W: Wire + Send,
+    D: Acceptor<Conn = W>,
+    W: Transport + Send,
     K: Clock + Copy + Send,
     G: Gate + Sync,
     Q: Recorders<Rec = L>,
@@ -97,7 +97,7 @@ where
     requires has_a_part_for_each_pass { M.parts ≡ 65536 }
     requires passes { most ≤ 65536 }
     requires some { 0 < polls }
-    ensures { SaysRan config polls (K.may_give clock) W.wiring L.noted most (D.opening door) (D.opening result.door) result.end }
+    ensures { SaysRan config polls (K.may_give clock) W.wiring L.noted most (D.opening acceptor) (D.opening result.acceptor) result.end }
 {
     let alloc = rt.alloc();
     let serving = Serving {
@@ -107,7 +107,7 @@ where
     };
     let Ok((board, passes)) = board_for(alloc, most, blank) else {
         return Ran {
-            door,
+            acceptor,
             recorders,
             end: Err(ServeFault::NoMemory),
         };
@@ -117,18 +117,20 @@ where
     if visits.reserve(most).is_err() || back.reserve(most).is_err() {
         back.destroy_empty();
         return Ran {
-            door,
+            acceptor,
             recorders,
             end: Err(ServeFault::NoMemory),
         };
     }
     let shared = Shared::from_board(board);
-    match serve_all(rt, threads, serving, &shared, gate, passes, door, recorders) {
+    match serve_all(
+        rt, threads, serving, &shared, gate, passes, acceptor, recorders,
+    ) {
         Ok(taken) => finish(rt, serving, shared, taken, visits, back),
-        Err((door, recorders)) => {
+        Err((acceptor, recorders)) => {
             back.destroy_empty();
             Ran {
-                door,
+                acceptor,
                 recorders,
                 end: Err(ServeFault::NoMemory),
             }
@@ -171,14 +173,14 @@ fn finish<D, K, Q, W, L, M, R>(
     back: Vec<Pass<M>>,
 ) -> Ran<D, Q, M>
 where
-    D: Door<Conn = W>,
+    D: Acceptor<Conn = W>,
     K: Clock + Copy,
     Q: Recorders<Rec = L>,
-    W: Wire + Send,
+    W: Transport + Send,
     L: Recorder + Send,
     M: Ledger,
     R: Wait,
-    requires served { AllByRecursion (λ s. WasServed serving.config serving.polls (K.may_give serving.clock) (W.wiring s.wire) (L.noted s.recorder) s.pass.pass s.end) taken.served.items }
+    requires served { AllByRecursion (λ s. WasServed serving.config serving.polls (K.may_give serving.clock) (W.wiring s.transport) (L.noted s.recorder) s.pass.pass s.end) taken.served.items }
     requires are_all { vec_len taken.served + vec_len taken.spare ≡ shared.made }
     requires none_retired { shared.retired ≡ 0 }
     requires no_visits { vec_len visits ≡ 0 }
@@ -186,10 +188,10 @@ where
     requires no_passes { back.items ≡ [] }
     requires room_for_visits { shared.made ≤ vec_capacity visits }
     requires room_for_passes { shared.made ≤ vec_capacity back }
-    ensures { (was : Opening) → IsTaken was (D.opening taken.door) (vec_len taken.served) (vec_len taken.spare) taken.has_failed → SaysRan serving.config serving.polls (K.may_give serving.clock) W.wiring L.noted shared.made was (D.opening result.door) result.end }
+    ensures { (was : Opening) → IsTaken was (D.opening taken.acceptor) (vec_len taken.served) (vec_len taken.spare) taken.has_failed → SaysRan serving.config serving.polls (K.may_give serving.clock) W.wiring L.noted shared.made was (D.opening result.acceptor) result.end }
 {
     let Taken {
-        door,
+        acceptor,
         recorders,
         served,
         spare,
@@ -199,7 +201,7 @@ where
     let back = add_spare(spare, back);
     match shared.close(rt, back) {
         Err(unlike) => Ran {
-            door,
+            acceptor,
             recorders,
             end: Err(ServeFault::Unlike(Differing { unlike })),
         },
@@ -207,13 +209,13 @@ where
             let report = Report { board, visits };
             if has_failed {
                 return Ran {
-                    door,
+                    acceptor,
                     recorders,
-                    end: Err(ServeFault::Door(report)),
+                    end: Err(ServeFault::Acceptor(report)),
                 };
             }
             Ran {
-                door,
+                acceptor,
                 recorders,
                 end: Ok(report),
             }

@@ -1,7 +1,7 @@
-//! What came of the connections of a door.
+//! What came of the connections of an acceptor.
 use crate::{Recorders, ServeError};
 use board::{Board, Carried, Unlike};
-use http_transport::Door;
+use http_transport::Acceptor;
 use std::sync::ledger::Ledger;
 
 /// A connection that was served.
@@ -13,8 +13,8 @@ pub struct Visit<W, L> {
     /// How many calls of the board were made for it.
     pub calls: u64,
 
-    /// Its wire.
-    pub wire: W,
+    /// Its transport.
+    pub transport: W,
 
     /// Who noted its steps.
     pub recorder: L,
@@ -59,8 +59,8 @@ impl<M: Ledger> Drop for Differing<M> {
 /// Why there is no report, or a shorter one.
 #[derive(Drop)]
 pub enum ServeFault<W, L, M: Ledger> {
-    /// The door failed. The connections before were served, and are reported.
-    Door(Report<W, L, M>),
+    /// The acceptor failed. The connections before were served, and are reported.
+    Acceptor(Report<W, L, M>),
 
     /// The journal isn't that of the passes.
     Unlike(Differing<M>),
@@ -69,11 +69,11 @@ pub enum ServeFault<W, L, M: Ledger> {
     NoMemory,
 }
 
-/// What came of all: the door, the recorders, and the report.
+/// What came of all: the acceptor, the recorders, and the report.
 #[derive(Drop)]
-pub struct Ran<D: Door, Q: Recorders, M: Ledger> {
-    /// The door.
-    pub door: D,
+pub struct Ran<D: Acceptor, Q: Recorders, M: Ledger> {
+    /// The acceptor.
+    pub acceptor: D,
 
     /// The recorders.
     pub recorders: Q,

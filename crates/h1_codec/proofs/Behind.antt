@@ -11,9 +11,9 @@ use Rattle.http_transport.specs.Wiring.{Wiring}
 use Rattle.h1_encoder.specs.declared.framed_message.Message.{Message}
 use Rattle.h1_encoder.specs.View.{View}
 use Rattle.h1_encoder.specs.Sends.{Later, Sends}
-use Rattle.h1_encoder.specs.Turns.{MAX_TURNS, moved, WireWaits, IsGiven, BodyWaits, WaitsFor, GivenFew, SendsFew, Rests, FailSays, TurnSays, SendSays, WaitSays, SpentSays}
+use Rattle.h1_encoder.specs.Turns.{MAX_TURNS, moved, TransportWaits, IsGiven, BodyWaits, WaitsFor, GivenFew, SendsFew, Rests, FailSays, TurnSays, SendSays, WaitSays, SpentSays}
 use Rattle.h1_encoder.specs.declared.send_error.SendError.{SendError}
-use Rattle.h1_encoder.specs.declared.send_error.SendError.TheVariants.{Body, NoMemory, Wire, Codec}
+use Rattle.h1_encoder.specs.declared.send_error.SendError.TheVariants.{Body, NoMemory, Transport, Codec}
 use Rattle.h1_encoder.specs.declared.turn.Turn.{Turn}
 use Rattle.h1_encoder.specs.declared.turn.Turn.TheVariants.{Goes, Waits, Over}
 use Rattle.h1_encoder.proofs.Whole.{sends_on, fault-trans}
@@ -23,17 +23,17 @@ on_ok (Ok x) f p = f p
 on_ok (Err e) f p = tt
 
 module _ {U H : Type 0} (u v w : View U H) where
-  wire_behind : (woken : Bool) (more all : List ℕ) → length more ≤ length all → Later u v → WireWaits v.wire w.wire more woken
-      → WireWaits u.wire w.wire all woken
-  wire_behind woken more all less later (inl (inl rose)) =
-      inl (inl (rose_since u.wire.write_waits v.wire.write_waits w.wire.write_waits later.write_waits rose))
-  wire_behind woken more all less later (inl (inr rose)) =
-      inl (inr (rose_since u.wire.flush_waits v.wire.flush_waits w.wire.flush_waits later.flush_waits rose))
-  wire_behind woken more all less later (inr (some, is)) = inr (omega (arith, less, some), is)
+  transport_behind : (woken : Bool) (more all : List ℕ) → length more ≤ length all → Later u v → TransportWaits v.transport w.transport more woken
+      → TransportWaits u.transport w.transport all woken
+  transport_behind woken more all less later (inl (inl rose)) =
+      inl (inl (rose_since u.transport.write_waits v.transport.write_waits w.transport.write_waits later.write_waits rose))
+  transport_behind woken more all less later (inl (inr rose)) =
+      inl (inr (rose_since u.transport.flush_waits v.transport.flush_waits w.transport.flush_waits later.flush_waits rose))
+  transport_behind woken more all less later (inr (some, is)) = inr (omega (arith, less, some), is)
 
   given_behind : (woken : Bool) (more all : List ℕ) → length more ≤ length all → Later u v → IsGiven v w more woken → IsGiven u w all woken
   given_behind woken more all less later (inl none) = inl none
-  given_behind woken more all less later (inr wire) = inr (wire_behind woken more all less later wire)
+  given_behind woken more all less later (inr transport) = inr (transport_behind woken more all less later transport)
 
   body_behind : Later u v → BodyWaits v w → BodyWaits u w
   body_behind later (inl ended) = inl ended
@@ -43,12 +43,12 @@ module _ {U H : Type 0} (u v w : View U H) where
   waits_behind : (woken : Bool) (given given_all : List Given) (gave gave_all : List ℕ) → length gave ≤ length gave_all
       → moved given gave v.is_ended w.is_ended ≤ moved given_all gave_all u.is_ended w.is_ended → Later u v
       → WaitsFor v w given gave woken → WaitsFor u w given_all gave_all woken
-  waits_behind woken given given_all gave gave_all less fewer later (inl (wire, body)) =
-      inl (wire_behind woken gave gave_all less later wire, body_behind later body)
+  waits_behind woken given given_all gave gave_all less fewer later (inl (transport, body)) =
+      inl (transport_behind woken gave gave_all less later transport, body_behind later body)
   waits_behind woken given given_all gave gave_all less fewer later (inr (inl (rose, none))) =
       inr (inl (rose_since u.body.waits v.body.waits w.body.waits later.body_waits rose, none))
-  waits_behind woken given given_all gave gave_all less fewer later (inr (inr (some, is, wire))) =
-      inr (inr (omega (arith, some, fewer), is, given_behind woken gave gave_all less later wire))
+  waits_behind woken given given_all gave gave_all less fewer later (inr (inr (some, is, transport))) =
+      inr (inr (omega (arith, some, fewer), is, given_behind woken gave gave_all less later transport))
 
 -- what a test says
 pub it_is : {P : Type 0} → (IsTrue true ↔ P) → P
@@ -58,7 +58,7 @@ pub it_is_not : {P : Type 0} → (IsTrue false ↔ P) → ¬ P
 it_is_not both p = let never : IsTrue false = both.1 p in cc never
 
 -- a task that is woken later
-pub wakes : (old new : Wiring) (gave : List ℕ) (before woken : Bool) → woken ≡ true → WireWaits old new gave before → WireWaits old new gave woken
+pub wakes : (old new : Wiring) (gave : List ℕ) (before woken : Bool) → woken ≡ true → TransportWaits old new gave before → TransportWaits old new gave woken
 wakes old new gave before woken is (inl rose) = inl rose
 wakes old new gave before woken is (inr (some, was)) = inr (some, is)
 
@@ -93,7 +93,7 @@ module _ {U H E : Type 0} (writes : U → Message (H × BodySize) → List ℕ �
   pub fail_behind : 0 < n → (error : SendError E) → FailSays writes refuses lacks leaves n v w error → FailSays writes refuses lacks leaves m u w error
   fail_behind some (Body number) says = fault_behind number says
   fail_behind some NoMemory (more, takes) = (sends_behind more, sym sends.later.takes_memory ∙ takes)
-  fail_behind some Wire (more, rose) = (sends_behind more, rose_since u.wire.faults v.wire.faults w.wire.faults sends.later.wire_faults rose)
+  fail_behind some Transport (more, rose) = (sends_behind more, rose_since u.transport.faults v.transport.faults w.transport.faults sends.later.transport_faults rose)
   fail_behind some (Codec error) lost = lost_behind some error lost
 
   pub rests_behind : (woken : Bool) → Rests writes n v w woken → Rests writes m u w woken
@@ -132,43 +132,43 @@ module _ {U H E : Type 0} (writes : U → Message (H × BodySize) → List ℕ �
       as_over (Ok x) says = says
       as_over (Err error) says = says
 
-  -- the body was pending, and then what was buffered was given to the wire
+  -- the body was pending, and then what was buffered was given to the transport
   pub wait_behind : GivenFew 0 u v sends.given → (woken : Bool) (turn : Turn E) → Rose u.body.waits v.body.waits → WaitSays writes v w woken turn
       → TurnSays writes refuses lacks leaves 1 u w woken turn
   wait_behind few woken Goes rose says = absurd says
   wait_behind few woken Waits rose (more, inl none, some) =
       let all = sends_on writes u v w sends more in
       (all.0, inr (inl (rose_still u.body.waits v.body.waits w.body.waits rose more.later.body_waits, none)), omega (arith, all.3, few, some))
-  wait_behind few woken Waits rose (more, inr wire, some) =
+  wait_behind few woken Waits rose (more, inr transport, some) =
       let all = sends_on writes u v w sends more in (
         all.0,
         inl (
-          wire_behind u v w woken more.gave all.0.gave (omega (arith, all.2)) sends.later wire,
+          transport_behind u v w woken more.gave all.0.gave (omega (arith, all.2)) sends.later transport,
           inr (inr (rose_still u.body.waits v.body.waits w.body.waits rose more.later.body_waits)),
         ),
         omega (arith, all.3, few, some),
       )
   wait_behind few woken (Over (Ok x)) rose says = absurd says
-  wait_behind few woken (Over (Err Wire)) rose ((more, some), faults) =
+  wait_behind few woken (Over (Err Transport)) rose ((more, some), faults) =
       let all = sends_on writes u v w sends more in
-      ((all.0, omega (arith, all.3, few, some)), rose_since u.wire.faults v.wire.faults w.wire.faults sends.later.wire_faults faults)
+      ((all.0, omega (arith, all.3, few, some)), rose_since u.transport.faults v.transport.faults w.transport.faults sends.later.transport_faults faults)
   wait_behind few woken (Over (Err (Body number))) rose says = absurd says
   wait_behind few woken (Over (Err NoMemory)) rose says = absurd says
   wait_behind few woken (Over (Err (Codec error))) rose says = absurd says
 
-  -- at least 64 chunks and bytes moved, and then what was buffered was given to the wire
+  -- at least 64 chunks and bytes moved, and then what was buffered was given to the transport
   pub spent_behind : GivenFew MAX_TURNS u v sends.given → (woken : Bool) (result : Poll (Result Unit (SendError E)))
       → 64 ≤ moved sends.given sends.gave u.is_ended v.is_ended → SpentSays writes v w woken result → SendSays writes refuses lacks leaves u w woken result
-  spent_behind few woken Pending most (more, is, wire, some) =
+  spent_behind few woken Pending most (more, is, transport, some) =
       let all = sends_on writes u v w sends more in (
         all.0,
-        inr (inr (omega (arith, most, all.1), is, given_behind u v w woken more.gave all.0.gave (omega (arith, all.2)) sends.later wire)),
+        inr (inr (omega (arith, most, all.1), is, given_behind u v w woken more.gave all.0.gave (omega (arith, all.2)) sends.later transport)),
         omega (arith, all.3, few, some),
       )
   spent_behind few woken (Ready (Ok x)) most says = absurd says
-  spent_behind few woken (Ready (Err Wire)) most ((more, some), faults) =
+  spent_behind few woken (Ready (Err Transport)) most ((more, some), faults) =
       let all = sends_on writes u v w sends more in
-      ((all.0, omega (arith, all.3, few, some)), rose_since u.wire.faults v.wire.faults w.wire.faults sends.later.wire_faults faults)
+      ((all.0, omega (arith, all.3, few, some)), rose_since u.transport.faults v.transport.faults w.transport.faults sends.later.transport_faults faults)
   spent_behind few woken (Ready (Err (Body number))) most says = absurd says
   spent_behind few woken (Ready (Err NoMemory)) most says = absurd says
   spent_behind few woken (Ready (Err (Codec error))) most says = absurd says

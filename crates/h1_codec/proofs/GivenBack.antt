@@ -1,4 +1,4 @@
--- Once all is sent the wire is given back.
+-- Once all is sent the transport is given back.
 use Rattle.std.proofs.Common.{◌≡◌, ℕ, Bool, List, sym, ap, subst}
 use Rattle.std.specs.Prelude.{Option, Some, None, option_map, Ok}
 use Rattle.futures.specs.declared.task.Poll.TheVariants.{Ready}
@@ -8,7 +8,7 @@ use Rattle.http_transport.specs.Wiring.{Wiring}
 use Rattle.h1_encoder.specs.declared.framed_message.Message.{Message}
 use Rattle.h1_encoder.specs.View.{View, view_of}
 use Rattle.h1_encoder.specs.Turns.{MAX_TURNS, IsDone, SendsFew}
-use Rattle.h1_encoder.specs.SentMessages.{IsWire, PollSays}
+use Rattle.h1_encoder.specs.SentMessages.{IsTransport, PollSays}
 use Rattle.h1_encoder.specs.declared.sending.Sending.{Sending}
 
 module _ {T U H B E : Type 0} (wiring : T → Wiring) (gives : B → Giving) (writes : U → Message (H × BodySize) → List ℕ → U → Type 0)
@@ -16,9 +16,9 @@ module _ {T U H B E : Type 0} (wiring : T → Wiring) (gives : B → Giving) (wr
   abbrev seen : Sending T U H B → View U H
   seen s = view_of wiring gives s
 
-  same_wire : (new sent : Sending T U H B) → sent ≡ new → IsWire wiring (seen new) sent.framed
-  same_wire new sent is = record {
-    wire = ap (λ (s : Sending T U H B). wiring s.framed.io) is;
+  same_transport : (new sent : Sending T U H B) → sent ≡ new → IsTransport wiring (seen new) sent.framed
+  same_transport new sent is = record {
+    transport = ap (λ (s : Sending T U H B). wiring s.framed.io) is;
     codec = ap (λ (s : Sending T U H B). s.framed.codec) is;
     unread = ap (λ (s : Sending T U H B). s.framed.unread) is;
     unsent = ap (λ (s : Sending T U H B). s.framed.unsent) is;
@@ -30,4 +30,4 @@ module _ {T U H B E : Type 0} (wiring : T → Wiring) (gives : B → Giving) (wr
   given_back old now s new sent woken was gone is (sends, done) =
       subst (λ (o : Option (Sending T U H B)). PollSays writes refuses lacks leaves wiring (option_map seen o) (option_map seen now) woken (Ready (Ok sent.framed))) (sym was)
       (subst (λ (n : Option (Sending T U H B)). PollSays writes refuses lacks leaves wiring (Some (seen s)) (option_map seen n) woken (Ready (Ok sent.framed))) (sym gone)
-      (seen new, sends, done, same_wire new sent is))
+      (seen new, sends, done, same_transport new sent is))

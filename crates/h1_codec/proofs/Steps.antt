@@ -18,7 +18,7 @@ use Rattle.h1_encoder.specs.declared.framed_message.Message.{Message}
 use Rattle.h1_encoder.specs.declared.framed_message.Message.TheVariants.{Item, Chunk}
 use Rattle.h1_encoder.specs.View.{View}
 use Rattle.h1_encoder.specs.Sends.{AreWritten, heads, pieces, ends, EndsSo, Later, FoundRoom, Sends}
-use Rattle.h1_encoder.specs.Turns.{WireWaits, GivenFew, SendsFew, Moves}
+use Rattle.h1_encoder.specs.Turns.{TransportWaits, GivenFew, SendsFew, Moves}
 use Rattle.h1_encoder.proofs.Whole.{stays_ended, no_end, still_none, one_written}
 
 -- the count of a body's faults never falls, nor does that of its Pending answers
@@ -40,26 +40,26 @@ no_more false true a b = cc b
 no_more true y a b = cc a
 
 module _ {U H : Type 0} (writes : U → Message (H × BodySize) → List ℕ → U → Type 0) (v w : View U H) where
-  later_by : w.wire ≡ v.wire → (answer : Piece) → PieceSays v.body w.body answer → Later v w
-  later_by wire answer says = record {
-    wire_faults = subst (λ (x : Wiring). v.wire.faults ≤ x.faults) (sym wire) (omega arith);
-    write_waits = subst (λ (x : Wiring). v.wire.write_waits ≤ x.write_waits) (sym wire) (omega arith);
-    flush_waits = subst (λ (x : Wiring). v.wire.flush_waits ≤ x.flush_waits) (sym wire) (omega arith);
+  later_by : w.transport ≡ v.transport → (answer : Piece) → PieceSays v.body w.body answer → Later v w
+  later_by transport answer says = record {
+    transport_faults = subst (λ (x : Wiring). v.transport.faults ≤ x.faults) (sym transport) (omega arith);
+    write_waits = subst (λ (x : Wiring). v.transport.write_waits ≤ x.write_waits) (sym transport) (omega arith);
+    flush_waits = subst (λ (x : Wiring). v.transport.flush_waits ≤ x.flush_waits) (sym transport) (omega arith);
     body_faults = faults_rise v.body.faults w.body.faults answer says.faults;
     body_waits = waits_rise v.body.waits w.body.waits answer says.waits;
     takes_memory = says.takes_memory;
   }
 
-  same_wire : w.wire ≡ v.wire → OnlyWrote v.wire w.wire
-  same_wire wire = subst (λ (x : Wiring). OnlyWrote v.wire x) (sym wire) (wrote-refl v.wire)
+  same_transport : w.transport ≡ v.transport → OnlyWrote v.transport w.transport
+  same_transport transport = subst (λ (x : Wiring). OnlyWrote v.transport x) (sym transport) (wrote-refl v.transport)
 
-  sent_none : w.wire ≡ v.wire → Grows v.wire.sent w.wire.sent []
-  sent_none wire = subst (λ (x : Wiring). Grows v.wire.sent x.sent []) (sym wire) (grown-none v.wire.sent)
+  sent_none : w.transport ≡ v.transport → Grows v.transport.sent w.transport.sent []
+  sent_none transport = subst (λ (x : Wiring). Grows v.transport.sent x.sent []) (sym transport) (grown-none v.transport.sent)
 
   -- the head is written
-  pub head_sent : (head : H × BodySize) (text : List ℕ) → v.head ≡ Some head → w.head ≡ None → w.wire ≡ v.wire → w.unread ≡ v.unread
+  pub head_sent : (head : H × BodySize) (text : List ℕ) → v.head ≡ Some head → w.head ≡ None → w.transport ≡ v.transport → w.unread ≡ v.unread
       → w.unsent ≡ v.unsent ++ text → writes v.codec (Item head) text w.codec → w.body ≡ v.body → w.is_ended ≡ v.is_ended → Sends writes v w
-  head_sent head text is begun wire unread unsent wrote body ended = record {
+  head_sent head text is begun transport unread unsent wrote body ended = record {
     given = [];
     text = text;
     gave = [];
@@ -69,16 +69,16 @@ module _ {U H : Type 0} (writes : U → Message (H × BodySize) → List ℕ →
         (one_written writes v.codec w.codec (Item head) text wrote);
     buffered = sym unsent;
     room = inl (ap (λ (b : Bool). ends v.is_ended b) ended ∙ no_end v.is_ended);
-    sent = sent_none wire;
+    sent = sent_none transport;
     coming = ap (λ (b : Giving). b.coming) (sym body) ∙ sym (led_by-none w.body.coming);
     begun = begun;
     ended = subst (λ (b : Bool). EndsSo v.is_ended b [] w.body.coming) (sym ended) (stays_ended v.is_ended w.body.coming);
     unread = unread;
-    others = same_wire wire;
+    others = same_transport transport;
     later = record {
-      wire_faults = subst (λ (x : Wiring). v.wire.faults ≤ x.faults) (sym wire) (omega arith);
-      write_waits = subst (λ (x : Wiring). v.wire.write_waits ≤ x.write_waits) (sym wire) (omega arith);
-      flush_waits = subst (λ (x : Wiring). v.wire.flush_waits ≤ x.flush_waits) (sym wire) (omega arith);
+      transport_faults = subst (λ (x : Wiring). v.transport.faults ≤ x.faults) (sym transport) (omega arith);
+      write_waits = subst (λ (x : Wiring). v.transport.write_waits ≤ x.write_waits) (sym transport) (omega arith);
+      flush_waits = subst (λ (x : Wiring). v.transport.flush_waits ≤ x.flush_waits) (sym transport) (omega arith);
       body_faults = subst (λ (x : Giving). v.body.faults ≤ x.faults) (sym body) (omega arith);
       body_waits = subst (λ (x : Giving). v.body.waits ≤ x.waits) (sym body) (omega arith);
       takes_memory = ap (λ (x : Giving). x.takes_memory) body;
@@ -86,16 +86,16 @@ module _ {U H : Type 0} (writes : U → Message (H × BodySize) → List ℕ →
   }
 
   -- by no answer of the body
-  pub head_few : (head : H × BodySize) (text : List ℕ) → v.head ≡ Some head → w.head ≡ None → w.wire ≡ v.wire → w.unread ≡ v.unread
+  pub head_few : (head : H × BodySize) (text : List ℕ) → v.head ≡ Some head → w.head ≡ None → w.transport ≡ v.transport → w.unread ≡ v.unread
       → w.unsent ≡ v.unsent ++ text → writes v.codec (Item head) text w.codec → w.body ≡ v.body → w.is_ended ≡ v.is_ended → SendsFew writes 0 v w
   unfolding head_sent
-  head_few head text is begun wire unread unsent wrote body ended =
-      (head_sent head text is begun wire unread unsent wrote body ended, omega (arith, still_none v.is_ended w.is_ended ended))
+  head_few head text is begun transport unread unsent wrote body ended =
+      (head_sent head text is begun transport unread unsent wrote body ended, omega (arith, still_none v.is_ended w.is_ended ended))
 
   -- an answer of the body after which nothing is written: none of its chunks has bytes
   pub nothing_sent : (answer : Piece) → PieceSays v.body w.body answer → pieces {A = H × BodySize} (gave answer) ≡ [] → v.head ≡ None → w.head ≡ None
-      → v.is_ended ≡ false → w.is_ended ≡ false → w.wire ≡ v.wire → w.codec ≡ v.codec → w.unread ≡ v.unread → w.unsent ≡ v.unsent → Sends writes v w
-  nothing_sent answer says none is begun unended still wire codec unread unsent = record {
+      → v.is_ended ≡ false → w.is_ended ≡ false → w.transport ≡ v.transport → w.codec ≡ v.codec → w.unread ≡ v.unread → w.unsent ≡ v.unsent → Sends writes v w
+  nothing_sent answer says none is begun unended still transport codec unread unsent = record {
     given = gave answer;
     text = [];
     gave = [];
@@ -106,14 +106,14 @@ module _ {U H : Type 0} (writes : U → Message (H × BodySize) → List ℕ →
     buffered = append-nil v.unsent ∙ sym unsent;
     room = inl (ap (λ (l : List (Message (H × BodySize))). l ++ ends v.is_ended w.is_ended) none
         ∙ ap (λ (b : Bool). ends b w.is_ended) unended ∙ ap (λ (b : Bool). ends false b) still);
-    sent = sent_none wire;
+    sent = sent_none transport;
     coming = says.gives;
     begun = begun;
     ended = subst (λ (b : Bool). EndsSo b w.is_ended (gave answer) w.body.coming) (sym unended)
         (subst (λ (b : Bool). EndsSo false b (gave answer) w.body.coming) (sym still) tt);
     unread = unread;
-    others = same_wire wire;
-    later = later_by wire answer says;
+    others = same_transport transport;
+    later = later_by transport answer says;
   }
 
   -- one item alone, where there is room
@@ -134,10 +134,10 @@ module _ {U H : Type 0} (writes : U → Message (H × BodySize) → List ℕ →
 
   -- a chunk that has bytes is written
   pub chunk_sent : length v.unsent < 8192 → (bytes text : List ℕ) → ¬ (bytes ≡ []) → PieceSays v.body w.body (Ready (Some (Ok bytes))) → v.head ≡ None → w.head ≡ None
-      → v.is_ended ≡ false → w.is_ended ≡ false → w.wire ≡ v.wire → writes v.codec (Chunk (Some bytes)) text w.codec → w.unread ≡ v.unread
+      → v.is_ended ≡ false → w.is_ended ≡ false → w.transport ≡ v.transport → writes v.codec (Chunk (Some bytes)) text w.codec → w.unread ≡ v.unread
       → w.unsent ≡ v.unsent ++ text → Sends writes v w
-  chunk_sent few [] text some says is begun unended still wire wrote unread unsent = absurd (some refl)
-  chunk_sent few (b ∷ bytes) text some says is begun unended still wire wrote unread unsent = record {
+  chunk_sent few [] text some says is begun unended still transport wrote unread unsent = absurd (some refl)
+  chunk_sent few (b ∷ bytes) text some says is begun unended still transport wrote unread unsent = record {
     given = chunk (b ∷ bytes) ∷ [];
     text = text;
     gave = [];
@@ -150,32 +150,32 @@ module _ {U H : Type 0} (writes : U → Message (H × BodySize) → List ℕ →
         (sym (ap (λ (h : Option (H × BodySize)). heads h ++ (Chunk (Some (b ∷ bytes)) ∷ ends v.is_ended w.is_ended)) is
         ∙ ap (λ (x : Bool). Chunk (Some (b ∷ bytes)) ∷ ends x w.is_ended) unended ∙ ap (λ (x : Bool). Chunk (Some (b ∷ bytes)) ∷ ends false x) still))
         (one_in_room (Chunk (Some (b ∷ bytes))) text few unsent wrote));
-    sent = sent_none wire;
+    sent = sent_none transport;
     coming = says.gives;
     begun = begun;
     ended = subst (λ (x : Bool). EndsSo x w.is_ended (chunk (b ∷ bytes) ∷ []) w.body.coming) (sym unended)
         (subst (λ (x : Bool). EndsSo false x (chunk (b ∷ bytes) ∷ []) w.body.coming) (sym still) tt);
     unread = unread;
-    others = same_wire wire;
-    later = later_by wire (Ready (Some (Ok (b ∷ bytes)))) says;
+    others = same_transport transport;
+    later = later_by transport (Ready (Some (Ok (b ∷ bytes)))) says;
   }
 
   -- by this one answer, or by none
   pub nothing_few : (answer : Piece) → PieceSays v.body w.body answer → pieces {A = H × BodySize} (gave answer) ≡ [] → v.head ≡ None → w.head ≡ None
-      → v.is_ended ≡ false → w.is_ended ≡ false → w.wire ≡ v.wire → w.codec ≡ v.codec → w.unread ≡ v.unread → w.unsent ≡ v.unsent
+      → v.is_ended ≡ false → w.is_ended ≡ false → w.transport ≡ v.transport → w.codec ≡ v.codec → w.unread ≡ v.unread → w.unsent ≡ v.unsent
       → SendsFew writes (length (gave answer)) v w
   unfolding nothing_sent
-  nothing_few answer says none is begun unended still wire codec unread unsent =
-      (nothing_sent answer says none is begun unended still wire codec unread unsent, omega (arith, no_more v.is_ended w.is_ended unended still))
+  nothing_few answer says none is begun unended still transport codec unread unsent =
+      (nothing_sent answer says none is begun unended still transport codec unread unsent, omega (arith, no_more v.is_ended w.is_ended unended still))
 
   -- the body failed
   pub fault_sent : (n : ℕ) → PieceSays v.body w.body (Ready (Some (Err (faults.Body n)))) → v.head ≡ None → w.head ≡ None
-      → v.is_ended ≡ false → w.is_ended ≡ false → w.wire ≡ v.wire → w.codec ≡ v.codec → w.unread ≡ v.unread → w.unsent ≡ v.unsent
+      → v.is_ended ≡ false → w.is_ended ≡ false → w.transport ≡ v.transport → w.codec ≡ v.codec → w.unread ≡ v.unread → w.unsent ≡ v.unsent
       → (sends : Sends writes v w) × (front : List Given) × (sends.given ≡ front ++ (fault n ∷ [])) × Rose v.body.faults w.body.faults
       × GivenFew 1 v w sends.given
   unfolding nothing_sent
-  fault_sent n says is begun unended still wire codec unread unsent = (
-    nothing_sent (Ready (Some (Err (faults.Body n)))) says refl is begun unended still wire codec unread unsent,
+  fault_sent n says is begun unended still transport codec unread unsent = (
+    nothing_sent (Ready (Some (Err (faults.Body n)))) says refl is begun unended still transport codec unread unsent,
     [],
     refl,
     says.faults.1,
@@ -184,23 +184,23 @@ module _ {U H : Type 0} (writes : U → Message (H × BodySize) → List ℕ →
 
   -- an empty chunk
   pub empty_moves : (bytes : List ℕ) → bytes ≡ [] → PieceSays v.body w.body (Ready (Some (Ok bytes))) → v.head ≡ None → w.head ≡ None
-      → v.is_ended ≡ false → w.is_ended ≡ false → w.wire ≡ v.wire → w.codec ≡ v.codec → w.unread ≡ v.unread → w.unsent ≡ v.unsent → Moves writes v w
+      → v.is_ended ≡ false → w.is_ended ≡ false → w.transport ≡ v.transport → w.codec ≡ v.codec → w.unread ≡ v.unread → w.unsent ≡ v.unsent → Moves writes v w
   unfolding nothing_sent
-  empty_moves [] none says is begun unended still wire codec unread unsent = (
-    nothing_sent (Ready (Some (Ok []))) says refl is begun unended still wire codec unread unsent,
+  empty_moves [] none says is begun unended still transport codec unread unsent = (
+    nothing_sent (Ready (Some (Ok []))) says refl is begun unended still transport codec unread unsent,
     omega arith,
     omega (arith, no_more v.is_ended w.is_ended unended still),
   )
-  empty_moves (b ∷ bytes) none says is begun unended still wire codec unread unsent = cc none
+  empty_moves (b ∷ bytes) none says is begun unended still transport codec unread unsent = cc none
 
   -- a chunk that has bytes
   pub chunk_moves : length v.unsent < 8192 → (bytes text : List ℕ) → ¬ (bytes ≡ []) → PieceSays v.body w.body (Ready (Some (Ok bytes))) → v.head ≡ None → w.head ≡ None
-      → v.is_ended ≡ false → w.is_ended ≡ false → w.wire ≡ v.wire → writes v.codec (Chunk (Some bytes)) text w.codec → w.unread ≡ v.unread
+      → v.is_ended ≡ false → w.is_ended ≡ false → w.transport ≡ v.transport → writes v.codec (Chunk (Some bytes)) text w.codec → w.unread ≡ v.unread
       → w.unsent ≡ v.unsent ++ text → Moves writes v w
   unfolding chunk_sent
-  chunk_moves few [] text some says is begun unended still wire wrote unread unsent = absurd (some refl)
-  chunk_moves few (b ∷ bytes) text some says is begun unended still wire wrote unread unsent = (
-    chunk_sent few (b ∷ bytes) text some says is begun unended still wire wrote unread unsent,
+  chunk_moves few [] text some says is begun unended still transport wrote unread unsent = absurd (some refl)
+  chunk_moves few (b ∷ bytes) text some says is begun unended still transport wrote unread unsent = (
+    chunk_sent few (b ∷ bytes) text some says is begun unended still transport wrote unread unsent,
     omega arith,
     omega (arith, no_more v.is_ended w.is_ended unended still),
   )
@@ -211,9 +211,9 @@ module _ {U H : Type 0} (writes : U → Message (H × BodySize) → List ℕ →
 
   -- the end is written
   pub end_sent : length v.unsent < 8192 → (text : List ℕ) → PieceSays v.body w.body (Ready None) → v.head ≡ None → w.head ≡ None
-      → v.is_ended ≡ false → w.is_ended ≡ true → w.wire ≡ v.wire → writes v.codec (Chunk None) text w.codec → w.unread ≡ v.unread
+      → v.is_ended ≡ false → w.is_ended ≡ true → w.transport ≡ v.transport → writes v.codec (Chunk None) text w.codec → w.unread ≡ v.unread
       → w.unsent ≡ v.unsent ++ text → Sends writes v w
-  end_sent few text says is begun unended over wire wrote unread unsent = record {
+  end_sent few text says is begun unended over transport wrote unread unsent = record {
     given = [];
     text = text;
     gave = [];
@@ -226,14 +226,14 @@ module _ {U H : Type 0} (writes : U → Message (H × BodySize) → List ℕ →
         (sym (ap (λ (h : Option (H × BodySize)). heads h ++ ends v.is_ended w.is_ended) is
         ∙ ap (λ (x : Bool). ends x w.is_ended) unended ∙ ap (λ (x : Bool). ends false x) over))
         (one_in_room (Chunk None) text few unsent wrote));
-    sent = sent_none wire;
+    sent = sent_none transport;
     coming = says.gives;
     begun = begun;
     ended = subst (λ (x : Bool). EndsSo x w.is_ended [] w.body.coming) (sym unended)
         (subst (λ (x : Bool). EndsSo false x [] w.body.coming) (sym over) (told_after v.body.coming w.body.coming says.gives says.ends));
     unread = unread;
-    others = same_wire wire;
-    later = later_by wire (Ready None) says;
+    others = same_transport transport;
+    later = later_by transport (Ready None) says;
   }
 
   one_end : (x y : Bool) → x ≡ false → y ≡ true → length (ends {A = Unit} x y) ≡ 1
@@ -242,17 +242,17 @@ module _ {U H : Type 0} (writes : U → Message (H × BodySize) → List ℕ →
   one_end true y a b = cc a
 
   pub end_moves : length v.unsent < 8192 → (text : List ℕ) → PieceSays v.body w.body (Ready None) → v.head ≡ None → w.head ≡ None
-      → v.is_ended ≡ false → w.is_ended ≡ true → w.wire ≡ v.wire → writes v.codec (Chunk None) text w.codec → w.unread ≡ v.unread
+      → v.is_ended ≡ false → w.is_ended ≡ true → w.transport ≡ v.transport → writes v.codec (Chunk None) text w.codec → w.unread ≡ v.unread
       → w.unsent ≡ v.unsent ++ text → Moves writes v w
   unfolding end_sent
-  end_moves few text says is begun unended over wire wrote unread unsent = (
-    end_sent few text says is begun unended over wire wrote unread unsent,
+  end_moves few text says is begun unended over transport wrote unread unsent = (
+    end_sent few text says is begun unended over transport wrote unread unsent,
     omega (arith, one_end v.is_ended w.is_ended unended over),
     omega (arith, one_end v.is_ended w.is_ended unended over),
   )
 
-  -- the wire takes some of what is buffered
-  pub flush_sent : {E : Type 0} (woken : Bool) (took : List ℕ) (answer : Poll (Result Unit E)) → Gave v.wire w.wire woken v.unsent took w.unsent answer
+  -- the transport takes some of what is buffered
+  pub flush_sent : {E : Type 0} (woken : Bool) (took : List ℕ) (answer : Poll (Result Unit E)) → Gave v.transport w.transport woken v.unsent took w.unsent answer
       → v.head ≡ None → w.head ≡ v.head → w.is_ended ≡ v.is_ended → w.codec ≡ v.codec → w.unread ≡ v.unread → w.body ≡ v.body → Sends writes v w
   flush_sent woken took answer says is begun ended codec unread body = record {
     given = [];
@@ -270,7 +270,7 @@ module _ {U H : Type 0} (writes : U → Message (H × BodySize) → List ℕ →
     unread = unread;
     others = says.others;
     later = record {
-      wire_faults = says.faults;
+      transport_faults = says.faults;
       write_waits = says.writes;
       flush_waits = says.flushes;
       body_faults = subst (λ (x : Giving). v.body.faults ≤ x.faults) (sym body) (omega arith);
@@ -286,14 +286,14 @@ took_some : (before took after : List ℕ) → before ≡ took ++ after → leng
 took_some before took after is less = omega (arith, ap length is, length-append took after, less)
 
 module _ {U H : Type 0} (writes : U → Message (H × BodySize) → List ℕ → U → Type 0) (v w : View U H) (woken : Bool) where
-  pub flush_waits : Flushes {E = Failed} v.wire w.wire woken v.unsent w.unsent Pending → v.head ≡ None → w.head ≡ v.head → w.is_ended ≡ v.is_ended
-      → w.codec ≡ v.codec → w.unread ≡ v.unread → w.body ≡ v.body → (sends : Sends writes v w) × WireWaits v.wire w.wire sends.gave woken × GivenFew 0 v w sends.given
+  pub flush_waits : Flushes {E = Failed} v.transport w.transport woken v.unsent w.unsent Pending → v.head ≡ None → w.head ≡ v.head → w.is_ended ≡ v.is_ended
+      → w.codec ≡ v.codec → w.unread ≡ v.unread → w.body ≡ v.body → (sends : Sends writes v w) × TransportWaits v.transport w.transport sends.gave woken × GivenFew 0 v w sends.given
   unfolding flush_sent
   flush_waits (took, says) is begun ended codec unread body =
       (flush_sent writes v w woken took Pending says is begun ended codec unread body, says.answers, omega (arith, still_none v.is_ended w.is_ended ended))
 
   -- it took some
-  pub flush_moves : (answer : Poll (Result Unit Failed)) → Flushes v.wire w.wire woken v.unsent w.unsent answer → length w.unsent < length v.unsent
+  pub flush_moves : (answer : Poll (Result Unit Failed)) → Flushes v.transport w.transport woken v.unsent w.unsent answer → length w.unsent < length v.unsent
       → v.head ≡ None → w.head ≡ v.head → w.is_ended ≡ v.is_ended → w.codec ≡ v.codec → w.unread ≡ v.unread → w.body ≡ v.body → Moves writes v w
   unfolding flush_sent
   flush_moves answer (took, says) less is begun ended codec unread body = (
@@ -303,19 +303,19 @@ module _ {U H : Type 0} (writes : U → Message (H × BodySize) → List ℕ →
   )
 
   -- all of it, where there was some
-  pub flush_relieves : (x : Unit) → Flushes {E = Failed} v.wire w.wire woken v.unsent w.unsent (Ready (Ok x)) → 1 ≤ length v.unsent
+  pub flush_relieves : (x : Unit) → Flushes {E = Failed} v.transport w.transport woken v.unsent w.unsent (Ready (Ok x)) → 1 ≤ length v.unsent
       → v.head ≡ None → w.head ≡ v.head → w.is_ended ≡ v.is_ended → w.codec ≡ v.codec → w.unread ≡ v.unread → w.body ≡ v.body → Moves writes v w
   flush_relieves x says some is begun ended codec unread body =
       flush_moves (Ready (Ok x)) says (omega (arith, some, ap length says.1.answers)) is begun ended codec unread body
 
-  pub flush_done : (x : Unit) → Flushes {E = Failed} v.wire w.wire woken v.unsent w.unsent (Ready (Ok x)) → v.head ≡ None → w.head ≡ v.head → w.is_ended ≡ v.is_ended
+  pub flush_done : (x : Unit) → Flushes {E = Failed} v.transport w.transport woken v.unsent w.unsent (Ready (Ok x)) → v.head ≡ None → w.head ≡ v.head → w.is_ended ≡ v.is_ended
       → w.codec ≡ v.codec → w.unread ≡ v.unread → w.body ≡ v.body → (sends : Sends writes v w) × (w.unsent ≡ []) × GivenFew 0 v w sends.given
   unfolding flush_sent
   flush_done x (took, says) is begun ended codec unread body =
       (flush_sent writes v w woken took (Ready (Ok x)) says is begun ended codec unread body, says.answers, omega (arith, still_none v.is_ended w.is_ended ended))
 
-  pub flush_failed : (most : ℕ) (e : Failed) → Flushes v.wire w.wire woken v.unsent w.unsent (Ready (Err e)) → v.head ≡ None → w.head ≡ v.head → w.is_ended ≡ v.is_ended
-      → w.codec ≡ v.codec → w.unread ≡ v.unread → w.body ≡ v.body → SendsFew writes most v w × Rose v.wire.faults w.wire.faults
+  pub flush_failed : (most : ℕ) (e : Failed) → Flushes v.transport w.transport woken v.unsent w.unsent (Ready (Err e)) → v.head ≡ None → w.head ≡ v.head → w.is_ended ≡ v.is_ended
+      → w.codec ≡ v.codec → w.unread ≡ v.unread → w.body ≡ v.body → SendsFew writes most v w × Rose v.transport.faults w.transport.faults
   unfolding flush_sent
   flush_failed most e (took, says) is begun ended codec unread body =
       ((flush_sent writes v w woken took (Ready (Err e)) says is begun ended codec unread body, omega (arith, still_none v.is_ended w.is_ended ended)), says.answers)

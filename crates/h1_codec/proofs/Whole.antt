@@ -140,7 +140,7 @@ module _ {U I : Type 0} (writes : U → I → List ℕ → U → Type 0) (a b c 
     room = x.room;
   }
 
-  -- that of the first step, where the second wrote nothing, and the wire took some
+  -- that of the first step, where the second wrote nothing, and the transport took some
   found_before : body ≡ [] → t ≡ [] → c ≡ b → middle ++ t ≡ gave ++ unsent → FoundRoom writes a (head ++ first) s b middle
       → FoundRoom writes a (head ++ all) (s ++ t) c unsent
   found_before none no_text same taken x = record {
@@ -168,7 +168,7 @@ module _ {U I : Type 0} (writes : U → I → List ℕ → U → Type 0) (a b c 
 module _ {U H : Type 0} where
   pub later-refl : (v : View U H) → Later v v
   later-refl v = record {
-    wire_faults = omega arith;
+    transport_faults = omega arith;
     write_waits = omega arith;
     flush_waits = omega arith;
     body_faults = omega arith;
@@ -178,7 +178,7 @@ module _ {U H : Type 0} where
 
   pub later-trans : (u v w : View U H) → Later u v → Later v w → Later u w
   later-trans u v w a b = record {
-    wire_faults = omega (arith, a.wire_faults, b.wire_faults);
+    transport_faults = omega (arith, a.transport_faults, b.transport_faults);
     write_waits = omega (arith, a.write_waits, b.write_waits);
     flush_waits = omega (arith, a.flush_waits, b.flush_waits);
     body_faults = omega (arith, a.body_faults, b.body_faults);
@@ -206,12 +206,12 @@ module _ {U H : Type 0} (writes : U → Message (H × BodySize) → List ℕ →
             (pieces (a.given ++ b.given) ++ ends u.is_ended w.is_ended) a.text b.text v.unsent b.gave w.unsent a.written
             (ends_join u.is_ended v.is_ended w.is_ended a.given b.given v.body.coming w.body.coming a.ended b.ended) more b.buffered a.room
             (subst (λ (h : Option (H × BodySize)). HasRoom writes v.codec (heads h) (pieces b.given ++ ends v.is_ended w.is_ended) b.text w.codec w.unsent) a.begun b.room);
-        sent = grown a.gave b.gave u.wire.sent v.wire.sent w.wire.sent a.sent b.sent;
+        sent = grown a.gave b.gave u.transport.sent v.transport.sent w.transport.sent a.sent b.sent;
         coming = a.coming ∙ ap (led_by a.given) b.coming ∙ led_by-more a.given b.given w.body.coming;
         begun = b.begun;
         ended = so_ends u.is_ended v.is_ended w.is_ended a.given b.given v.body.coming w.body.coming a.ended b.ended b.coming;
         unread = b.unread ∙ a.unread;
-        others = wrote-trans u.wire v.wire w.wire a.others b.others;
+        others = wrote-trans u.transport v.transport w.transport a.others b.others;
         later = later-trans u v w a.later b.later;
       }
 
@@ -250,12 +250,12 @@ module _ {U H : Type 0} (writes : U → Message (H × BodySize) → List ℕ →
         (sym (ap (λ (h : Option (H × BodySize)). heads h ++ ends v.is_ended v.is_ended) begun ∙ no_end v.is_ended)) (refl, refl);
     buffered = append-nil v.unsent;
     room = inl (no_end v.is_ended);
-    sent = grown-none v.wire.sent;
+    sent = grown-none v.transport.sent;
     coming = sym (led_by-none v.body.coming);
     begun = begun;
     ended = stays_ended v.is_ended v.body.coming;
     unread = refl;
-    others = wrote-refl v.wire;
+    others = wrote-refl v.transport;
     later = later-refl v;
   }
 

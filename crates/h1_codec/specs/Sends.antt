@@ -70,15 +70,15 @@ EndsSo true true given coming = given ≡ []
 
 -- the counts never fall
 pub record Later {U H : Type 0} (old new : View U H) : Type 0 where
-  pub wire_faults : old.wire.faults ≤ new.wire.faults
-  pub write_waits : old.wire.write_waits ≤ new.wire.write_waits
-  pub flush_waits : old.wire.flush_waits ≤ new.wire.flush_waits
+  pub transport_faults : old.transport.faults ≤ new.transport.faults
+  pub write_waits : old.transport.write_waits ≤ new.transport.write_waits
+  pub flush_waits : old.transport.flush_waits ≤ new.transport.flush_waits
   pub body_faults : old.body.faults ≤ new.body.faults
   pub body_waits : old.body.waits ≤ new.body.waits
   pub takes_memory : new.body.takes_memory ≡ old.body.takes_memory
 
 -- The head was written, if it wasn't yet, then each chunk that the body gave and that has bytes, and then the end, if it
--- was; of what was buffered and that text the wire took the front, and the rest is buffered. Nothing of the body is asked for
+-- was; of what was buffered and that text the transport took the front, and the rest is buffered. Nothing of the body is asked for
 -- but where there is room in the buffer.
 pub record Sends {U H : Type 0} (writes : U → Message (H × BodySize) → List ℕ → U → Type 0) (old new : View U H) : Type 0 where
   pub given : List Given
@@ -87,12 +87,12 @@ pub record Sends {U H : Type 0} (writes : U → Message (H × BodySize) → List
   pub written : AreWritten writes old.codec (heads old.head ++ (pieces given ++ ends old.is_ended new.is_ended)) text new.codec
   pub buffered : old.unsent ++ text ≡ gave ++ new.unsent
   pub room : HasRoom writes old.codec (heads old.head) (pieces given ++ ends old.is_ended new.is_ended) text new.codec new.unsent
-  pub sent : Grows old.wire.sent new.wire.sent gave
+  pub sent : Grows old.transport.sent new.transport.sent gave
   pub coming : old.body.coming ≡ led_by given new.body.coming
   pub begun : new.head ≡ None
   pub ended : EndsSo old.is_ended new.is_ended given new.body.coming
   pub unread : new.unread ≡ old.unread
-  pub others : OnlyWrote old.wire new.wire
+  pub others : OnlyWrote old.transport new.transport
   pub later : Later old new
 
 -- the head is written, and the end isn't
@@ -105,7 +105,7 @@ IsNext old (Item head) new = (old.head ≡ Some head) × (new.body ≡ old.body)
 IsNext old (Chunk (Some bytes)) new = IsAmid old × (old.body.coming ≡ led_by (chunk bytes ∷ []) new.body.coming)
 IsNext old (Chunk None) new = IsAmid old × Tells old.body.coming [] × (new.body.coming ≡ old.body.coming)
 
--- The codec refuses the next item, or had no memory for it. Then it is as it says that this error leaves it, and wire and
+-- The codec refuses the next item, or had no memory for it. Then it is as it says that this error leaves it, and transport and
 -- buffers are as before.
 pub record IsUnwritten {U H E : Type 0} (refuses : E → U → Message (H × BodySize) → Type 0) (lacks : E → Type 0) (leaves : E → U → U → Type 0)
     (error : E) (old new : View U H) : Type 0 where
@@ -114,7 +114,7 @@ pub record IsUnwritten {U H E : Type 0} (refuses : E → U → Message (H × Bod
   pub refused : ¬ (lacks error) → refuses error old.codec item
   pub lacking : lacks error → new.codec ≡ old.codec
   pub left : leaves error old.codec new.codec
-  pub wire : new.wire ≡ old.wire
+  pub transport : new.transport ≡ old.transport
   pub unsent : new.unsent ≡ old.unsent
   pub unread : new.unread ≡ old.unread
 

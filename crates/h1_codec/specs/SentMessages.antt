@@ -16,11 +16,11 @@ use Rattle.h1_encoder.specs.declared.send_message.SendMessage.{SendMessage}
 abbrev pub is_open : {T U H B : Type 0} → SendMessage T U H B → Bool
 is_open m = is_some m.sending && not m.has_failed
 
--- the framed wire, until it is given back
-abbrev pub wire_left : {T U H B : Type 0} → SendMessage T U H B → Option (Parts T U)
-wire_left m = option_map (λ s. s.framed) m.sending
+-- the framed transport, until it is given back
+abbrev pub transport_left : {T U H B : Type 0} → SendMessage T U H B → Option (Parts T U)
+transport_left m = option_map (λ s. s.framed) m.sending
 
--- what is left to send, until the wire is given back
+-- what is left to send, until the transport is given back
 abbrev pub message_view : {T U H B : Type 0} → (T → Wiring) → (B → Giving) → SendMessage T U H B → Option (View U H)
 message_view wiring gives m = option_map (view_of wiring gives) m.sending
 
@@ -28,7 +28,7 @@ message_view wiring gives m = option_map (view_of wiring gives) m.sending
 abbrev pub view_begun : {T U H B : Type 0} → (T → Wiring) → (B → Giving) → Parts T U → H → B → View U H
 view_begun wiring gives framed head body =
     record {
-      wire = wiring framed.io;
+      transport = wiring framed.io;
       codec = framed.codec;
       unread = framed.unread;
       unsent = framed.unsent;
@@ -37,18 +37,18 @@ view_begun wiring gives framed head body =
       is_ended = false;
     }
 
--- the framed wire is that of the view
-pub record IsWire {T U H : Type 0} (wiring : T → Wiring) (v : View U H) (framed : Parts T U) : Type 0 where
-  pub wire : wiring framed.io ≡ v.wire
+-- the framed transport is that of the view
+pub record IsTransport {T U H : Type 0} (wiring : T → Wiring) (v : View U H) (framed : Parts T U) : Type 0 where
+  pub transport : wiring framed.io ≡ v.transport
   pub codec : framed.codec ≡ v.codec
   pub unread : framed.unread ≡ v.unread
   pub unsent : framed.unsent ≡ v.unsent
 
--- A poll. Once all is sent the wire is given back, and else it stays.
+-- A poll. Once all is sent the transport is given back, and else it stays.
 abbrev pub PollSays : {T U H E : Type 0} → (U → Message (H × BodySize) → List ℕ → U → Type 0) → (E → U → Message (H × BodySize) → Type 0) → (E → Type 0)
     → (E → U → U → Type 0) → (T → Wiring) → Option (View U H) → Option (View U H) → Bool → Poll (Result (Parts T U) (SendError E)) → Type 0
 PollSays writes refuses lacks leaves wiring (Some old) (Some new) woken Pending = SendSays writes refuses lacks leaves old new woken Pending
 PollSays writes refuses lacks leaves wiring (Some old) (Some new) woken (Ready (Err error)) = FailSays writes refuses lacks leaves MAX_TURNS old new error
 PollSays {T} {U} {H} writes refuses lacks leaves wiring (Some old) None woken (Ready (Ok framed)) =
-    (new : View U H) × SendsFew writes MAX_TURNS old new × IsDone new × IsWire wiring new framed
+    (new : View U H) × SendsFew writes MAX_TURNS old new × IsDone new × IsTransport wiring new framed
 PollSays writes refuses lacks leaves wiring old new woken result = ⊥

@@ -1,14 +1,14 @@
--- What is left to send of a message, and what is known of the wire and the body.
+-- What is left to send of a message, and what is known of the transport and the body.
 use Rattle.std.specs.Prelude.{ℕ, Bool, Option, List}
 use Rattle.http_bodies.specs.Giving.{Giving}
 use Rattle.http_framing.specs.declared.body.size.BodySize.{BodySize}
 use Rattle.http_transport.specs.Wiring.{Wiring}
 use Rattle.h1_encoder.specs.declared.sending.Sending.{Sending}
 
--- The wire; the codec, the bytes that were read and not decoded, and those that were written and not sent; the head,
+-- The transport; the codec, the bytes that were read and not decoded, and those that were written and not sent; the head,
 -- until it is written, with the size of the body; what the body gives; and whether its end was written.
 pub record View (U H : Type 0) : Type 0 where
-  pub wire : Wiring
+  pub transport : Wiring
   pub codec : U
   pub unread : List ℕ
   pub unsent : List ℕ
@@ -19,7 +19,7 @@ pub record View (U H : Type 0) : Type 0 where
 abbrev pub view_of : {T U H B : Type 0} → (T → Wiring) → (B → Giving) → Sending T U H B → View U H
 view_of wiring gives s =
     record {
-      wire = wiring s.framed.io;
+      transport = wiring s.framed.io;
       codec = s.framed.codec;
       unread = s.framed.unread;
       unsent = s.framed.unsent;

@@ -28,7 +28,7 @@
 //! # Example
 //!
 //! ```ignore
-//! let mut framed = Framed::new(alloc, wire, Codec::new(ServiceConfig::default()));
+//! let mut framed = Framed::new(alloc, transport, Codec::new(ServiceConfig::default()));
 //! framed.next_item(cx)                            // Ready(Some(Ok(Message::Item(head)))), then the body's chunks and its end
 //! framed.write(Message::Item((Response::ok(alloc), BodySize::Sized(2))))?;
 //! framed.write(Message::Chunk(Some(bytes)))?;     // hi
@@ -63,16 +63,16 @@
 //! no body. What a codec encodes is the text of the definitions for that request. An error changes nothing, but for a body
 //! that broke, which stays broken.
 //!
-//! Whole messages over framed wires: a head, the chunks of a body, and its end, in as many polls as they need.
+//! Whole messages over framed transports: a head, the chunks of a body, and its end, in as many polls as they need.
 //!
 //! # Example
 //!
 //! ```ignore
 //! let mut sending = send_response(alloc, framed, Response::ok(alloc).set_body("hi"));
 //! match sending.poll(cx) {
-//!     Poll::Ready(Ok(framed)) => {}               // the wire took all, and is given back
+//!     Poll::Ready(Ok(framed)) => {}               // the transport took all, and is given back
 //!     Poll::Ready(Err(SendError::Body(n))) => {}  // the body failed
-//!     Poll::Ready(Err(error)) => {}               // the wire's fault, the codec's, or no memory
+//!     Poll::Ready(Err(error)) => {}               // the transport's fault, the codec's, or no memory
 //!     Poll::Pending => {}                         // the task is woken once it is worth another poll
 //! }
 //! ```
@@ -80,7 +80,7 @@
 //! # Contract
 //!
 //! What is written is the head, then each chunk of the body that has bytes, in order and once, and then the end, each as
-//! the codec writes it; the wire takes what is written, in order. Where it answers that all is sent, nothing is left.
+//! the codec writes it; the transport takes what is written, in order. Where it answers that all is sent, nothing is left.
 #![tactic(auto)]
 
 mod decoder;

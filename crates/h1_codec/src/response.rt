@@ -1,17 +1,17 @@
-//! An answer that is sent over the framed wire of a server.
+//! An answer that is sent over the framed transport of a server.
 ghost use Rattle.std.specs.Prelude.{◌≡◌, true, Some};
 ghost use Rattle.h1_encoder.specs.SentMessages.{is_open, message_view, view_begun};
 
 use crate::{Codec, SendMessage};
 use http_bodies::MessageBody;
-use http_transport::{Framed, Wire};
+use http_transport::{Framed, Transport};
 use http_types::Response;
 use std::alloc::Global;
 
-/// An answer that is sent. The parameters are the wire and the body.
+/// An answer that is sent. The parameters are the transport and the body.
 pub type SendResponse<T, B> = SendMessage<T, Codec, Response<()>, B>;
 
-/// This answer, over this wire: it is framed for the request that the codec decoded last, or that `Codec::set_context`
+/// This answer, over this transport: it is framed for the request that the codec decoded last, or that `Codec::set_context`
 /// names. Nothing is written yet, and no memory is taken.
 pub fn send_response<T, B>(
     alloc: Global,
@@ -19,7 +19,7 @@ pub fn send_response<T, B>(
     response: Response<B>,
 ) -> SendMessage<T, Codec, Response<()>, B>
 where
-    T: Wire,
+    T: Transport,
     B: MessageBody,
     ensures view { message_view T.wiring B.gives result ≡ Some (view_begun T.wiring B.gives framed (record { head = response.head; body = tt }) response.body) }
     ensures open { is_open result ≡ true }

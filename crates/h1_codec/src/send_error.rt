@@ -12,9 +12,9 @@ pub enum SendError<E> {
     #[error("the body has no memory")]
     NoMemory,
 
-    /// The wire failed.
-    #[error("the wire failed")]
-    Wire,
+    /// The transport failed.
+    #[error("the transport failed")]
+    Transport,
 
     /// The codec refuses the head, a chunk or the end, or had no memory.
     #[error("the message could not be written")]

@@ -1,18 +1,18 @@
-//! A message that is sent over a framed wire.
+//! A message that is sent over a framed transport.
 ghost use Rattle.std.specs.Prelude.{◌≡◌, true, false, Some};
 ghost use Rattle.futures.specs.Task.{IsArmed, Keeps};
 ghost use Rattle.futures.specs.Poll.{IfReady, OnPending};
-ghost use Rattle.h1_encoder.specs.SentMessages.{is_open, message_view, view_begun, wire_left, PollSays};
+ghost use Rattle.h1_encoder.specs.SentMessages.{is_open, message_view, view_begun, transport_left, PollSays};
 
 use crate::sending::Sending;
 use crate::{Message, SendError};
 use futures::task::{Context, Poll};
 use http_bodies::MessageBody;
 use http_framing::{BodySize, Encoder};
-use http_transport::{Framed, Wire};
+use http_transport::{Framed, Transport};
 use std::alloc::Global;
 
-/// A head and a body that are sent over a framed wire, in as many polls as they need. The parameters are the wire, the
+/// A head and a body that are sent over a framed transport, in as many polls as they need. The parameters are the transport, the
 /// codec, the head and the body.
 #[derive(Drop)]
 pub struct SendMessage<T, U, H, B> {
@@ -22,12 +22,12 @@ pub struct SendMessage<T, U, H, B> {
 
 impl<T, U, H, B> SendMessage<T, U, H, B>
 where
-    T: Wire,
+    T: Transport,
     U: Encoder<Message<(H, BodySize)>>,
     H: Drop,
     B: MessageBody,
 {
-    /// This head and this body, over this wire. Nothing is written yet, and no memory is taken.
+    /// This head and this body, over this transport. Nothing is written yet, and no memory is taken.
     pub fn new(alloc: Global, framed: Framed<T, U>, head: H, body: B) -> SendMessage<T, U, H, B>
         ensures view { message_view T.wiring B.gives result ≡ Some (view_begun T.wiring B.gives framed head body) }
         ensures open { is_open result ≡ true }
@@ -45,7 +45,7 @@ where
         }
     }
 
-    /// Whether it may be polled: not after it gave the wire back, nor after an error.
+    /// Whether it may be polled: not after it gave the transport back, nor after an error.
     pub fn is_open(&self) -> bool
         ensures { result ≡ is_open self.now }
     {
@@ -53,10 +53,10 @@ where
     }
 
     /// Goes on, by at most 64 turns: writes the head, then the chunks of the body as long as the buffer isn't full, and
-    /// then its end, and gives the wire what is buffered. Once the wire has taken all, the framed wire is given back.
+    /// then its end, and gives the transport what is buffered. Once the transport has taken all, the framed transport is given back.
     ///
-    /// It is pending where the wire is and the body has ended, waits, or has no room in the buffer; where the body is and
-    /// nothing is left to give the wire; or where its turns are spent, at least 64 chunks and bytes moved, and the wire was
+    /// It is pending where the transport is and the body has ended, waits, or has no room in the buffer; where the body is and
+    /// nothing is left to give the transport; or where its turns are spent, at least 64 chunks and bytes moved, and the transport was
     /// given what is buffered: then the task is woken.
     pub fn poll(&mut self, cx: &mut Context<'_>) -> Poll<Result<Framed<T, U>, SendError<U::Error>>>
         requires open { is_open self.old ≡ true }
@@ -82,9 +82,9 @@ where
         }
     }
 
-    /// The framed wire as it stands, where it wasn't given back. What is left of the message is dropped.
+    /// The framed transport as it stands, where it wasn't given back. What is left of the message is dropped.
     pub fn into_framed(self) -> Option<Framed<T, U>>
-        ensures { result ≡ wire_left self }
+        ensures { result ≡ transport_left self }
     {
         match self.sending {
             Some(sending) => Some(sending.framed),

@@ -10,7 +10,7 @@ use bytes::Bytes;
 use futures::task::{Context, Poll};
 use http_bodies::{BodyFault, MessageBody};
 use http_framing::{BodySize, Encoder};
-use http_transport::{Framed, Wire};
+use http_transport::{Framed, Transport};
 use std::alloc::Global;
 
 /// A message that is being sent: the head, until it is written; the body; and whether its end was written.
@@ -38,7 +38,7 @@ pub(crate) enum Fed<E> {
 
 impl<T, U, H, B> Sending<T, U, H, B>
 where
-    T: Wire,
+    T: Transport,
     U: Encoder<Message<(H, BodySize)>>,
     H: Drop,
     B: MessageBody,

@@ -11,7 +11,7 @@ use futures::task::{Context, Poll};
 use http_bodies::MessageBody;
 use http_config::Failed;
 use http_framing::{BodySize, Encoder};
-use http_transport::Wire;
+use http_transport::Transport;
 
 /// What a turn came to.
 #[derive(Drop)]
@@ -28,7 +28,7 @@ pub(crate) enum Turn<E> {
 
 impl<T, U, H, B> Sending<T, U, H, B>
 where
-    T: Wire,
+    T: Transport,
     U: Encoder<Message<(H, BodySize)>>,
     H: Drop,
     B: MessageBody,
@@ -62,7 +62,7 @@ where
         self.rest(cx)
     }
 
-    /// Gives the wire what is buffered, once the turns are spent, and asks for another poll.
+    /// Gives the transport what is buffered, once the turns are spent, and asks for another poll.
     fn rest(&mut self, cx: &mut Context<'_>) -> Poll<Result<(), SendError<U::Error>>>
         requires begun { self.old.head ≡ None }
         ensures says { SpentSays U.writes (view_of T.wiring B.gives self.old) (view_of T.wiring B.gives self.new) cx.new.is_woken result }
@@ -72,11 +72,11 @@ where
         match self.framed.flush(cx) {
             Poll::Pending => cx.yield_now(),
             Poll::Ready(Ok(())) => cx.yield_now(),
-            Poll::Ready(Err(Failed)) => Poll::Ready(Err(SendError::Wire)),
+            Poll::Ready(Err(Failed)) => Poll::Ready(Err(SendError::Transport)),
         }
     }
 
-    /// One turn: what the body has next is written, or what is buffered is given to the wire, where the body has ended,
+    /// One turn: what the body has next is written, or what is buffered is given to the transport, where the body has ended,
     /// the buffer is full, or the body is pending.
     fn turn(&mut self, cx: &mut Context<'_>) -> Turn<U::Error>
         requires begun { self.old.head ≡ None }
@@ -97,7 +97,7 @@ where
         }
     }
 
-    /// Gives the wire all, after the end.
+    /// Gives the transport all, after the end.
     fn finish(&mut self, cx: &mut Context<'_>) -> Turn<U::Error>
         requires begun { self.old.head ≡ None }
         requires ended { self.old.is_ended ≡ true }
@@ -108,11 +108,11 @@ where
         match self.framed.flush(cx) {
             Poll::Pending => Turn::Waits,
             Poll::Ready(Ok(())) => Turn::Over(Ok(())),
-            Poll::Ready(Err(Failed)) => Turn::Over(Err(SendError::Wire)),
+            Poll::Ready(Err(Failed)) => Turn::Over(Err(SendError::Transport)),
         }
     }
 
-    /// Gives the wire what fills the buffer. Where it took some of it, the body may go on.
+    /// Gives the transport what fills the buffer. Where it took some of it, the body may go on.
     fn relieve(&mut self, cx: &mut Context<'_>) -> Turn<U::Error>
         requires begun { self.old.head ≡ None }
         requires full { 8192 ≤ length self.old.framed.unsent }
@@ -128,11 +128,11 @@ where
                 Turn::Goes
             }
             Poll::Ready(Ok(())) => Turn::Goes,
-            Poll::Ready(Err(Failed)) => Turn::Over(Err(SendError::Wire)),
+            Poll::Ready(Err(Failed)) => Turn::Over(Err(SendError::Transport)),
         }
     }
 
-    /// Gives the wire what is buffered, while the body is pending.
+    /// Gives the transport what is buffered, while the body is pending.
     fn wait(&mut self, cx: &mut Context<'_>) -> Turn<U::Error>
         requires begun { self.old.head ≡ None }
         requires armed { IsArmed cx.old }
@@ -143,7 +143,7 @@ where
         match self.framed.flush(cx) {
             Poll::Pending => Turn::Waits,
             Poll::Ready(Ok(())) => Turn::Waits,
-            Poll::Ready(Err(Failed)) => Turn::Over(Err(SendError::Wire)),
+            Poll::Ready(Err(Failed)) => Turn::Over(Err(SendError::Transport)),
         }
     }
 }

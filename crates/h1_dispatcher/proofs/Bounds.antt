@@ -31,7 +31,7 @@ use Rattle.h1_connection.specs.Ticks.{expiry_of}
 use Rattle.h1_connection.specs.declared.connection.heads.NextHead.{NextHead}
 use Rattle.h1_connection.specs.declared.connection.ticks.Expiry.{Expiry}
 use Rattle.h1_connection.specs.declared.connection.ticks.Expiry.TheVariants as expiries
-use Rattle.h1_traced.specs.Line.{LineView}
+use Rattle.h1_traced.specs.Traced.{TracedView}
 use Rattle.h1_dispatcher.specs.View.{View, Asking, Answer, Stage, free, waiting, calling, replying, sending as goes_out, is_unanswered as is_unanswered_at, is_asked, is_waiting, allows_next, has_write_room, buffered, view_begun}
 use Rattle.h1_dispatcher.specs.Steps.{Step, Goes, Wrote, Took, IsStep, IsRun, request_at, stage_at, stage_replied, stage_sent, ticked, drained, written, read, shut, next, closed, continued, ready, called, answered, pulled, paused, dropped, replied, sent, failed, failed_write, failed_read, failed_fed, failed_sent, asked_to_drain, asked_to_hold, declined, let_on, turned_away, refused}
 use Rattle.h1_dispatcher.specs.Traces.{IsNoted, AllNoted}
@@ -111,7 +111,7 @@ after_step set k later event out m = ap (λ (x : Kept). x.buffered) m.keeps
 -- no more bytes wait, and the settings are the same
 record Less (v w : View) : Type 0 where
   fewer : length (buffered w) ≤ length (buffered v)
-  settings : w.line.state.settings ≡ v.line.state.settings
+  settings : w.traced.state.settings ≡ v.traced.state.settings
 
 no_more : (a b : List ℕ) → a ≡ b → length a ≤ length b
 no_more a b is = omega (arith, ap (λ (l : List ℕ). length l) is)
@@ -122,51 +122,51 @@ still_room m n size fewer is = lt-ltb m size (omega (arith, fewer, ltb-true n si
 less_room : (v w : View) → Less v w → has_write_room v ≡ true → has_write_room w ≡ true
 less_room v w less is =
     ap (λ (s : Settings). nat_lt (length (buffered w)) s.h1_write_buffer_size) less.settings
-    ∙ still_room (length (buffered w)) (length (buffered v)) v.line.state.settings.h1_write_buffer_size less.fewer is
+    ∙ still_room (length (buffered w)) (length (buffered v)) v.traced.state.settings.h1_write_buffer_size less.fewer is
 
-line_less : (v w : View) → w.line ≡ v.line → Less v w
-line_less v w line = record {
-  fewer = no_more (buffered w) (buffered v) (ap (λ (l : LineView). l.state.kept.buffered) line);
-  settings = ap (λ (l : LineView). l.state.settings) line;
+traced_less : (v w : View) → w.traced ≡ v.traced → Less v w
+traced_less v w traced = record {
+  fewer = no_more (buffered w) (buffered v) (ap (λ (l : TracedView). l.state.kept.buffered) traced);
+  settings = ap (λ (l : TracedView). l.state.settings) traced;
 }
 
 -- after an event that adds no byte
-went : (v w : View) (event : on.Event) (Says : on.Outcome → Type 0) → Goes v.line event Says w.line
-    → ((out : on.Outcome) → Says out → (m : Machine (setting_of v.line.state.settings) v.line.state.kept event out w.line.state.kept)
-    → length m.change.kept.buffered ≤ length v.line.state.kept.buffered)
+went : (v w : View) (event : on.Event) (Says : on.Outcome → Type 0) → Goes v.traced event Says w.traced
+    → ((out : on.Outcome) → Says out → (m : Machine (setting_of v.traced.state.settings) v.traced.state.kept event out w.traced.state.kept)
+    → length m.change.kept.buffered ≤ length v.traced.state.kept.buffered)
     → IsTied v → Less v w
 went v w event Says goes so t =
     let x = goes.steps t.trace t.stands in
-    let later = no_more (buffered w) x.2.machine.change.kept.buffered (after_step (setting_of v.line.state.settings) v.line.state.kept w.line.state.kept event x.0 x.2.machine) in
+    let later = no_more (buffered w) x.2.machine.change.kept.buffered (after_step (setting_of v.traced.state.settings) v.traced.state.kept w.traced.state.kept event x.0 x.2.machine) in
     record { fewer = omega (arith, later, so x.0 x.1 x.2.machine); settings = goes.settings }
 
-same : (v w : View) (event : on.Event) (Says : on.Outcome → Type 0) → Goes v.line event Says w.line
-    → ((out : on.Outcome) → (m : Machine (setting_of v.line.state.settings) v.line.state.kept event out w.line.state.kept)
-    → m.change.kept.buffered ≡ v.line.state.kept.buffered)
+same : (v w : View) (event : on.Event) (Says : on.Outcome → Type 0) → Goes v.traced event Says w.traced
+    → ((out : on.Outcome) → (m : Machine (setting_of v.traced.state.settings) v.traced.state.kept event out w.traced.state.kept)
+    → m.change.kept.buffered ≡ v.traced.state.kept.buffered)
     → IsTied v → Less v w
-same v w event Says goes so t = went v w event Says goes (λ out says m. no_more m.change.kept.buffered v.line.state.kept.buffered (so out m)) t
+same v w event Says goes so t = went v w event Says goes (λ out says m. no_more m.change.kept.buffered v.traced.state.kept.buffered (so out m)) t
 
 shorter : (n : ℕ) (l : List ℕ) → length (drop n l) ≤ length l
 shorter n l = omega (arith, length-drop n l)
 
-wrote : (v w : View) (answer : Poll (Result ℕ Failed)) → Wrote v.line w.line answer → IsTied v → Less v w
+wrote : (v w : View) (answer : Poll (Result ℕ Failed)) → Wrote v.traced w.traced answer → IsTied v → Less v w
 wrote v w (Ready (Ok n)) goes t =
     went v w (on.write n) _ goes.1
-    (λ out says m. subst (λ (c : Change). length c.kept.buffered ≤ length v.line.state.kept.buffered) (sym m.changes) (shorter n v.line.state.kept.buffered)) t
-wrote v w (Ready (Err e)) line t = line_less v w line
-wrote v w Pending line t = line_less v w line
+    (λ out says m. subst (λ (c : Change). length c.kept.buffered ≤ length v.traced.state.kept.buffered) (sym m.changes) (shorter n v.traced.state.kept.buffered)) t
+wrote v w (Ready (Err e)) traced t = traced_less v w traced
+wrote v w Pending traced t = traced_less v w traced
 
-took : (v w : View) (came : List ℕ) (answer : Poll (Result ℕ Failed)) → Took v.line w.line came answer → IsTied v → Less v w
+took : (v w : View) (came : List ℕ) (answer : Poll (Result ℕ Failed)) → Took v.traced w.traced came answer → IsTied v → Less v w
 took v w came (Ready (Ok n)) (inl end) t =
-    let k = v.line.state.kept in
+    let k = v.traced.state.kept in
     same v w on.eof (Is on.done) end.1
     (λ out m. by_change k.buffered m.change _ m.changes (passing_leaves (record k { has_ended = true; exchange = exchange_at_end k.unread k.exchange }))) t
 took v w came (Ready (Ok n)) (inr some) t =
-    let k = v.line.state.kept in
+    let k = v.traced.state.kept in
     same v w (on.read came) _ some.1.1
-    (λ out m. by_change k.buffered m.change (reading (setting_of v.line.state.settings) came k) m.changes (passing_leaves _)) t
-took v w came (Ready (Err e)) line t = line_less v w line
-took v w came Pending line t = line_less v w line
+    (λ out m. by_change k.buffered m.change (reading (setting_of v.traced.state.settings) came k) m.changes (passing_leaves _)) t
+took v w came (Ready (Err e)) traced t = traced_less v w traced
+took v w came Pending traced t = traced_less v w traced
 
 -- ---- steps
 
@@ -220,19 +220,19 @@ expired moment expiries.None is = absurd (cc is)
 expired moment (expiries.Expired end) is = tt
 expired moment expiries.Abandoned is = absurd (cc is)
 
-ticked_holds : (v w : View) (moment : ℕ) (expiry : Expiry) → Goes v.line (on.tick moment) (Is (expiry_of expiry)) w.line → w.stage ≡ v.stage → HasRoomForAnswer v
+ticked_holds : (v w : View) (moment : ℕ) (expiry : Expiry) → Goes v.traced (on.tick moment) (Is (expiry_of expiry)) w.traced → w.stage ≡ v.stage → HasRoomForAnswer v
     → Holds v (ticked moment expiry) w
 ticked_holds v w moment expiry goes stage h =
     let x = goes.steps h.tied.trace h.tied.stands in
-    let k = v.line.state.kept in
-    let later = after_step (setting_of v.line.state.settings) k w.line.state.kept (on.tick moment) x.0 x.2.machine in
-    by_tick x.2.machine.change later (ap (λ (y : Kept). is_some y.failed) x.2.machine.keeps) (sym x.1 ∙ x.2.machine.answers) (ticks (setting_of v.line.state.settings) k (closing_by (setting_of v.line.state.settings) k) moment x.2.machine.change x.2.machine.changes)
+    let k = v.traced.state.kept in
+    let later = after_step (setting_of v.traced.state.settings) k w.traced.state.kept (on.tick moment) x.0 x.2.machine in
+    by_tick x.2.machine.change later (ap (λ (y : Kept). is_some y.failed) x.2.machine.keeps) (sym x.1 ∙ x.2.machine.answers) (ticks (setting_of v.traced.state.settings) k (closing_by (setting_of v.traced.state.settings) k) moment x.2.machine.change x.2.machine.changes)
   where
-    by_tick : (c : Change) → buffered w ≡ c.kept.buffered → is_some w.line.state.kept.failed ≡ is_some c.kept.failed → expiry_of expiry ≡ c.outcome → Ticked v.line.state.kept c → Holds v (ticked moment expiry) w
+    by_tick : (c : Change) → buffered w ≡ c.kept.buffered → is_some w.traced.state.kept.failed ≡ is_some c.kept.failed → expiry_of expiry ≡ c.outcome → Ticked v.traced.state.kept c → Holds v (ticked moment expiry) w
     by_tick c later fails is (inl same_bytes) =
         as_far v w (ticked moment expiry) (record { fewer = no_more (buffered w) (buffered v) (later ∙ same_bytes); settings = goes.settings }) stage h
     by_tick c later fails is (inr slow) = record {
-      grows = inr (inr (expired moment expiry (is ∙ slow.0), closes_so (setting_of w.line.state.settings) w.line.state.kept (fails ∙ slow.2)));
+      grows = inr (inr (expired moment expiry (is ∙ slow.0), closes_so (setting_of w.traced.state.settings) w.traced.state.kept (fails ∙ slow.2)));
       room = λ asks. clash (sym (asked_open w.stage asks) ∙ ap is_unanswered_at stage ∙ sym h.tied.tied ∙ slow.1);
     }
 
@@ -249,53 +249,53 @@ none_asked None = refl
 none_asked (Some request) = refl
 
 -- an upgrade that is refused writes nothing
-refused_less : (v w : View) (limit : ℕ) (error : HandshakeError) → Goes v.line (on.accept limit) (Is (on.refused error)) w.line → IsTied v → Less v w
+refused_less : (v w : View) (limit : ℕ) (error : HandshakeError) → Goes v.traced (on.accept limit) (Is (on.refused error)) w.traced → IsTied v → Less v w
 refused_less v w limit error goes t =
     went v w (on.accept limit) (Is (on.refused error)) goes
-    (λ out says m. no_more m.change.kept.buffered v.line.state.kept.buffered
-    (ap (λ (k : Kept). k.buffered) (refused_keeps (setting_of v.line.state.settings) v.line.state.kept w.line.state.kept limit error out says m))) t
+    (λ out says m. no_more m.change.kept.buffered v.traced.state.kept.buffered
+    (ap (λ (k : Kept). k.buffered) (refused_keeps (setting_of v.traced.state.settings) v.traced.state.kept w.traced.state.kept limit error out says m))) t
 
 step_holds : (v w : View) (d : Step) → IsNoted d → IsStep v d w → HasRoomForAnswer v → Holds v d w
 step_holds v w (ticked moment expiry) noted is h = ticked_holds v w moment expiry is.0 (ap (λ (x : View). x.stage) is.1) h
 step_holds v w drained noted is h =
-    as_far v w drained (same v w on.drain (Is on.done) is.0 (λ out m. by_change v.line.state.kept.buffered m.change _ m.changes refl) h.tied) (ap (λ (x : View). x.stage) is.1) h
+    as_far v w drained (same v w on.drain (Is on.done) is.0 (λ out m. by_change v.traced.state.kept.buffered m.change _ m.changes refl) h.tied) (ap (λ (x : View). x.stage) is.1) h
 step_holds v w (written answer) noted is h = as_far v w (written answer) (wrote v w answer is.3 h.tied) (ap (λ (x : View). x.stage) is.4) h
 step_holds v w (read came answer) noted is h = as_far v w (read came answer) (took v w came answer is.3 h.tied) (ap (λ (x : View). x.stage) is.4) h
-step_holds v w (shut answer) noted is h = as_far v w (shut answer) (line_less v w (ap (λ (x : View). x.line) is.2)) (ap (λ (x : View). x.stage) is.2) h
+step_holds v w (shut answer) noted is h = as_far v w (shut answer) (traced_less v w (ap (λ (x : View). x.traced) is.2)) (ap (λ (x : View). x.stage) is.2) h
 step_holds v w (next head) noted is h = none_has_it v w (next head) (asks_in_room v w head is) (ap (λ (x : View). is_asked x.stage) is.4 ∙ none_asked (request_at head))
 step_holds v w (closed end) noted is h =
-    let set = setting_of v.line.state.settings in
-    let k = v.line.state.kept in
+    let set = setting_of v.traced.state.settings in
+    let k = v.traced.state.kept in
     as_far v w (closed end) (same v w on.next (SaysNext is.3.0) is.3.1 (λ out m. ends_so set k (closing_by set k) (end_of end) m.change is.1 m.changes) h.tied) (ap (λ (x : View). x.stage) is.4) h
 step_holds v w continued noted is h = none_has_it v w continued is.0.2 (ap (λ (x : View). is_asked x.stage) is.3 ∙ not_yet v.stage is.0.1)
-step_holds v w (ready request answer) noted is h = in_room v w (ready request answer) (line_less v w (ap (λ (x : View). x.line) is.3)) is.0.3
-step_holds v w (called request) noted is h = in_room v w (called request) (line_less v w (ap (λ (x : View). x.line) is.2.2)) is.0.3
+step_holds v w (ready request answer) noted is h = in_room v w (ready request answer) (traced_less v w (ap (λ (x : View). x.traced) is.3)) is.0.3
+step_holds v w (called request) noted is h = in_room v w (called request) (traced_less v w (ap (λ (x : View). x.traced) is.2.2)) is.0.3
 step_holds v w (answered answer) noted is h =
-    fewer_wait v w (answered answer) (line_less v w (ap (λ (x : View). x.line) is.same)) (λ asks. ap is_asked is.calls) h
+    fewer_wait v w (answered answer) (traced_less v w (ap (λ (x : View). x.traced) is.same)) (λ asks. ap is_asked is.calls) h
 step_holds v w (pulled piece) noted is h =
     as_far v w (pulled piece)
-    (same v w on.pull (SaysPulled piece) is.1 (λ out m. pull_leaves v.line.state.kept v.line.state.kept.exchange m.change m.changes) h.tied)
+    (same v w on.pull (SaysPulled piece) is.1 (λ out m. pull_leaves v.traced.state.kept v.traced.state.kept.exchange m.change m.changes) h.tied)
     (ap (λ (x : View). x.stage) is.2) h
-step_holds v w paused noted is h = as_far v w paused (line_less v w (ap (λ (x : View). x.line) is.4)) (ap (λ (x : View). x.stage) is.4) h
+step_holds v w paused noted is h = as_far v w paused (traced_less v w (ap (λ (x : View). x.traced) is.4)) (ap (λ (x : View). x.stage) is.4) h
 step_holds v w dropped noted is h =
     as_far v w dropped
-    (same v w on.drop_body (Is on.done) is.2 (λ out m. by_change v.line.state.kept.buffered m.change _ m.changes (drop_leaves v.line.state.kept v.line.state.kept.exchange)) h.tied)
+    (same v w on.drop_body (Is on.done) is.2 (λ out m. by_change v.traced.state.kept.buffered m.change _ m.changes (drop_leaves v.traced.state.kept v.traced.state.kept.exchange)) h.tied)
     (ap (λ (x : View). x.stage) is.3) h
 step_holds v w (replied answer) noted is h =
     none_has_it v w (replied answer) (h.room (ap is_asked is.1)) (ap (λ (x : View). is_asked x.stage) is.3 ∙ replied_so answer.body answer.body.size)
 step_holds v w (sent piece) noted is h =
-    none_has_it v w (sent piece) (leaves_room (setting_of v.line.state.settings) v.line.state.kept is.1.allowed)
+    none_has_it v w (sent piece) (leaves_room (setting_of v.traced.state.settings) v.traced.state.kept is.1.allowed)
     (ap (λ (x : View). is_asked x.stage) is.3 ∙ sent_so is.0 piece)
 step_holds v w (failed event) noted is h = absurd noted
 step_holds v w (failed_write count) noted is h = absurd noted
 step_holds v w (failed_read came event) noted is h = absurd noted
 step_holds v w (failed_fed bytes) noted is h = absurd noted
 step_holds v w (failed_sent piece) noted is h = absurd noted
-step_holds v w asked_to_drain noted is h = as_far v w asked_to_drain (line_less v w (ap (λ (x : View). x.line) is)) (ap (λ (x : View). x.stage) is) h
-step_holds v w (asked_to_hold upgrades expects) noted is h = as_far v w (asked_to_hold upgrades expects) (line_less v w (ap (λ (x : View). x.line) is)) (ap (λ (x : View). x.stage) is) h
-step_holds v w declined noted is h = as_far v w declined (line_less v w (ap (λ (x : View). x.line) is)) (ap (λ (x : View). x.stage) is) h
-step_holds v w let_on noted is h = as_far v w let_on (line_less v w (ap (λ (x : View). x.line) is)) (ap (λ (x : View). x.stage) is) h
-step_holds v w (turned_away request answer) noted is h = in_room v w (turned_away request answer) (line_less v w (ap (λ (x : View). x.line) is.2)) (refuses_in_room v is.0)
+step_holds v w asked_to_drain noted is h = as_far v w asked_to_drain (traced_less v w (ap (λ (x : View). x.traced) is)) (ap (λ (x : View). x.stage) is) h
+step_holds v w (asked_to_hold upgrades expects) noted is h = as_far v w (asked_to_hold upgrades expects) (traced_less v w (ap (λ (x : View). x.traced) is)) (ap (λ (x : View). x.stage) is) h
+step_holds v w declined noted is h = as_far v w declined (traced_less v w (ap (λ (x : View). x.traced) is)) (ap (λ (x : View). x.stage) is) h
+step_holds v w let_on noted is h = as_far v w let_on (traced_less v w (ap (λ (x : View). x.traced) is)) (ap (λ (x : View). x.stage) is) h
+step_holds v w (turned_away request answer) noted is h = in_room v w (turned_away request answer) (traced_less v w (ap (λ (x : View). x.traced) is.2)) (refuses_in_room v is.0)
 step_holds v w (refused limit error) noted is h = as_far v w (refused limit error) (refused_less v w limit error is.1 h.tied) (ap (λ (x : View). x.stage) is.2) h
 
 -- ---- runs
@@ -309,8 +309,8 @@ run_holds v w (d ∷ steps) noted is h =
 pub run_grows : (v u w : View) (steps : List Step) (step : Step) → AllNoted steps → IsNoted step → HasRoomForAnswer v → IsRun v steps u → IsStep u step w → GrowsInRoom u step w
 run_grows v u w steps step all one h run is = (step_holds u w step one is (run_holds v u steps all run h)).grows
 
-pub begun_room : (wire : Wiring) (service : Serving Asking Answer Answer) (settings : Settings) → HasRoomForAnswer (view_begun wire service settings None)
-begun_room wire service settings = record { tied = begun_tied wire service settings; room = λ asks. absurd (cc asks) }
+pub begun_room : (transport : Wiring) (service : Serving Asking Answer Answer) (settings : Settings) → HasRoomForAnswer (view_begun transport service settings None)
+begun_room transport service settings = record { tied = begun_tied transport service settings; room = λ asks. absurd (cc asks) }
 
-pub begun_room_noted : (wire : Wiring) (service : Serving Asking Answer Answer) (settings : Settings) → HasRoomForAnswer (view_begun wire service settings (Some []))
-begun_room_noted wire service settings = record { tied = begun_tied_noted wire service settings; room = λ asks. absurd (cc asks) }
+pub begun_room_noted : (transport : Wiring) (service : Serving Asking Answer Answer) (settings : Settings) → HasRoomForAnswer (view_begun transport service settings (Some []))
+begun_room_noted transport service settings = record { tied = begun_tied_noted transport service settings; room = λ asks. absurd (cc asks) }

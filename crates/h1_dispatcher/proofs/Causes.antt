@@ -17,7 +17,7 @@ use Rattle.h1_dispatcher.specs.Steps.{Step, IsStep, IsRun, ticked, drained, writ
 use Rattle.h1_dispatcher.specs.Polls.{EndsWith, IsShut, IsIo, Ended, result_of, Ticks, Drains, IsBegun, BeginFails, PollRuns, PollSays}
 use Rattle.h1_dispatcher.specs.Causes.{HasClosed, HasCause}
 
--- ---- the wire's count never falls
+-- ---- the transport's count never falls
 
 caused : {A E : Type 0} (before now : ℕ) (answer : Poll (Result A E)) → Caused before now answer → before ≤ now
 caused before now (Ready (Ok x)) is = is
@@ -28,45 +28,45 @@ same_count : (m n : ℕ) → n ≡ m → m ≤ n
 same_count m n is = omega (arith, is)
 
 abbrev Counts : View → View → Type 0
-Counts v w = v.wire.faults ≤ w.wire.faults
+Counts v w = v.transport.faults ≤ w.transport.faults
 
-stays : (v w : View) → w.wire.faults ≡ v.wire.faults → Counts v w
-stays v w is = same_count v.wire.faults w.wire.faults is
+stays : (v w : View) → w.transport.faults ≡ v.transport.faults → Counts v w
+stays v w is = same_count v.transport.faults w.transport.faults is
 
 step_counts : (v w : View) (d : Step) → IsStep v d w → Counts v w
-step_counts v w (ticked moment expiry) is = stays v w (ap (λ (x : View). x.wire.faults) is.1)
-step_counts v w drained is = stays v w (ap (λ (x : View). x.wire.faults) is.1)
-step_counts v w (written answer) is = caused v.wire.faults w.wire.faults answer is.2.faults
-step_counts v w (read came answer) is = caused v.wire.faults w.wire.faults answer is.2.4.faults
-step_counts v w (shut answer) is = caused v.wire.faults w.wire.faults answer is.1.faults
-step_counts v w (next head) is = stays v w (ap (λ (x : View). x.wire.faults) is.4)
-step_counts v w (closed end) is = stays v w (ap (λ (x : View). x.wire.faults) is.4)
-step_counts v w continued is = stays v w (ap (λ (x : View). x.wire.faults) is.3)
-step_counts v w (ready request answer) is = stays v w (ap (λ (x : View). x.wire.faults) is.3)
-step_counts v w (called request) is = stays v w (ap (λ (x : View). x.wire.faults) is.2.2)
-step_counts v w (answered answer) is = stays v w (ap (λ (x : View). x.wire.faults) is.same)
-step_counts v w (pulled piece) is = stays v w (ap (λ (x : View). x.wire.faults) is.2)
-step_counts v w paused is = stays v w (ap (λ (x : View). x.wire.faults) is.4)
-step_counts v w dropped is = stays v w (ap (λ (x : View). x.wire.faults) is.3)
-step_counts v w (replied answer) is = stays v w (ap (λ (x : View). x.wire.faults) is.3)
-step_counts v w (sent piece) is = stays v w (ap (λ (x : View). x.wire.faults) is.3)
-step_counts v w (failed event) is = stays v w (ap (λ (x : View). x.wire.faults) is.2)
+step_counts v w (ticked moment expiry) is = stays v w (ap (λ (x : View). x.transport.faults) is.1)
+step_counts v w drained is = stays v w (ap (λ (x : View). x.transport.faults) is.1)
+step_counts v w (written answer) is = caused v.transport.faults w.transport.faults answer is.2.faults
+step_counts v w (read came answer) is = caused v.transport.faults w.transport.faults answer is.2.4.faults
+step_counts v w (shut answer) is = caused v.transport.faults w.transport.faults answer is.1.faults
+step_counts v w (next head) is = stays v w (ap (λ (x : View). x.transport.faults) is.4)
+step_counts v w (closed end) is = stays v w (ap (λ (x : View). x.transport.faults) is.4)
+step_counts v w continued is = stays v w (ap (λ (x : View). x.transport.faults) is.3)
+step_counts v w (ready request answer) is = stays v w (ap (λ (x : View). x.transport.faults) is.3)
+step_counts v w (called request) is = stays v w (ap (λ (x : View). x.transport.faults) is.2.2)
+step_counts v w (answered answer) is = stays v w (ap (λ (x : View). x.transport.faults) is.same)
+step_counts v w (pulled piece) is = stays v w (ap (λ (x : View). x.transport.faults) is.2)
+step_counts v w paused is = stays v w (ap (λ (x : View). x.transport.faults) is.4)
+step_counts v w dropped is = stays v w (ap (λ (x : View). x.transport.faults) is.3)
+step_counts v w (replied answer) is = stays v w (ap (λ (x : View). x.transport.faults) is.3)
+step_counts v w (sent piece) is = stays v w (ap (λ (x : View). x.transport.faults) is.3)
+step_counts v w (failed event) is = stays v w (ap (λ (x : View). x.transport.faults) is.2)
 step_counts v w (failed_write count) is = is.2.faults
 step_counts v w (failed_read came event) is = is.2.5.faults
-step_counts v w (failed_fed bytes) is = stays v w (ap (λ (x : View). x.wire.faults) is.2)
-step_counts v w (failed_sent piece) is = stays v w (ap (λ (x : View). x.wire.faults) is.3)
-step_counts v w asked_to_drain is = stays v w (ap (λ (x : View). x.wire.faults) is)
-step_counts v w (asked_to_hold upgrades expects) is = stays v w (ap (λ (x : View). x.wire.faults) is)
-step_counts v w declined is = stays v w (ap (λ (x : View). x.wire.faults) is)
-step_counts v w let_on is = stays v w (ap (λ (x : View). x.wire.faults) is)
-step_counts v w (turned_away request answer) is = stays v w (ap (λ (x : View). x.wire.faults) is.2)
-step_counts v w (refused limit error) is = stays v w (ap (λ (x : View). x.wire.faults) is.2)
+step_counts v w (failed_fed bytes) is = stays v w (ap (λ (x : View). x.transport.faults) is.2)
+step_counts v w (failed_sent piece) is = stays v w (ap (λ (x : View). x.transport.faults) is.3)
+step_counts v w asked_to_drain is = stays v w (ap (λ (x : View). x.transport.faults) is)
+step_counts v w (asked_to_hold upgrades expects) is = stays v w (ap (λ (x : View). x.transport.faults) is)
+step_counts v w declined is = stays v w (ap (λ (x : View). x.transport.faults) is)
+step_counts v w let_on is = stays v w (ap (λ (x : View). x.transport.faults) is)
+step_counts v w (turned_away request answer) is = stays v w (ap (λ (x : View). x.transport.faults) is.2)
+step_counts v w (refused limit error) is = stays v w (ap (λ (x : View). x.transport.faults) is.2)
 
 more_counts : (v u w : View) → Counts v u → Counts u w → Counts v w
 more_counts v u w first then = omega (arith, first, then)
 
 run_counts : (v w : View) (steps : List Step) → IsRun v steps w → Counts v w
-run_counts v w [] is = stays v w (ap (λ (x : View). x.wire.faults) is)
+run_counts v w [] is = stays v w (ap (λ (x : View). x.transport.faults) is)
 run_counts v w (d ∷ steps) is = more_counts v is.0 w (step_counts v is.0 d is.1) (run_counts is.0 w steps is.2)
 
 -- ---- the last step
@@ -111,13 +111,13 @@ shut_has v u w steps result run is =
 io_has : (v u w : View) (steps : List Step) → Counts v u → IsRun u steps w → IsIo steps → HasCause v w (Err error.Io)
 io_has v u w steps before run (failure, inl wrote) =
     let l = ends_last u w steps (written (Ready (Err failure))) run wrote in
-    rose_since v.wire.faults l.before.wire.faults w.wire.faults (more_counts v u l.before before l.counts) l.step.2.faults.1
+    rose_since v.transport.faults l.before.transport.faults w.transport.faults (more_counts v u l.before before l.counts) l.step.2.faults.1
 io_has v u w steps before run (failure, inr (inl reads)) =
     let l = ends_last u w steps (read reads.0 (Ready (Err failure))) run reads.1 in
-    rose_since v.wire.faults l.before.wire.faults w.wire.faults (more_counts v u l.before before l.counts) l.step.2.4.faults.1
+    rose_since v.transport.faults l.before.transport.faults w.transport.faults (more_counts v u l.before before l.counts) l.step.2.4.faults.1
 io_has v u w steps before run (failure, inr (inr shuts)) =
     let l = ends_last u w steps (shut (Ready (Err failure))) run shuts in
-    rose_since v.wire.faults l.before.wire.faults w.wire.faults (more_counts v u l.before before l.counts) l.step.1.faults.1
+    rose_since v.transport.faults l.before.transport.faults w.transport.faults (more_counts v u l.before before l.counts) l.step.1.faults.1
 
 ended_has : (v u w : View) (steps : List Step) (result : Result Unit DispatchError) → Counts v u → IsRun u steps w → Ended w steps result → HasCause v w result
 ended_has v u w steps (Ok x) before run is = shut_has v u w steps (Ok tt) run is
@@ -136,11 +136,11 @@ ended_has v u w steps (Err error.InternalError) before run is = absurd is
 -- ---- a poll
 
 ticks_count : (v w : View) (moment : ℕ) → Ticks v moment w → Counts v w
-ticks_count v w moment (inl is) = stays v w (ap (λ (x : View). x.wire.faults) is.1)
+ticks_count v w moment (inl is) = stays v w (ap (λ (x : View). x.transport.faults) is.1)
 ticks_count v w moment (inr is) = step_counts v w (ticked moment is.1.0) is.1.1
 
 drains_count : (v w : View) → Drains v w → Counts v w
-drains_count v w (inl is) = stays v w (ap (λ (x : View). x.wire.faults) is.1)
+drains_count v w (inl is) = stays v w (ap (λ (x : View). x.transport.faults) is.1)
 drains_count v w (inr is) = step_counts v w drained is.2
 
 begun_count : (v w : View) (moment : ℕ) → IsBegun v moment w → Counts v w

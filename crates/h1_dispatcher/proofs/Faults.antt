@@ -20,7 +20,7 @@ use Rattle.h1_connection.specs.Heads.{SaysNext}
 use Rattle.h1_connection.specs.Meaning.{setting_of, end_of}
 use Rattle.h1_connection.specs.State.{Is}
 use Rattle.h1_connection.specs.Ticks.{expiry_of}
-use Rattle.h1_traced.specs.Line.{LineView, LineStands}
+use Rattle.h1_traced.specs.Traced.{TracedView, TracedStands}
 use Rattle.h1_dispatcher.specs.View.{View, sending, is_sending, is_waiting, is_awaiting, is_replying, closes, allows, allows_answer, awaits_body}
 use Rattle.h1_dispatcher.specs.Steps.{Step, Goes, Wrote, IsStep, IsRun, ticked, drained, written, read, shut, next, closed, continued, ready, called, answered, pulled, paused, dropped, replied, sent, failed, failed_write, failed_read, failed_fed, failed_sent, asked_to_drain, asked_to_hold, declined, let_on, turned_away, refused}
 use Rattle.h1_dispatcher.specs.Traces.{IsNoted, AllNoted}
@@ -75,23 +75,23 @@ ends_so set k None end c closes is fails = absurd (cc closes)
 -- the body that goes out has failed
 record HasFailed (v : View) : Type 0 where
   trace : List sums.Step
-  stands : LineStands v.line trace
-  fails : is_some v.line.state.kept.failed ≡ true
+  stands : TracedStands v.traced trace
+  fails : is_some v.traced.state.kept.failed ≡ true
   body : Giving
   stage : v.stage ≡ sending body
 
-still : (v w : View) → w.line ≡ v.line → w.stage ≡ v.stage → HasFailed v → HasFailed w
-still v w line stage f = record {
+still : (v w : View) → w.traced ≡ v.traced → w.stage ≡ v.stage → HasFailed v → HasFailed w
+still v w traced stage f = record {
   trace = f.trace;
-  stands = subst (λ (l : LineView). LineStands l f.trace) (sym line) f.stands;
-  fails = ap (λ (l : LineView). is_some l.state.kept.failed) line ∙ f.fails;
+  stands = subst (λ (l : TracedView). TracedStands l f.trace) (sym traced) f.stands;
+  fails = ap (λ (l : TracedView). is_some l.state.kept.failed) traced ∙ f.fails;
   body = f.body;
   stage = stage ∙ f.stage;
 }
 
 -- an event came after this trace
-went : (v w : View) (event : on.Event) (Says : on.Outcome → Type 0) (trace : List sums.Step) (body : Giving) → LineStands v.line trace → Goes v.line event Says w.line → w.stage ≡ sending body
-    → ((out : on.Outcome) → (m : Machine (setting_of v.line.state.settings) v.line.state.kept event out w.line.state.kept) → is_some m.change.kept.failed ≡ true)
+went : (v w : View) (event : on.Event) (Says : on.Outcome → Type 0) (trace : List sums.Step) (body : Giving) → TracedStands v.traced trace → Goes v.traced event Says w.traced → w.stage ≡ sending body
+    → ((out : on.Outcome) → (m : Machine (setting_of v.traced.state.settings) v.traced.state.kept event out w.traced.state.kept) → is_some m.change.kept.failed ≡ true)
     → HasFailed w
 went v w event Says trace body stands goes stage so =
     let x = goes.steps trace stands in
@@ -104,18 +104,18 @@ went v w event Says trace body stands goes stage so =
       stage = stage;
     }
 
-goes_on : (v w : View) (event : on.Event) (Says : on.Outcome → Type 0) → Goes v.line event Says w.line → w.stage ≡ v.stage
-    → ((out : on.Outcome) → (m : Machine (setting_of v.line.state.settings) v.line.state.kept event out w.line.state.kept) → is_some m.change.kept.failed ≡ true)
+goes_on : (v w : View) (event : on.Event) (Says : on.Outcome → Type 0) → Goes v.traced event Says w.traced → w.stage ≡ v.stage
+    → ((out : on.Outcome) → (m : Machine (setting_of v.traced.state.settings) v.traced.state.kept event out w.traced.state.kept) → is_some m.change.kept.failed ≡ true)
     → HasFailed v → HasFailed w
 goes_on v w event Says goes stage so f = went v w event Says f.trace f.body f.stands goes (stage ∙ f.stage) so
 
-wrote : (v w : View) (answer : Poll (Result ℕ Failed)) → Wrote v.line w.line answer → w.stage ≡ v.stage → HasFailed v → HasFailed w
+wrote : (v w : View) (answer : Poll (Result ℕ Failed)) → Wrote v.traced w.traced answer → w.stage ≡ v.stage → HasFailed v → HasFailed w
 wrote v w (Ready (Ok n)) goes stage f = goes_on v w (on.write n) _ goes.1 stage (λ out m. by_change _ _ m.changes f.fails) f
-wrote v w (Ready (Err e)) line stage f = still v w line stage f
-wrote v w Pending line stage f = still v w line stage f
+wrote v w (Ready (Err e)) traced stage f = still v w traced stage f
+wrote v w Pending traced stage f = still v w traced stage f
 
 closes_now : (v : View) → HasFailed v → closes v ≡ true
-closes_now v f = closes_so (setting_of v.line.state.settings) v.line.state.kept f.fails
+closes_now v f = closes_so (setting_of v.traced.state.settings) v.traced.state.kept f.fails
 
 -- no more of a request's body comes while the body of its answer goes out
 not_awaited : (v : View) (body : Giving) → v.stage ≡ sending body → awaits_body v ≡ true → ⊥
@@ -125,18 +125,18 @@ step_ends : (v w : View) (d : Step) → IsNoted d → IsStep v d w → HasFailed
 step_ends v w (ticked moment expiry) noted is f = (
   tt,
   goes_on v w (on.tick moment) (Is (expiry_of expiry)) is.0 (ap (λ (x : View). x.stage) is.1)
-      (λ out m. by_change _ (ticking (setting_of v.line.state.settings) v.line.state.kept (closing_by (setting_of v.line.state.settings) v.line.state.kept) moment) m.changes
-      (expires (setting_of v.line.state.settings) v.line.state.kept (closing_by (setting_of v.line.state.settings) v.line.state.kept) _ moment f.fails)) f,
+      (λ out m. by_change _ (ticking (setting_of v.traced.state.settings) v.traced.state.kept (closing_by (setting_of v.traced.state.settings) v.traced.state.kept) moment) m.changes
+      (expires (setting_of v.traced.state.settings) v.traced.state.kept (closing_by (setting_of v.traced.state.settings) v.traced.state.kept) _ moment f.fails)) f,
 )
 step_ends v w drained noted is f = (tt, goes_on v w on.drain (Is on.done) is.0 (ap (λ (x : View). x.stage) is.1) (λ out m. by_change _ _ m.changes f.fails) f)
 step_ends v w (written answer) noted is f = (tt, wrote v w answer is.3 (ap (λ (x : View). x.stage) is.4) f)
-step_ends v w (read came answer) noted is f = absurd (no_read (setting_of v.line.state.settings) v.line.state.kept (closes_now v f) is.1)
-step_ends v w (shut answer) noted is f = (tt, still v w (ap (λ (x : View). x.line) is.2) (ap (λ (x : View). x.stage) is.2) f)
+step_ends v w (read came answer) noted is f = absurd (no_read (setting_of v.traced.state.settings) v.traced.state.kept (closes_now v f) is.1)
+step_ends v w (shut answer) noted is f = (tt, still v w (ap (λ (x : View). x.traced) is.2) (ap (λ (x : View). x.stage) is.2) f)
 step_ends v w (next head) noted is f = clash (ap is_sending (sym f.stage ∙ is.1))
 step_ends v w (closed end) noted is f = (
   tt,
   goes_on v w on.next (SaysNext is.3.0) is.3.1 (ap (λ (x : View). x.stage) is.4)
-      (λ out m. ends_so (setting_of v.line.state.settings) v.line.state.kept (closing_by (setting_of v.line.state.settings) v.line.state.kept) (end_of end) m.change is.1 m.changes f.fails) f,
+      (λ out m. ends_so (setting_of v.traced.state.settings) v.traced.state.kept (closing_by (setting_of v.traced.state.settings) v.traced.state.kept) (end_of end) m.change is.1 m.changes f.fails) f,
 )
 step_ends v w continued noted is f = clash (sym (sym (ap is_waiting f.stage) ∙ is.0.1))
 step_ends v w (ready request answer) noted is f = clash (ap is_sending (sym f.stage ∙ is.0.1))
@@ -146,16 +146,16 @@ step_ends v w (pulled piece) noted is f = absurd (not_awaited v f.body f.stage i
 step_ends v w paused noted is f = absurd (not_awaited v f.body f.stage is.1)
 step_ends v w dropped noted is f = clash (sym (sym (ap is_replying f.stage) ∙ is.1))
 step_ends v w (replied answer) noted is f = clash (ap is_sending (sym f.stage ∙ is.1))
-step_ends v w (sent piece) noted is f = absurd (no_piece (setting_of v.line.state.settings) v.line.state.kept (closes_now v f) is.1.allowed)
+step_ends v w (sent piece) noted is f = absurd (no_piece (setting_of v.traced.state.settings) v.traced.state.kept (closes_now v f) is.1.allowed)
 step_ends v w (failed event) noted is f = absurd noted
 step_ends v w (failed_write count) noted is f = absurd noted
 step_ends v w (failed_read came event) noted is f = absurd noted
 step_ends v w (failed_fed bytes) noted is f = absurd noted
 step_ends v w (failed_sent piece) noted is f = absurd noted
-step_ends v w asked_to_drain noted is f = (tt, still v w (ap (λ (x : View). x.line) is) (ap (λ (x : View). x.stage) is) f)
-step_ends v w (asked_to_hold upgrades expects) noted is f = (tt, still v w (ap (λ (x : View). x.line) is) (ap (λ (x : View). x.stage) is) f)
-step_ends v w declined noted is f = (tt, still v w (ap (λ (x : View). x.line) is) (ap (λ (x : View). x.stage) is) f)
-step_ends v w let_on noted is f = (tt, still v w (ap (λ (x : View). x.line) is) (ap (λ (x : View). x.stage) is) f)
+step_ends v w asked_to_drain noted is f = (tt, still v w (ap (λ (x : View). x.traced) is) (ap (λ (x : View). x.stage) is) f)
+step_ends v w (asked_to_hold upgrades expects) noted is f = (tt, still v w (ap (λ (x : View). x.traced) is) (ap (λ (x : View). x.stage) is) f)
+step_ends v w declined noted is f = (tt, still v w (ap (λ (x : View). x.traced) is) (ap (λ (x : View). x.stage) is) f)
+step_ends v w let_on noted is f = (tt, still v w (ap (λ (x : View). x.traced) is) (ap (λ (x : View). x.stage) is) f)
 step_ends v w (turned_away request answer) noted is f = clash (ap is_sending (sym f.stage ∙ is.1))
 step_ends v w (refused limit error) noted is f = clash (sym (sym (ap is_waiting f.stage) ∙ accepts_waits v limit is.0))
 
@@ -167,7 +167,7 @@ run_ends v w [] noted is f = record { closing = ap closes is ∙ closes_now v f;
 run_ends v w (d ∷ steps) noted is f = ends_on v is.0 w d steps (step_ends v is.0 d noted.0 is.1 f) (λ later. run_ends is.0 w steps noted.1 is.2 later)
 
 -- and so it is from a fault on
-pub fault_ends : (v w : View) (number : ℕ) (steps : List Step) (trace : List sums.Step) → LineStands v.line trace → AllNoted steps
+pub fault_ends : (v w : View) (number : ℕ) (steps : List Step) (trace : List sums.Step) → TracedStands v.traced trace → AllNoted steps
     → IsRun v (sent (Ready (Some (Err (Body number)))) ∷ steps) w → OnlyEnds steps w
 fault_ends v w number steps trace stands noted is =
     run_ends is.0 w steps noted is.2

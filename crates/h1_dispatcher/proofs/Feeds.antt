@@ -28,7 +28,7 @@ use Rattle.h1_payload.specs.declared.pulled.Pulled.TheVariants as pieces
 use Rattle.h1_connection.specs.Meaning.{setting_of}
 use Rattle.h1_connection.specs.declared.connection.heads.NextHead.{NextHead}
 use Rattle.h1_connection.specs.declared.connection.heads.NextHead.TheVariants as next_head
-use Rattle.h1_traced.specs.Line.{LineView, LineStands}
+use Rattle.h1_traced.specs.Traced.{TracedView, TracedStands}
 use Rattle.h1_dispatcher.specs.View.{View, Asking, Answer, Stage, free, waiting, calling, replying, sending}
 use Rattle.h1_dispatcher.specs.Steps.{Step, Goes, Wrote, Took, Sent, IsStep, IsRun, error_of, fed_with, queue_at, request_at, stage_at, stage_asked, stage_answered, stage_replied, stage_sent, ticked, drained, written, read, shut, next, closed, continued, ready, called, answered, pulled, paused, dropped, replied, sent, failed, failed_write, failed_read, failed_fed, failed_sent, asked_to_drain, asked_to_hold, declined, let_on, turned_away, refused}
 use Rattle.h1_dispatcher.specs.Traces.{IsNoted, AllNoted}
@@ -239,13 +239,13 @@ says_bytes pieces.End out says = ap given_bytes says
 says_bytes (pieces.Broken fault) out says = ap given_bytes says
 says_bytes pieces.Pending out says = ap given_bytes says
 
-piece_fits : (v w : View) (piece : Pulled) (trace : List sums.Step) → LineStands v.line trace → Goes v.line on.pull (SaysPulled piece) w.line
-    → length (piece_bytes piece) ≤ v.line.state.settings.h1_hold_size
+piece_fits : (v w : View) (piece : Pulled) (trace : List sums.Step) → TracedStands v.traced trace → Goes v.traced on.pull (SaysPulled piece) w.traced
+    → length (piece_bytes piece) ≤ v.traced.state.settings.h1_hold_size
 piece_fits v w piece trace stands goes =
     let x = goes.steps trace stands in
-    let k = v.line.state.kept in
+    let k = v.traced.state.kept in
     let held = gives_held k k.exchange x.2.machine.change x.2.machine.changes in
-    let bound = unread_bounded (setting_of v.line.state.settings) k trace stands.stands in
+    let bound = unread_bounded (setting_of v.traced.state.settings) k trace stands.stands in
     let same = ap (λ (l : List ℕ). length l) (sym (says_bytes piece x.0 x.1) ∙ ap given_bytes x.2.machine.answers) in
     omega (arith, held, bound, same)
 
@@ -265,49 +265,49 @@ head_bound hold (next_head.Closed end) q b = b
 lent_bound : (hold : ℕ) (q r : Queue) → LentBound (lent_of q) (lent_of r) → InBound hold q → InBound hold r
 lent_bound hold q r lends b = omega (arith, lends, b, length_joined q.chunks, length_joined r.chunks)
 
-in_bound : (v w : View) → w.line.state.settings ≡ v.line.state.settings → InBound v.line.state.settings.h1_hold_size w.queue → HasQueueBound w
+in_bound : (v w : View) → w.traced.state.settings ≡ v.traced.state.settings → InBound v.traced.state.settings.h1_hold_size w.queue → HasQueueBound w
 in_bound v w settings b = subst (λ (s : Settings). InBound s.h1_hold_size w.queue) (sym settings) b
 
-to_queue : (v w : View) (q : Queue) → w.line.state.settings ≡ v.line.state.settings → w.queue ≡ q → InBound v.line.state.settings.h1_hold_size q → HasQueueBound w
-to_queue v w q settings now b = in_bound v w settings (subst (λ (x : Queue). InBound v.line.state.settings.h1_hold_size x) (sym now) b)
+to_queue : (v w : View) (q : Queue) → w.traced.state.settings ≡ v.traced.state.settings → w.queue ≡ q → InBound v.traced.state.settings.h1_hold_size q → HasQueueBound w
+to_queue v w q settings now b = in_bound v w settings (subst (λ (x : Queue). InBound v.traced.state.settings.h1_hold_size x) (sym now) b)
 
-wrote_settings : (v w : View) (answer : Poll (Result ℕ Failed)) → Wrote v.line w.line answer → w.line.state.settings ≡ v.line.state.settings
+wrote_settings : (v w : View) (answer : Poll (Result ℕ Failed)) → Wrote v.traced w.traced answer → w.traced.state.settings ≡ v.traced.state.settings
 wrote_settings v w (Ready (Ok n)) goes = goes.1.settings
-wrote_settings v w (Ready (Err e)) line = ap (λ (l : LineView). l.state.settings) line
-wrote_settings v w Pending line = ap (λ (l : LineView). l.state.settings) line
+wrote_settings v w (Ready (Err e)) traced = ap (λ (l : TracedView). l.state.settings) traced
+wrote_settings v w Pending traced = ap (λ (l : TracedView). l.state.settings) traced
 
-took_settings : (v w : View) (came : List ℕ) (answer : Poll (Result ℕ Failed)) → Took v.line w.line came answer → w.line.state.settings ≡ v.line.state.settings
+took_settings : (v w : View) (came : List ℕ) (answer : Poll (Result ℕ Failed)) → Took v.traced w.traced came answer → w.traced.state.settings ≡ v.traced.state.settings
 took_settings v w came (Ready (Ok n)) (inl end) = end.1.settings
 took_settings v w came (Ready (Ok n)) (inr some) = some.1.1.settings
-took_settings v w came (Ready (Err e)) line = ap (λ (l : LineView). l.state.settings) line
-took_settings v w came Pending line = ap (λ (l : LineView). l.state.settings) line
+took_settings v w came (Ready (Err e)) traced = ap (λ (l : TracedView). l.state.settings) traced
+took_settings v w came Pending traced = ap (λ (l : TracedView). l.state.settings) traced
 
-sent_settings : (v w : View) (piece : Piece) → Sent v.line w.line piece → w.line.state.settings ≡ v.line.state.settings
+sent_settings : (v w : View) (piece : Piece) → Sent v.traced w.traced piece → w.traced.state.settings ≡ v.traced.state.settings
 sent_settings v w (Ready (Some (Ok bytes))) goes = goes.settings
 sent_settings v w (Ready (Some (Err (Fault n)))) goes = goes.settings
 sent_settings v w (Ready (Some (Err NoMemory))) goes = absurd goes
 sent_settings v w (Ready None) goes = goes.settings
-sent_settings v w Pending line = ap (λ (l : LineView). l.state.settings) line
+sent_settings v w Pending traced = ap (λ (l : TracedView). l.state.settings) traced
 
-step_bound : (v w : View) (d : Step) (trace : List sums.Step) → LineStands v.line trace → IsNoted d → IsStep v d w → HasQueueBound v → HasQueueBound w
+step_bound : (v w : View) (d : Step) (trace : List sums.Step) → TracedStands v.traced trace → IsNoted d → IsStep v d w → HasQueueBound v → HasQueueBound w
 step_bound v w (ticked moment expiry) trace stands noted is b = to_queue v w v.queue is.0.settings (ap (λ (x : View). x.queue) is.1) b
 step_bound v w drained trace stands noted is b = to_queue v w v.queue is.0.settings (ap (λ (x : View). x.queue) is.1) b
 step_bound v w (written answer) trace stands noted is b = to_queue v w v.queue (wrote_settings v w answer is.3) (ap (λ (x : View). x.queue) is.4) b
 step_bound v w (read came answer) trace stands noted is b = to_queue v w v.queue (took_settings v w came answer is.3) (ap (λ (x : View). x.queue) is.4) b
-step_bound v w (shut answer) trace stands noted is b = to_queue v w v.queue (ap (λ (x : View). x.line.state.settings) is.2) (ap (λ (x : View). x.queue) is.2) b
+step_bound v w (shut answer) trace stands noted is b = to_queue v w v.queue (ap (λ (x : View). x.traced.state.settings) is.2) (ap (λ (x : View). x.queue) is.2) b
 step_bound v w (next head) trace stands noted is b =
-    to_queue v w (queue_at head v.queue) is.3.settings (ap (λ (x : View). x.queue) is.4) (head_bound v.line.state.settings.h1_hold_size head v.queue b)
+    to_queue v w (queue_at head v.queue) is.3.settings (ap (λ (x : View). x.queue) is.4) (head_bound v.traced.state.settings.h1_hold_size head v.queue b)
 step_bound v w (closed end) trace stands noted is b = to_queue v w v.queue is.3.1.settings (ap (λ (x : View). x.queue) is.4) b
 step_bound v w continued trace stands noted is b = to_queue v w v.queue is.2.settings (ap (λ (x : View). x.queue) is.3) b
-step_bound v w (ready request answer) trace stands noted is b = to_queue v w v.queue (ap (λ (x : View). x.line.state.settings) is.3) (ap (λ (x : View). x.queue) is.3) b
-step_bound v w (called request) trace stands noted is b = to_queue v w v.queue (ap (λ (x : View). x.line.state.settings) is.2.2) (ap (λ (x : View). x.queue) is.2.2) b
+step_bound v w (ready request answer) trace stands noted is b = to_queue v w v.queue (ap (λ (x : View). x.traced.state.settings) is.3) (ap (λ (x : View). x.queue) is.3) b
+step_bound v w (called request) trace stands noted is b = to_queue v w v.queue (ap (λ (x : View). x.traced.state.settings) is.2.2) (ap (λ (x : View). x.queue) is.2.2) b
 step_bound v w (answered answer) trace stands noted is b =
-    in_bound v w (ap (λ (x : View). x.line.state.settings) is.same) (lent_bound v.line.state.settings.h1_hold_size v.queue w.queue is.bound b)
+    in_bound v w (ap (λ (x : View). x.traced.state.settings) is.same) (lent_bound v.traced.state.settings.h1_hold_size v.queue w.queue is.bound b)
 step_bound v w (pulled piece) trace stands noted is b =
     to_queue v w (fed_with piece v.queue) is.1.settings (ap (λ (x : View). x.queue) is.2)
-    (fed_bound v.line.state.settings.h1_hold_size v.queue piece is.0.low (piece_fits v w piece trace stands is.1) b)
+    (fed_bound v.traced.state.settings.h1_hold_size v.queue piece is.0.low (piece_fits v w piece trace stands is.1) b)
 step_bound v w paused trace stands noted is b =
-    in_bound v w (ap (λ (x : View). x.line.state.settings) is.4) (subst (λ (x : Queue). InBound v.line.state.settings.h1_hold_size x) (sym is.3) b)
+    in_bound v w (ap (λ (x : View). x.traced.state.settings) is.4) (subst (λ (x : Queue). InBound v.traced.state.settings.h1_hold_size x) (sym is.3) b)
 step_bound v w dropped trace stands noted is b = to_queue v w v.queue is.2.settings (ap (λ (x : View). x.queue) is.3) b
 step_bound v w (replied answer) trace stands noted is b = to_queue v w (new_queue true) is.2.settings (ap (λ (x : View). x.queue) is.3) (omega arith)
 step_bound v w (sent piece) trace stands noted is b = to_queue v w v.queue (sent_settings v w piece is.2) (ap (λ (x : View). x.queue) is.3) b
@@ -316,19 +316,19 @@ step_bound v w (failed_write count) trace stands noted is b = absurd noted
 step_bound v w (failed_read came event) trace stands noted is b = absurd noted
 step_bound v w (failed_fed bytes) trace stands noted is b = absurd noted
 step_bound v w (failed_sent piece) trace stands noted is b = absurd noted
-step_bound v w asked_to_drain trace stands noted is b = to_queue v w v.queue (ap (λ (x : View). x.line.state.settings) is) (ap (λ (x : View). x.queue) is) b
-step_bound v w (asked_to_hold upgrades expects) trace stands noted is b = to_queue v w v.queue (ap (λ (x : View). x.line.state.settings) is) (ap (λ (x : View). x.queue) is) b
-step_bound v w declined trace stands noted is b = to_queue v w v.queue (ap (λ (x : View). x.line.state.settings) is) (ap (λ (x : View). x.queue) is) b
-step_bound v w let_on trace stands noted is b = to_queue v w v.queue (ap (λ (x : View). x.line.state.settings) is) (ap (λ (x : View). x.queue) is) b
-step_bound v w (turned_away request answer) trace stands noted is b = to_queue v w v.queue (ap (λ (x : View). x.line.state.settings) is.2) (ap (λ (x : View). x.queue) is.2) b
+step_bound v w asked_to_drain trace stands noted is b = to_queue v w v.queue (ap (λ (x : View). x.traced.state.settings) is) (ap (λ (x : View). x.queue) is) b
+step_bound v w (asked_to_hold upgrades expects) trace stands noted is b = to_queue v w v.queue (ap (λ (x : View). x.traced.state.settings) is) (ap (λ (x : View). x.queue) is) b
+step_bound v w declined trace stands noted is b = to_queue v w v.queue (ap (λ (x : View). x.traced.state.settings) is) (ap (λ (x : View). x.queue) is) b
+step_bound v w let_on trace stands noted is b = to_queue v w v.queue (ap (λ (x : View). x.traced.state.settings) is) (ap (λ (x : View). x.queue) is) b
+step_bound v w (turned_away request answer) trace stands noted is b = to_queue v w v.queue (ap (λ (x : View). x.traced.state.settings) is.2) (ap (λ (x : View). x.queue) is.2) b
 step_bound v w (refused limit error) trace stands noted is b = to_queue v w v.queue is.1.settings (ap (λ (x : View). x.queue) is.2) b
 
-pub run_bound : (v w : View) (steps : List Step) (trace : List sums.Step) → LineStands v.line trace → AllNoted steps → IsRun v steps w → HasQueueBound v → HasQueueBound w
-run_bound v w [] trace stands noted is b = to_queue v w v.queue (ap (λ (x : View). x.line.state.settings) is) (ap (λ (x : View). x.queue) is) b
+pub run_bound : (v w : View) (steps : List Step) (trace : List sums.Step) → TracedStands v.traced trace → AllNoted steps → IsRun v steps w → HasQueueBound v → HasQueueBound w
+run_bound v w [] trace stands noted is b = to_queue v w v.queue (ap (λ (x : View). x.traced.state.settings) is) (ap (λ (x : View). x.queue) is) b
 run_bound v w (d ∷ steps) trace stands noted is b =
     let f = step_follows v is.0 d noted.0 is.1 trace stands in
     run_bound is.0 w steps (f.more ++ trace) f.stands noted.1 is.2 (step_bound v is.0 d trace stands noted.0 is.1 b)
 
 -- the connection holds no more bytes than it may
-pub held_bound : (v : View) (trace : List sums.Step) → LineStands v.line trace → length v.line.state.kept.unread ≤ v.line.state.settings.h1_hold_size
-held_bound v trace stands = unread_bounded (setting_of v.line.state.settings) v.line.state.kept trace stands.stands
+pub held_bound : (v : View) (trace : List sums.Step) → TracedStands v.traced trace → length v.traced.state.kept.unread ≤ v.traced.state.settings.h1_hold_size
+held_bound v trace stands = unread_bounded (setting_of v.traced.state.settings) v.traced.state.kept trace stands.stands

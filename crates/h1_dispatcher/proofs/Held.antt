@@ -11,7 +11,7 @@ use Rattle.h1_connection.specs.Meaning.{setting_of, SaysOutcome}
 use Rattle.h1_connection.specs.State.{Is}
 use Rattle.h1_connection.specs.declared.event.Outcome.{Outcome}
 use Rattle.h1_connection.specs.declared.event.Outcome.TheVariants as outcomes
-use Rattle.h1_traced.specs.Line.{LineView, LineSteps}
+use Rattle.h1_traced.specs.Traced.{TracedView, TracedSteps}
 use Rattle.h1_dispatcher.specs.View.{View, Asking, waiting, is_waiting, is_held, is_checked, is_expecting, is_offered, may_accept, may_refuse, allows, any_answer, has_write_room}
 use Rattle.h1_dispatcher.specs.Upgrades.{refused_in, refusal_of, waiting_in, held_in, expecting_in, Accepts}
 
@@ -118,9 +118,9 @@ refusal_says (outcomes.Expired end) out says = ap refused_in (sym says)
 refusal_says outcomes.Abandoned out says = ap refused_in (sym says)
 refusal_says outcomes.Done out says = ap refused_in (sym says)
 
--- the same of a line
-pub accepted_steps : (old new : LineView) (limit : ℕ) (outcome : Outcome) → None ≡ refusal_of outcome
-    → LineSteps old (on.accept limit) (SaysOutcome outcome) new → LineSteps old (on.accept limit) (Is on.done) new
+-- the same of a traced connection
+pub accepted_steps : (old new : TracedView) (limit : ℕ) (outcome : Outcome) → None ≡ refusal_of outcome
+    → TracedSteps old (on.accept limit) (SaysOutcome outcome) new → TracedSteps old (on.accept limit) (Is on.done) new
 accepted_steps old new limit outcome none steps = λ trace stands.
     let x = steps trace stands in
     let done = unrefused_done (setting_of old.state.settings) old.state.kept new.state.kept limit x.0 (sym (none ∙ refusal_says outcome x.0 x.1)) x.2.machine in
@@ -144,20 +144,20 @@ refused_is error (on.expired end) is = absurd (cc is)
 refused_is error on.abandoned is = absurd (cc is)
 refused_is error on.done is = absurd (cc is)
 
-pub refused_steps : (old new : LineView) (limit : ℕ) (outcome : Outcome) (error : HandshakeError) → Some error ≡ refusal_of outcome
-    → LineSteps old (on.accept limit) (SaysOutcome outcome) new → LineSteps old (on.accept limit) (Is (on.refused error)) new
+pub refused_steps : (old new : TracedView) (limit : ℕ) (outcome : Outcome) (error : HandshakeError) → Some error ≡ refusal_of outcome
+    → TracedSteps old (on.accept limit) (SaysOutcome outcome) new → TracedSteps old (on.accept limit) (Is (on.refused error)) new
 refused_steps old new limit outcome error some steps = λ trace stands.
     let x = steps trace stands in
     (x.0, refused_is error x.0 (some ∙ refusal_says outcome x.0 x.1), x.2)
 
 -- what the upgrade does: the request stays held back where it fails a check
 pub accepts_says : (v w : View) (limit : ℕ) (outcome : Outcome) (refusal : Option HandshakeError) → may_accept v limit ≡ true → refusal ≡ refusal_of outcome
-    → LineSteps v.line (on.accept limit) (SaysOutcome outcome) w.line → w.line.state.settings ≡ v.line.state.settings → w ≡ record v { line = w.line }
+    → TracedSteps v.traced (on.accept limit) (SaysOutcome outcome) w.traced → w.traced.state.settings ≡ v.traced.state.settings → w ≡ record v { traced = w.traced }
     → Accepts v limit w refusal
 accepts_says v w limit outcome None may is steps settings same =
-    (record { steps = accepted_steps v.line w.line limit outcome is steps; settings = settings }, same)
+    (record { steps = accepted_steps v.traced w.traced limit outcome is steps; settings = settings }, same)
 accepts_says v w limit outcome (Some error) may is steps settings same =
-    (may, record { steps = refused_steps v.line w.line limit outcome error is steps; settings = settings }, same)
+    (may, record { steps = refused_steps v.traced w.traced limit outcome error is steps; settings = settings }, same)
 
 -- ---- the one that is shown
 

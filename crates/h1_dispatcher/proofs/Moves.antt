@@ -28,7 +28,7 @@ use Rattle.h1_encoder.specs.Meaning.{answer_of, size_of}
 use Rattle.h1_connection.specs.Heads.{SaysNext}
 use Rattle.h1_connection.specs.State.{Is}
 use Rattle.h1_connection.specs.declared.connection.heads.NextHead.{NextHead}
-use Rattle.h1_traced.specs.Line.{LineSteps, LineFails}
+use Rattle.h1_traced.specs.Traced.{TracedSteps, TracedFails}
 use Rattle.http_types.specs.Response.{FullResponse}
 use Rattle.h1_dispatcher.specs.declared.dispatcher.Ending.TheVariants.{Broken}
 use Rattle.h1_dispatcher.specs.declared.dispatcher.Work.{Work}
@@ -43,13 +43,13 @@ unfolding allowed_by
 any_allowed set k head size is = is
 
 pub read_step : (v w : View) (came buf : List ℕ) (answer : Poll (Result ℕ Failed)) → v.ending ≡ None → allows v on.eof ≡ true → 0 < length buf → length buf ≤ room v
-    → came ≡ moved answer buf → ReadSays v.wire w.wire answer buf → Took v.line w.line came answer → w ≡ record v { line = w.line; wire = w.wire }
+    → came ≡ moved answer buf → ReadSays v.transport w.transport answer buf → Took v.traced w.traced came answer → w ≡ record v { traced = w.traced; transport = w.transport }
     → IsStep v (read came answer) w
 read_step v w came buf answer running may some fits moves says took same = (running, may, (buf, some, fits, moves, says), took, same)
 
 pub read_fails : (v w : View) (came buf : List ℕ) (count : ℕ) (event : on.Event) → v.ending ≡ None → allows v on.eof ≡ true → 0 < length buf → length buf ≤ room v
-    → came ≡ take count buf → ReadSays {E = Failed} v.wire w.wire (Ready (Ok count)) buf → IsOfRead count came event → LineFails v.line event w.line
-    → w ≡ record v { line = w.line; wire = w.wire; ending = Some Broken } → IsStep v (failed_read came event) w
+    → came ≡ take count buf → ReadSays {E = Failed} v.transport w.transport (Ready (Ok count)) buf → IsOfRead count came event → TracedFails v.traced event w.traced
+    → w ≡ record v { traced = w.traced; transport = w.transport; ending = Some Broken } → IsStep v (failed_read came event) w
 read_fails v w came buf count event running may some fits moves says is fails same = (running, may, (buf, count, some, fits, moves, says, is), fails, same)
 
 pub polled : (v w : View) (took more : Option lent.Took) (answer : Poll (Result Answer Answer)) → v.ending ≡ None → allows_answer v ≡ true → v.stage ≡ calling took → AnswerSays v.service w.service answer
@@ -58,19 +58,19 @@ pub polled : (v w : View) (took more : Option lent.Took) (answer : Poll (Result 
 polled v w took more answer running allowed calls says takes bound same =
     record { running = running; allowed = allowed; took = took; calls = calls; says = says; more = more; takes = takes; bound = bound; same = same }
 
-pub asked_next : (v w : View) (head : NextHead) → v.ending ≡ None → is_busy v.stage ≡ false → allows_next v ≡ true → has_write_room v ≡ true → LineSteps v.line on.next (SaysNext head) w.line
-    → w.line.state.settings ≡ v.line.state.settings → w ≡ record v { line = w.line; queue = w.queue; stage = w.stage; ending = w.ending; holding = w.holding; checking = w.checking }
+pub asked_next : (v w : View) (head : NextHead) → v.ending ≡ None → is_busy v.stage ≡ false → allows_next v ≡ true → has_write_room v ≡ true → TracedSteps v.traced on.next (SaysNext head) w.traced
+    → w.traced.state.settings ≡ v.traced.state.settings → w ≡ record v { traced = w.traced; queue = w.queue; stage = w.stage; ending = w.ending; holding = w.holding; checking = w.checking }
     → w.queue ≡ queue_at head v.queue → w.stage ≡ stage_at (request_at head) → w.ending ≡ ending_told head → w.holding ≡ holding_at head v → w.checking ≡ checking_at head v → IsStep v (next head) w
 asked_next v w head running idle allowed some steps settings same fresh stage ends holds checks = (
   running,
   now_free v.stage idle,
   both_true (allows_next v) (has_write_room v) allowed some,
   record { steps = steps; settings = settings },
-  same ∙ ap (λ x. record v { line = w.line; queue = x; stage = w.stage; ending = w.ending; holding = w.holding; checking = w.checking }) fresh
-      ∙ ap (λ x. record v { line = w.line; queue = queue_at head v.queue; stage = x; ending = w.ending; holding = w.holding; checking = w.checking }) stage
-      ∙ ap (λ x. record v { line = w.line; queue = queue_at head v.queue; stage = stage_at (request_at head); ending = x; holding = w.holding; checking = w.checking }) ends
-      ∙ ap (λ x. record v { line = w.line; queue = queue_at head v.queue; stage = stage_at (request_at head); ending = ending_told head; holding = x; checking = w.checking }) holds
-      ∙ ap (λ x. record v { line = w.line; queue = queue_at head v.queue; stage = stage_at (request_at head); ending = ending_told head; holding = holding_at head v; checking = x }) checks,
+  same ∙ ap (λ x. record v { traced = w.traced; queue = x; stage = w.stage; ending = w.ending; holding = w.holding; checking = w.checking }) fresh
+      ∙ ap (λ x. record v { traced = w.traced; queue = queue_at head v.queue; stage = x; ending = w.ending; holding = w.holding; checking = w.checking }) stage
+      ∙ ap (λ x. record v { traced = w.traced; queue = queue_at head v.queue; stage = stage_at (request_at head); ending = x; holding = w.holding; checking = w.checking }) ends
+      ∙ ap (λ x. record v { traced = w.traced; queue = queue_at head v.queue; stage = stage_at (request_at head); ending = ending_told head; holding = x; checking = w.checking }) holds
+      ∙ ap (λ x. record v { traced = w.traced; queue = queue_at head v.queue; stage = stage_at (request_at head); ending = ending_told head; holding = holding_at head v; checking = x }) checks,
 )
 
 -- whether a piece is allowed doesn't depend on it, and where one is, the body may end or fail
@@ -108,11 +108,11 @@ polls : (v : View) (body left : Giving) (piece : Piece) → v.ending ≡ None �
 polls v body left piece running allowed goes_out says = record { running = running; allowed = allowed; body = body; goes_out = goes_out; says = says }
 
 pub sent_step : (v w : View) (body left : Giving) (piece : Piece) → v.ending ≡ None → allows_chunk v ≡ true → v.stage ≡ sending body → PieceSays body left piece
-    → Sent v.line w.line piece → w ≡ record v { line = w.line; stage = stage_sent left piece } → IsStep v (sent piece) w
+    → Sent v.traced w.traced piece → w ≡ record v { traced = w.traced; stage = stage_sent left piece } → IsStep v (sent piece) w
 sent_step v w body left piece running allowed goes_out says sent_so same = (left, polls v body left piece running allowed goes_out says, sent_so, same)
 
 pub sent_fails : (v w : View) (body left : Giving) (piece : Piece) → v.ending ≡ None → allows_chunk v ≡ true → v.stage ≡ sending body → PieceSays body left piece
-    → Lacked v.line w.line piece → w ≡ record v { line = w.line; stage = sending left; ending = Some Broken } → IsStep v (failed_sent piece) w
+    → Lacked v.traced w.traced piece → w ≡ record v { traced = w.traced; stage = sending left; ending = Some Broken } → IsStep v (failed_sent piece) w
 sent_fails v w body left piece running allowed goes_out says lacked same = (left, polls v body left piece running allowed goes_out says, lacked, same)
 
 -- the body goes out from now on, unless it has no byte
@@ -135,26 +135,26 @@ pub same_response : {C B : Type 0} (work : Work C B) (first second : FullRespons
 same_response work first second is so = ap (λ x. response_in x first) (sym so ∙ is)
 
 -- an answer was handed on
-pub handed_on : (v w : View) (answer : Answer) → v.ending ≡ None → allows v on.drop_body ≡ false → v.stage ≡ replying answer → LineSteps v.line (on.answer (answer_of answer.head) (size_of answer.body.size)) (Is on.done) w.line
-    → w.line.state.settings ≡ v.line.state.settings → w ≡ record v { line = w.line; queue = w.queue; stage = w.stage } → w.queue ≡ new_queue true → w.stage ≡ stage_replied answer.body answer.body.size
+pub handed_on : (v w : View) (answer : Answer) → v.ending ≡ None → allows v on.drop_body ≡ false → v.stage ≡ replying answer → TracedSteps v.traced (on.answer (answer_of answer.head) (size_of answer.body.size)) (Is on.done) w.traced
+    → w.traced.state.settings ≡ v.traced.state.settings → w ≡ record v { traced = w.traced; queue = w.queue; stage = w.stage } → w.queue ≡ new_queue true → w.stage ≡ stage_replied answer.body answer.body.size
     → IsStep v (replied answer) w
 handed_on v w answer running none is steps settings same fresh stage = (
   (running, none),
   is,
   record { steps = steps; settings = settings },
-  same ∙ ap (λ x. record v { line = w.line; queue = x; stage = w.stage }) fresh ∙ ap (λ x. record v { line = w.line; queue = new_queue true; stage = x }) stage,
+  same ∙ ap (λ x. record v { traced = w.traced; queue = x; stage = w.stage }) fresh ∙ ap (λ x. record v { traced = w.traced; queue = new_queue true; stage = x }) stage,
 )
 
 -- what came of a request's body was fed
-pub fed_step : (v w : View) (piece : Pulled) → Wants v → LineSteps v.line on.pull (SaysPulled piece) w.line → w.line.state.settings ≡ v.line.state.settings
-    → w ≡ record v { line = w.line; queue = w.queue } → w.queue ≡ fed_with piece v.queue → IsStep v (pulled piece) w
+pub fed_step : (v w : View) (piece : Pulled) → Wants v → TracedSteps v.traced on.pull (SaysPulled piece) w.traced → w.traced.state.settings ≡ v.traced.state.settings
+    → w ≡ record v { traced = w.traced; queue = w.queue } → w.queue ≡ fed_with piece v.queue → IsStep v (pulled piece) w
 fed_step v w piece wants steps settings same fed =
-    (wants, record { steps = steps; settings = settings }, same ∙ ap (λ q. record v { line = w.line; queue = q }) fed)
+    (wants, record { steps = steps; settings = settings }, same ∙ ap (λ q. record v { traced = w.traced; queue = q }) fed)
 
-pub fed_fails : (v w : View) (bytes : List ℕ) → Wants v → LineSteps v.line on.pull (SaysPulled (pieces.Bytes bytes)) w.line → w.line.state.settings ≡ v.line.state.settings
-    → w ≡ record v { line = w.line; queue = w.queue; ending = Some Broken } → w.queue ≡ v.queue → IsStep v (failed_fed bytes) w
+pub fed_fails : (v w : View) (bytes : List ℕ) → Wants v → TracedSteps v.traced on.pull (SaysPulled (pieces.Bytes bytes)) w.traced → w.traced.state.settings ≡ v.traced.state.settings
+    → w ≡ record v { traced = w.traced; queue = w.queue; ending = Some Broken } → w.queue ≡ v.queue → IsStep v (failed_fed bytes) w
 fed_fails v w bytes wants steps settings same kept =
-    (wants, record { steps = steps; settings = settings }, same ∙ ap (λ q. record v { line = w.line; queue = q; ending = Some Broken }) kept)
+    (wants, record { steps = steps; settings = settings }, same ∙ ap (λ q. record v { traced = w.traced; queue = q; ending = Some Broken }) kept)
 
 -- a queue that wants nothing for now
 pub paused_step : (v w : View) (asked : PayloadStatus) → v.ending ≡ None → awaits_body v ≡ true → asked ≡ status_of v.queue → asked ≡ status.Pause → Asked v.queue w.queue asked

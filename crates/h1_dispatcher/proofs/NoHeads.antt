@@ -15,7 +15,7 @@ use Rattle.h1_connection.specs.Heads.{SaysNext}
 use Rattle.h1_connection.specs.Meaning.{setting_of}
 use Rattle.h1_connection.specs.declared.connection.heads.NextHead.{NextHead}
 use Rattle.h1_connection.specs.declared.connection.heads.NextHead.TheVariants as next_head
-use Rattle.h1_traced.specs.Line.{LineStands}
+use Rattle.h1_traced.specs.Traced.{TracedStands}
 use Rattle.h1_dispatcher.specs.View.{View, closes, HasNoByte}
 use Rattle.h1_dispatcher.specs.Steps.{IsStep, next}
 use Rattle.h1_dispatcher.proofs.Turns.{none_of}
@@ -47,9 +47,9 @@ only_pending (next_head.Closed end) out says is =
     let never = sym says ∙ is in
     absurd (cc never)
 
-pub no_head : (v w : View) (head : NextHead) (trace : List sums.Step) → LineStands v.line trace → closes v ≡ false → HasNoByte v → IsStep v (next head) w → head ≡ next_head.Pending
+pub no_head : (v w : View) (head : NextHead) (trace : List sums.Step) → TracedStands v.traced trace → closes v ≡ false → HasNoByte v → IsStep v (next head) w → head ≡ next_head.Pending
 no_head v w head trace stands runs none is =
-    let set = setting_of v.line.state.settings in
-    let k = v.line.state.kept in
+    let set = setting_of v.traced.state.settings in
+    let k = v.traced.state.kept in
     let x = is.3.steps trace stands in
     only_pending head x.0 x.1 (x.2.machine.answers ∙ nexts set k (closing_by set k) x.2.machine.change (none_of (closing_by set k) runs) none.0 none.1 x.2.machine.changes)

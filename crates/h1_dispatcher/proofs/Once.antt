@@ -37,7 +37,7 @@ use Rattle.h1_connection.specs.State.{Is}
 use Rattle.h1_connection.specs.Ticks.{expiry_of}
 use Rattle.h1_connection.specs.declared.connection.heads.NextHead.{NextHead}
 use Rattle.h1_connection.specs.declared.connection.heads.NextHead.TheVariants as next_head
-use Rattle.h1_traced.specs.Line.{LineView, LineStands}
+use Rattle.h1_traced.specs.Traced.{TracedView, TracedStands}
 use Rattle.h1_dispatcher.specs.View.{View, is_awaiting, allows, allows_answer, awaits_body}
 use Rattle.h1_dispatcher.specs.Steps.{Step, Goes, Wrote, Took, Sent, IsStep, IsRun, error_of, ticked, drained, written, read, shut, next, closed, continued, ready, called, answered, pulled, paused, dropped, replied, sent, failed, failed_write, failed_read, failed_fed, failed_sent, asked_to_drain, asked_to_hold, declined, let_on, turned_away, refused}
 use Rattle.h1_dispatcher.specs.Traces.{IsNoted, AllNoted}
@@ -245,10 +245,10 @@ last_of_three true true c is = is
 last_of_three true false c is = absurd (cc is)
 last_of_three false b c is = absurd (cc is)
 
-undone : (v : View) → awaits_body v ≡ true → is_done v.line.state.kept.exchange ≡ false
+undone : (v : View) → awaits_body v ≡ true → is_done v.traced.state.kept.exchange ≡ false
 undone v is =
-    let k = v.line.state.kept in
-    has_left k k.exchange (may_pull (setting_of v.line.state.settings) k (last_of_three (is_awaiting v.stage) (allows_answer v) (allows v on.drop_body) is))
+    let k = v.traced.state.kept in
+    has_left k k.exchange (may_pull (setting_of v.traced.state.settings) k (last_of_three (is_awaiting v.stage) (allows_answer v) (allows v on.drop_body) is))
 
 -- ---- steps
 
@@ -258,18 +258,18 @@ AtMostOne faults e = (faults ≡ []) ⊎ ((length faults ≡ 1) × (is_done e �
 
 record Once (faults : List PayloadError) (v : View) : Type 0 where
   trace : List sums.Step
-  stands : LineStands v.line trace
-  once : AtMostOne faults v.line.state.kept.exchange
+  stands : TracedStands v.traced trace
+  once : AtMostOne faults v.traced.state.kept.exchange
 
-still : (v w : View) (faults : List PayloadError) → w.line ≡ v.line → Once faults v → Once faults w
-still v w faults line o = record {
+still : (v w : View) (faults : List PayloadError) → w.traced ≡ v.traced → Once faults v → Once faults w
+still v w faults traced o = record {
   trace = o.trace;
-  stands = subst (λ (l : LineView). LineStands l o.trace) (sym line) o.stands;
-  once = subst (λ (l : LineView). AtMostOne faults l.state.kept.exchange) (sym line) o.once;
+  stands = subst (λ (l : TracedView). TracedStands l o.trace) (sym traced) o.stands;
+  once = subst (λ (l : TracedView). AtMostOne faults l.state.kept.exchange) (sym traced) o.once;
 }
 
-went : (v w : View) (faults now_faults : List PayloadError) (event : on.Event) (Says : on.Outcome → Type 0) → Goes v.line event Says w.line
-    → ((out : on.Outcome) → Says out → (m : Machine (setting_of v.line.state.settings) v.line.state.kept event out w.line.state.kept) → AtMostOne now_faults m.change.kept.exchange)
+went : (v w : View) (faults now_faults : List PayloadError) (event : on.Event) (Says : on.Outcome → Type 0) → Goes v.traced event Says w.traced
+    → ((out : on.Outcome) → Says out → (m : Machine (setting_of v.traced.state.settings) v.traced.state.kept event out w.traced.state.kept) → AtMostOne now_faults m.change.kept.exchange)
     → Once faults v → Once now_faults w
 went v w faults now_faults event Says goes so o =
     let x = goes.steps o.trace o.stands in
@@ -277,34 +277,34 @@ went v w faults now_faults event Says goes so o =
     record {
       trace = s ∷ o.trace;
       stands = x.2.stands;
-      once = subst (λ (e : Option Exchange). AtMostOne now_faults e) (sym (after_step (setting_of v.line.state.settings) v.line.state.kept w.line.state.kept event x.0 x.2.machine)) (so x.0 x.1 x.2.machine);
+      once = subst (λ (e : Option Exchange). AtMostOne now_faults e) (sym (after_step (setting_of v.traced.state.settings) v.traced.state.kept w.traced.state.kept event x.0 x.2.machine)) (so x.0 x.1 x.2.machine);
     }
 
 done_on : (faults : List PayloadError) (e f : Option Exchange) → is_done f ≡ is_done e → AtMostOne faults e → AtMostOne faults f
 done_on faults e f same (inl none) = inl none
 done_on faults e f same (inr one) = inr (one.0, same ∙ one.1)
 
-same : (v w : View) (faults : List PayloadError) (event : on.Event) (Says : on.Outcome → Type 0) → Goes v.line event Says w.line
-    → ((out : on.Outcome) → (m : Machine (setting_of v.line.state.settings) v.line.state.kept event out w.line.state.kept)
-    → is_done m.change.kept.exchange ≡ is_done v.line.state.kept.exchange)
+same : (v w : View) (faults : List PayloadError) (event : on.Event) (Says : on.Outcome → Type 0) → Goes v.traced event Says w.traced
+    → ((out : on.Outcome) → (m : Machine (setting_of v.traced.state.settings) v.traced.state.kept event out w.traced.state.kept)
+    → is_done m.change.kept.exchange ≡ is_done v.traced.state.kept.exchange)
     → Once faults v → Once faults w
 same v w faults event Says goes so o =
-    went v w faults faults event Says goes (λ out says m. done_on faults v.line.state.kept.exchange m.change.kept.exchange (so out m) o.once) o
+    went v w faults faults event Says goes (λ out says m. done_on faults v.traced.state.kept.exchange m.change.kept.exchange (so out m) o.once) o
 
-wrote : (v w : View) (faults : List PayloadError) (answer : Poll (Result ℕ Failed)) → Wrote v.line w.line answer → Once faults v → Once faults w
-wrote v w faults (Ready (Ok n)) goes o = same v w faults (on.write n) _ goes.1 (λ out m. by_change v.line.state.kept.exchange _ _ m.changes refl) o
-wrote v w faults (Ready (Err e)) line o = still v w faults line o
-wrote v w faults Pending line o = still v w faults line o
+wrote : (v w : View) (faults : List PayloadError) (answer : Poll (Result ℕ Failed)) → Wrote v.traced w.traced answer → Once faults v → Once faults w
+wrote v w faults (Ready (Ok n)) goes o = same v w faults (on.write n) _ goes.1 (λ out m. by_change v.traced.state.kept.exchange _ _ m.changes refl) o
+wrote v w faults (Ready (Err e)) traced o = still v w faults traced o
+wrote v w faults Pending traced o = still v w faults traced o
 
-took : (v w : View) (faults : List PayloadError) (came : List ℕ) (answer : Poll (Result ℕ Failed)) → Took v.line w.line came answer → Once faults v → Once faults w
+took : (v w : View) (faults : List PayloadError) (came : List ℕ) (answer : Poll (Result ℕ Failed)) → Took v.traced w.traced came answer → Once faults v → Once faults w
 took v w faults came (Ready (Ok n)) (inl end) o =
     same v w faults on.eof (Is on.done) end.1
-    (λ out m. by_change v.line.state.kept.exchange _ (doing (ending_input v.line.state.kept)) m.changes (passing_leaves _ ∙ end_leaves v.line.state.kept.unread v.line.state.kept.exchange)) o
+    (λ out m. by_change v.traced.state.kept.exchange _ (doing (ending_input v.traced.state.kept)) m.changes (passing_leaves _ ∙ end_leaves v.traced.state.kept.unread v.traced.state.kept.exchange)) o
 took v w faults came (Ready (Ok n)) (inr some) o =
     same v w faults (on.read came) _ some.1.1
-    (λ out m. by_change v.line.state.kept.exchange _ (reading (setting_of v.line.state.settings) came v.line.state.kept) m.changes (passing_leaves _)) o
-took v w faults came (Ready (Err e)) line o = still v w faults line o
-took v w faults came Pending line o = still v w faults line o
+    (λ out m. by_change v.traced.state.kept.exchange _ (reading (setting_of v.traced.state.settings) came v.traced.state.kept) m.changes (passing_leaves _)) o
+took v w faults came (Ready (Err e)) traced o = still v w faults traced o
+took v w faults came Pending traced o = still v w faults traced o
 
 -- no request came
 abbrev no_head : NextHead → Bool
@@ -319,20 +319,20 @@ other (next_head.Fault fault) out is says = ap is_head says
 other next_head.Pending out is says = ap is_head says
 other (next_head.Closed end) out is says = ap is_head says
 
-none_came : (v w : View) (faults : List PayloadError) (head : NextHead) → no_head head ≡ true → Goes v.line on.next (SaysNext head) w.line → Once faults v → Once faults w
+none_came : (v w : View) (faults : List PayloadError) (head : NextHead) → no_head head ≡ true → Goes v.traced on.next (SaysNext head) w.traced → Once faults v → Once faults w
 none_came v w faults head none goes o =
-    let set = setting_of v.line.state.settings in
-    let k = v.line.state.kept in
+    let set = setting_of v.traced.state.settings in
+    let k = v.traced.state.kept in
     went v w faults faults on.next (SaysNext head) goes
     (λ out says m. by_next m.change (ap is_head (sym m.answers) ∙ other head out none says) (nexts set k (closing_by set k) m.change m.changes)) o
   where
-    by_next : (c : Change) → is_head c.outcome ≡ false → Nexts v.line.state.kept c → AtMostOne faults c.kept.exchange
-    by_next c not_head (inl same_exchange) = done_on faults v.line.state.kept.exchange c.kept.exchange (ap is_done same_exchange) o.once
+    by_next : (c : Change) → is_head c.outcome ≡ false → Nexts v.traced.state.kept c → AtMostOne faults c.kept.exchange
+    by_next c not_head (inl same_exchange) = done_on faults v.traced.state.kept.exchange c.kept.exchange (ap is_done same_exchange) o.once
     by_next c not_head (inr is) =
         let never : true ≡ false = sym is ∙ not_head in
         absurd (cc never)
 
-asked : (v w : View) (body : CameBody) (head : NextHead) → Goes v.line on.next (SaysNext head) w.line → Once body.faults v → Once (body_at head body).faults w
+asked : (v w : View) (body : CameBody) (head : NextHead) → Goes v.traced on.next (SaysNext head) w.traced → Once body.faults v → Once (body_at head body).faults w
 asked v w body (next_head.Head item) goes o = went v w body.faults [] on.next (SaysNext (next_head.Head item)) goes (λ out says m. inl refl) o
 asked v w body (next_head.Fault fault) goes o = none_came v w body.faults (next_head.Fault fault) refl goes o
 asked v w body next_head.Pending goes o = none_came v w body.faults next_head.Pending refl goes o
@@ -345,76 +345,76 @@ unbroken faults e open_so (inr one) =
     let never : true ≡ false = sym one.1 ∙ open_so in
     absurd (cc never)
 
-pulls : (v w : View) (body : CameBody) (piece : Pulled) → awaits_body v ≡ true → Goes v.line on.pull (SaysPulled piece) w.line → Once body.faults v → Once (with_piece body piece).faults w
-pulls v w body (pieces.Bytes bytes) awaits goes o = went v w body.faults body.faults on.pull _ goes (λ out says m. inl (unbroken body.faults v.line.state.kept.exchange (undone v awaits) o.once)) o
-pulls v w body (pieces.Trailers trailers) awaits goes o = went v w body.faults body.faults on.pull _ goes (λ out says m. inl (unbroken body.faults v.line.state.kept.exchange (undone v awaits) o.once)) o
-pulls v w body pieces.End awaits goes o = went v w body.faults body.faults on.pull _ goes (λ out says m. inl (unbroken body.faults v.line.state.kept.exchange (undone v awaits) o.once)) o
-pulls v w body pieces.Pending awaits goes o = went v w body.faults body.faults on.pull _ goes (λ out says m. inl (unbroken body.faults v.line.state.kept.exchange (undone v awaits) o.once)) o
+pulls : (v w : View) (body : CameBody) (piece : Pulled) → awaits_body v ≡ true → Goes v.traced on.pull (SaysPulled piece) w.traced → Once body.faults v → Once (with_piece body piece).faults w
+pulls v w body (pieces.Bytes bytes) awaits goes o = went v w body.faults body.faults on.pull _ goes (λ out says m. inl (unbroken body.faults v.traced.state.kept.exchange (undone v awaits) o.once)) o
+pulls v w body (pieces.Trailers trailers) awaits goes o = went v w body.faults body.faults on.pull _ goes (λ out says m. inl (unbroken body.faults v.traced.state.kept.exchange (undone v awaits) o.once)) o
+pulls v w body pieces.End awaits goes o = went v w body.faults body.faults on.pull _ goes (λ out says m. inl (unbroken body.faults v.traced.state.kept.exchange (undone v awaits) o.once)) o
+pulls v w body pieces.Pending awaits goes o = went v w body.faults body.faults on.pull _ goes (λ out says m. inl (unbroken body.faults v.traced.state.kept.exchange (undone v awaits) o.once)) o
 pulls v w body (pieces.Broken fault) awaits goes o =
-    let none = unbroken body.faults v.line.state.kept.exchange (undone v awaits) o.once in
+    let none = unbroken body.faults v.traced.state.kept.exchange (undone v awaits) o.once in
     went v w body.faults (error_of fault ∷ body.faults) on.pull _ goes
     (λ out says m. inr (
       ap (λ (l : List PayloadError). length (error_of fault ∷ l)) none,
-      pulls_done v.line.state.kept v.line.state.kept.exchange m.change _ m.changes (sym m.answers ∙ says),
+      pulls_done v.traced.state.kept v.traced.state.kept.exchange m.change _ m.changes (sym m.answers ∙ says),
     )) o
 
-sends : (v w : View) (faults : List PayloadError) (piece : Piece) → Sent v.line w.line piece → Once faults v → Once faults w
-sends v w faults (Ready None) goes o = same v w faults on.body_end (Is on.done) goes (λ out m. by_change v.line.state.kept.exchange _ _ m.changes (ending_leaves v.line.state.kept v.line.state.kept.exchange)) o
-sends v w faults (Ready (Some (Ok bytes))) goes o = same v w faults (on.chunk bytes) (Is on.done) goes (λ out m. by_change v.line.state.kept.exchange _ _ m.changes (piece_leaves bytes v.line.state.kept v.line.state.kept.exchange)) o
-sends v w faults (Ready (Some (Err (Body n)))) goes o = same v w faults on.body_error (Is on.done) goes (λ out m. by_change v.line.state.kept.exchange _ _ m.changes refl) o
+sends : (v w : View) (faults : List PayloadError) (piece : Piece) → Sent v.traced w.traced piece → Once faults v → Once faults w
+sends v w faults (Ready None) goes o = same v w faults on.body_end (Is on.done) goes (λ out m. by_change v.traced.state.kept.exchange _ _ m.changes (ending_leaves v.traced.state.kept v.traced.state.kept.exchange)) o
+sends v w faults (Ready (Some (Ok bytes))) goes o = same v w faults (on.chunk bytes) (Is on.done) goes (λ out m. by_change v.traced.state.kept.exchange _ _ m.changes (piece_leaves bytes v.traced.state.kept v.traced.state.kept.exchange)) o
+sends v w faults (Ready (Some (Err (Body n)))) goes o = same v w faults on.body_error (Is on.done) goes (λ out m. by_change v.traced.state.kept.exchange _ _ m.changes refl) o
 sends v w faults (Ready (Some (Err NoMemory))) goes o = absurd goes
-sends v w faults Pending line o = still v w faults line o
+sends v w faults Pending traced o = still v w faults traced o
 
 step_once : (v w : View) (d : Step) (body : CameBody) → IsNoted d → IsStep v d w → Once body.faults v → Once (step_body body d).faults w
 step_once v w (ticked moment expiry) body noted is o =
     same v w body.faults (on.tick moment) (Is (expiry_of expiry)) is.0
-    (λ out m. by_change v.line.state.kept.exchange _ (ticking (setting_of v.line.state.settings) v.line.state.kept (closing_by (setting_of v.line.state.settings) v.line.state.kept) moment) m.changes
-    (ap is_done (expires (setting_of v.line.state.settings) v.line.state.kept (closing_by (setting_of v.line.state.settings) v.line.state.kept) _ moment))) o
-step_once v w drained body noted is o = same v w body.faults on.drain (Is on.done) is.0 (λ out m. by_change v.line.state.kept.exchange _ _ m.changes refl) o
+    (λ out m. by_change v.traced.state.kept.exchange _ (ticking (setting_of v.traced.state.settings) v.traced.state.kept (closing_by (setting_of v.traced.state.settings) v.traced.state.kept) moment) m.changes
+    (ap is_done (expires (setting_of v.traced.state.settings) v.traced.state.kept (closing_by (setting_of v.traced.state.settings) v.traced.state.kept) _ moment))) o
+step_once v w drained body noted is o = same v w body.faults on.drain (Is on.done) is.0 (λ out m. by_change v.traced.state.kept.exchange _ _ m.changes refl) o
 step_once v w (written answer) body noted is o = wrote v w body.faults answer is.3 o
 step_once v w (read came answer) body noted is o = took v w body.faults came answer is.3 o
-step_once v w (shut answer) body noted is o = still v w body.faults (ap (λ (x : View). x.line) is.2) o
+step_once v w (shut answer) body noted is o = still v w body.faults (ap (λ (x : View). x.traced) is.2) o
 step_once v w (next head) body noted is o = asked v w body head is.3 o
 step_once v w (closed end) body noted is o =
     same v w body.faults on.next (SaysNext is.3.0) is.3.1
-    (λ out m. ends_so (setting_of v.line.state.settings) v.line.state.kept (closing_by (setting_of v.line.state.settings) v.line.state.kept) (end_of end) m.change is.1 m.changes) o
+    (λ out m. ends_so (setting_of v.traced.state.settings) v.traced.state.kept (closing_by (setting_of v.traced.state.settings) v.traced.state.kept) (end_of end) m.change is.1 m.changes) o
 step_once v w continued body noted is o =
-    same v w body.faults on.send_continue (Is on.done) is.2 (λ out m. by_change v.line.state.kept.exchange _ _ m.changes (continue_leaves v.line.state.kept interim_text v.line.state.kept.exchange)) o
-step_once v w (ready request answer) body noted is o = still v w body.faults (ap (λ (x : View). x.line) is.3) o
-step_once v w (called request) body noted is o = still v w body.faults (ap (λ (x : View). x.line) is.2.2) o
-step_once v w (answered answer) body noted is o = still v w body.faults (ap (λ (x : View). x.line) is.same) o
+    same v w body.faults on.send_continue (Is on.done) is.2 (λ out m. by_change v.traced.state.kept.exchange _ _ m.changes (continue_leaves v.traced.state.kept interim_text v.traced.state.kept.exchange)) o
+step_once v w (ready request answer) body noted is o = still v w body.faults (ap (λ (x : View). x.traced) is.3) o
+step_once v w (called request) body noted is o = still v w body.faults (ap (λ (x : View). x.traced) is.2.2) o
+step_once v w (answered answer) body noted is o = still v w body.faults (ap (λ (x : View). x.traced) is.same) o
 step_once v w (pulled piece) body noted is o = pulls v w body piece is.0.awaits is.1 o
-step_once v w paused body noted is o = still v w body.faults (ap (λ (x : View). x.line) is.4) o
+step_once v w paused body noted is o = still v w body.faults (ap (λ (x : View). x.traced) is.4) o
 step_once v w dropped body noted is o =
-    same v w body.faults on.drop_body (Is on.done) is.2 (λ out m. by_change v.line.state.kept.exchange _ _ m.changes (drop_leaves v.line.state.kept v.line.state.kept.exchange)) o
+    same v w body.faults on.drop_body (Is on.done) is.2 (λ out m. by_change v.traced.state.kept.exchange _ _ m.changes (drop_leaves v.traced.state.kept v.traced.state.kept.exchange)) o
 step_once v w (replied answer) body noted is o =
     same v w body.faults (on.answer (answer_of answer.head) (size_of answer.body.size)) (Is on.done) is.2
-    (λ out m. by_change v.line.state.kept.exchange _ _ m.changes (answer_leaves (setting_of v.line.state.settings) (answer_of answer.head) (size_of answer.body.size) v.line.state.kept v.line.state.kept.exchange)) o
+    (λ out m. by_change v.traced.state.kept.exchange _ _ m.changes (answer_leaves (setting_of v.traced.state.settings) (answer_of answer.head) (size_of answer.body.size) v.traced.state.kept v.traced.state.kept.exchange)) o
 step_once v w (sent piece) body noted is o = sends v w body.faults piece is.2 o
 step_once v w (failed event) body noted is o = absurd noted
 step_once v w (failed_write count) body noted is o = absurd noted
 step_once v w (failed_read came event) body noted is o = absurd noted
 step_once v w (failed_fed bytes) body noted is o = absurd noted
 step_once v w (failed_sent piece) body noted is o = absurd noted
-step_once v w asked_to_drain body noted is o = still v w body.faults (ap (λ (x : View). x.line) is) o
-step_once v w (asked_to_hold upgrades expects) body noted is o = still v w body.faults (ap (λ (x : View). x.line) is) o
-step_once v w declined body noted is o = still v w body.faults (ap (λ (x : View). x.line) is) o
-step_once v w let_on body noted is o = still v w body.faults (ap (λ (x : View). x.line) is) o
-step_once v w (turned_away request answer) body noted is o = still v w body.faults (ap (λ (x : View). x.line) is.2) o
+step_once v w asked_to_drain body noted is o = still v w body.faults (ap (λ (x : View). x.traced) is) o
+step_once v w (asked_to_hold upgrades expects) body noted is o = still v w body.faults (ap (λ (x : View). x.traced) is) o
+step_once v w declined body noted is o = still v w body.faults (ap (λ (x : View). x.traced) is) o
+step_once v w let_on body noted is o = still v w body.faults (ap (λ (x : View). x.traced) is) o
+step_once v w (turned_away request answer) body noted is o = still v w body.faults (ap (λ (x : View). x.traced) is.2) o
 step_once v w (refused limit error) body noted is o =
-    let set = setting_of v.line.state.settings in
-    let k = v.line.state.kept in
+    let set = setting_of v.traced.state.settings in
+    let k = v.traced.state.kept in
     went v w body.faults body.faults (on.accept limit) (Is (on.refused error)) is.1
-    (λ out says m. done_on body.faults k.exchange m.change.kept.exchange (ap (λ (x : Kept). is_done x.exchange) (refused_keeps set k w.line.state.kept limit error out says m)) o.once) o
+    (λ out says m. done_on body.faults k.exchange m.change.kept.exchange (ap (λ (x : Kept). is_done x.exchange) (refused_keeps set k w.traced.state.kept limit error out says m)) o.once) o
 
 run_once : (v w : View) (steps : List Step) (body : CameBody) → AllNoted steps → IsRun v steps w → Once body.faults v → Once (body_after body steps).faults w
-run_once v w [] body noted is o = still v w body.faults (ap (λ (x : View). x.line) is) o
+run_once v w [] body noted is o = still v w body.faults (ap (λ (x : View). x.traced) is) o
 run_once v w (d ∷ steps) body noted is o = run_once is.0 w steps (step_body body d) noted.1 is.2 (step_once v is.0 d body noted.0 is.1 o)
 
 few : (faults : List PayloadError) (e : Option Exchange) → AtMostOne faults e → length faults ≤ 1
 few faults e (inl none) = omega (arith, ap (λ (l : List PayloadError). length l) none)
 few faults e (inr one) = omega (arith, one.0)
 
-pub run_has_one : (v w : View) (steps : List Step) (body : CameBody) (trace : List sums.Step) → LineStands v.line trace → AllNoted steps → IsRun v steps w → body.faults ≡ [] → length (body_after body steps).faults ≤ 1
+pub run_has_one : (v w : View) (steps : List Step) (body : CameBody) (trace : List sums.Step) → TracedStands v.traced trace → AllNoted steps → IsRun v steps w → body.faults ≡ [] → length (body_after body steps).faults ≤ 1
 run_has_one v w steps body trace stands noted run none =
-    few (body_after body steps).faults w.line.state.kept.exchange (run_once v w steps body noted run (record { trace = trace; stands = stands; once = inl none })).once
+    few (body_after body steps).faults w.traced.state.kept.exchange (run_once v w steps body noted run (record { trace = trace; stands = stands; once = inl none })).once

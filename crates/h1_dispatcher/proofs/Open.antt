@@ -37,8 +37,8 @@ use Rattle.h1_connection.specs.State.{Is}
 use Rattle.h1_connection.specs.Ticks.{expiry_of}
 use Rattle.h1_connection.specs.declared.connection.heads.NextHead.{NextHead}
 use Rattle.h1_connection.specs.declared.connection.heads.NextHead.TheVariants as next_head
-use Rattle.h1_traced.specs.Line.{LineView, LineStands}
-use Rattle.h1_traced.proofs.Lines.{fresh_line, says_none, says_empty}
+use Rattle.h1_traced.specs.Traced.{TracedView, TracedStands}
+use Rattle.h1_traced.proofs.TracedLaws.{fresh_traced, says_none, says_empty}
 use Rattle.h1_dispatcher.specs.View.{View, Asking, Answer, Stage, waiting, calling, replying, sending as goes_out, is_unanswered as is_unanswered_at, is_sending, any_answer, view_begun}
 use Rattle.h1_dispatcher.specs.Steps.{Step, Goes, Wrote, Took, IsStep, IsRun, request_at, stage_at, stage_asked, stage_answered, stage_replied, stage_sent, Sent, ticked, drained, written, read, shut, next, closed, continued, ready, called, answered, pulled, paused, dropped, replied, sent, failed, failed_write, failed_read, failed_fed, failed_sent, asked_to_drain, asked_to_hold, declined, let_on, turned_away, refused}
 use Rattle.h1_dispatcher.specs.Traces.{IsNoted, AllNoted}
@@ -67,9 +67,9 @@ both : (x : Bool × Bool) (a b : Bool) → x.0 ≡ a → x.1 ≡ b → x ≡ (a,
 both (c, d) a b is so = ap (λ (x : Bool). (x, d)) is ∙ ap (λ (x : Bool). (a, x)) so
 
 -- by the machine's questions
-was_so : (v : View) → IsTied v → asks v.line.state.kept.exchange ≡ asks_at v.stage
+was_so : (v : View) → IsTied v → asks v.traced.state.kept.exchange ≡ asks_at v.stage
 was_so v t =
-    let k = v.line.state.kept in
+    let k = v.traced.state.kept in
     both (asks k.exchange) (is_unanswered_at v.stage) (is_sending v.stage) (sym (waits_in k k.exchange) ∙ t.tied) (sym (sends_in k k.exchange) ∙ t.sends)
 
 -- a step changes what its change says
@@ -227,24 +227,24 @@ pulls_asks k (Some x) c is =
 
 -- ---- steps
 
-still : (v w : View) → w.line ≡ v.line → asks_at w.stage ≡ asks_at v.stage → IsTied v → IsTied w
-still v w line stage t = record {
+still : (v w : View) → w.traced ≡ v.traced → asks_at w.stage ≡ asks_at v.stage → IsTied v → IsTied w
+still v w traced stage t = record {
   trace = t.trace;
-  stands = subst (λ (l : LineView). LineStands l t.trace) (sym line) t.stands;
-  tied = ap (λ (l : LineView). waits_for_answer l.state.kept) line ∙ t.tied ∙ ap (λ (x : Bool × Bool). x.0) (sym stage);
-  sends = ap (λ (l : LineView). is_answering l.state.kept) line ∙ t.sends ∙ ap (λ (x : Bool × Bool). x.1) (sym stage);
+  stands = subst (λ (l : TracedView). TracedStands l t.trace) (sym traced) t.stands;
+  tied = ap (λ (l : TracedView). waits_for_answer l.state.kept) traced ∙ t.tied ∙ ap (λ (x : Bool × Bool). x.0) (sym stage);
+  sends = ap (λ (l : TracedView). is_answering l.state.kept) traced ∙ t.sends ∙ ap (λ (x : Bool × Bool). x.1) (sym stage);
 }
 
-went : (v w : View) (event : on.Event) (Says : on.Outcome → Type 0) → Goes v.line event Says w.line
-    → ((out : on.Outcome) → Says out → (m : Machine (setting_of v.line.state.settings) v.line.state.kept event out w.line.state.kept)
-    → asks v.line.state.kept.exchange ≡ asks_at v.stage → asks m.change.kept.exchange ≡ asks_at w.stage)
+went : (v w : View) (event : on.Event) (Says : on.Outcome → Type 0) → Goes v.traced event Says w.traced
+    → ((out : on.Outcome) → Says out → (m : Machine (setting_of v.traced.state.settings) v.traced.state.kept event out w.traced.state.kept)
+    → asks v.traced.state.kept.exchange ≡ asks_at v.stage → asks m.change.kept.exchange ≡ asks_at w.stage)
     → IsTied v → IsTied w
 went v w event Says goes so t =
     let x = goes.steps t.trace t.stands in
     let s : sums.Step = record { event = event; outcome = x.0 } in
-    let k = v.line.state.kept in
-    let later = w.line.state.kept in
-    let is = ap asks (after_step (setting_of v.line.state.settings) k later event x.0 x.2.machine) ∙ so x.0 x.1 x.2.machine (was_so v t) in
+    let k = v.traced.state.kept in
+    let later = w.traced.state.kept in
+    let is = ap asks (after_step (setting_of v.traced.state.settings) k later event x.0 x.2.machine) ∙ so x.0 x.1 x.2.machine (was_so v t) in
     record {
       trace = s ∷ t.trace;
       stands = x.2.stands;
@@ -253,26 +253,26 @@ went v w event Says goes so t =
     }
 
 -- the request stays as it is
-same : (v w : View) (event : on.Event) (Says : on.Outcome → Type 0) → Goes v.line event Says w.line → w.stage ≡ v.stage
-    → ((out : on.Outcome) → (m : Machine (setting_of v.line.state.settings) v.line.state.kept event out w.line.state.kept)
-    → asks m.change.kept.exchange ≡ asks v.line.state.kept.exchange)
+same : (v w : View) (event : on.Event) (Says : on.Outcome → Type 0) → Goes v.traced event Says w.traced → w.stage ≡ v.stage
+    → ((out : on.Outcome) → (m : Machine (setting_of v.traced.state.settings) v.traced.state.kept event out w.traced.state.kept)
+    → asks m.change.kept.exchange ≡ asks v.traced.state.kept.exchange)
     → IsTied v → IsTied w
 same v w event Says goes stage so t = went v w event Says goes (λ out says m was. so out m ∙ was ∙ ap asks_at (sym stage)) t
 
-wrote : (v w : View) (answer : Poll (Result ℕ Failed)) → Wrote v.line w.line answer → w.stage ≡ v.stage → IsTied v → IsTied w
+wrote : (v w : View) (answer : Poll (Result ℕ Failed)) → Wrote v.traced w.traced answer → w.stage ≡ v.stage → IsTied v → IsTied w
 wrote v w (Ready (Ok n)) goes stage t = same v w (on.write n) _ goes.1 stage (λ out m. by_change _ _ _ m.changes refl) t
-wrote v w (Ready (Err e)) line stage t = still v w line (ap asks_at stage) t
-wrote v w Pending line stage t = still v w line (ap asks_at stage) t
+wrote v w (Ready (Err e)) traced stage t = still v w traced (ap asks_at stage) t
+wrote v w Pending traced stage t = still v w traced (ap asks_at stage) t
 
-took : (v w : View) (came : List ℕ) (answer : Poll (Result ℕ Failed)) → Took v.line w.line came answer → w.stage ≡ v.stage → IsTied v → IsTied w
+took : (v w : View) (came : List ℕ) (answer : Poll (Result ℕ Failed)) → Took v.traced w.traced came answer → w.stage ≡ v.stage → IsTied v → IsTied w
 took v w came (Ready (Ok n)) (inl end) stage t =
     same v w on.eof (Is on.done) end.1 stage
-    (λ out m. by_change _ _ (doing (ending_input v.line.state.kept)) m.changes (passing_asks _ ∙ asks_at_end v.line.state.kept.unread v.line.state.kept.exchange)) t
+    (λ out m. by_change _ _ (doing (ending_input v.traced.state.kept)) m.changes (passing_asks _ ∙ asks_at_end v.traced.state.kept.unread v.traced.state.kept.exchange)) t
 took v w came (Ready (Ok n)) (inr some) stage t =
     same v w (on.read came) _ some.1.1 stage
-    (λ out m. by_change _ _ (reading (setting_of v.line.state.settings) came v.line.state.kept) m.changes (passing_asks _)) t
-took v w came (Ready (Err e)) line stage t = still v w line (ap asks_at stage) t
-took v w came Pending line stage t = still v w line (ap asks_at stage) t
+    (λ out m. by_change _ _ (reading (setting_of v.traced.state.settings) came v.traced.state.kept) m.changes (passing_asks _)) t
+took v w came (Ready (Err e)) traced stage t = still v w traced (ap asks_at stage) t
+took v w came Pending traced stage t = still v w traced (ap asks_at stage) t
 
 asked_busy : (request : Asking) (answer : Poll (Result Unit Answer)) → asks_at (stage_asked request answer) ≡ (true, false)
 asked_busy request (Ready (Ok x)) = refl
@@ -294,29 +294,29 @@ replied_so body (Sized zero) = refl
 replied_so body (Sized (suc n)) = ap (λ b. (false, not b)) (sym (eqb-suc-zero n))
 replied_so body Stream = refl
 
-replies : (v w : View) (answer : Answer) → v.stage ≡ replying answer → Goes v.line (on.answer (answer_of answer.head) (size_of answer.body.size)) (Is on.done) w.line
+replies : (v w : View) (answer : Answer) → v.stage ≡ replying answer → Goes v.traced (on.answer (answer_of answer.head) (size_of answer.body.size)) (Is on.done) w.traced
     → w.stage ≡ stage_replied answer.body answer.body.size → IsTied v → IsTied w
 replies v w answer was goes now t =
-    let k = v.line.state.kept in
+    let k = v.traced.state.kept in
     went v w _ (Is on.done) goes
     (λ out says m before. ap (λ (x : Change). asks x.kept.exchange) m.changes
-    ∙ answers_in (setting_of v.line.state.settings) (answer_of answer.head) (size_of answer.body.size) k k.exchange (ap (λ (x : Bool × Bool). x.0) (before ∙ ap asks_at was))
+    ∙ answers_in (setting_of v.traced.state.settings) (answer_of answer.head) (size_of answer.body.size) k k.exchange (ap (λ (x : Bool × Bool). x.0) (before ∙ ap asks_at was))
     ∙ sym (replied_so answer.body answer.body.size) ∙ ap asks_at (sym now)) t
 
 -- a piece, or what failed: the body still goes out
-goes_on : (v w : View) (event : on.Event) (body left : Giving) → v.stage ≡ goes_out body → w.stage ≡ goes_out left → Goes v.line event (Is on.done) w.line
-    → ((out : on.Outcome) → (m : Machine (setting_of v.line.state.settings) v.line.state.kept event out w.line.state.kept)
-    → asks m.change.kept.exchange ≡ asks v.line.state.kept.exchange)
+goes_on : (v w : View) (event : on.Event) (body left : Giving) → v.stage ≡ goes_out body → w.stage ≡ goes_out left → Goes v.traced event (Is on.done) w.traced
+    → ((out : on.Outcome) → (m : Machine (setting_of v.traced.state.settings) v.traced.state.kept event out w.traced.state.kept)
+    → asks m.change.kept.exchange ≡ asks v.traced.state.kept.exchange)
     → IsTied v → IsTied w
 goes_on v w event body left was now is so t = went v w event (Is on.done) is (λ out says m before. so out m ∙ before ∙ ap asks_at was ∙ ap asks_at (sym now)) t
 
-sends : (v w : View) (piece : Piece) (body left : Giving) → v.stage ≡ goes_out body → w.stage ≡ stage_sent left piece → Sent v.line w.line piece → IsTied v → IsTied w
+sends : (v w : View) (piece : Piece) (body left : Giving) → v.stage ≡ goes_out body → w.stage ≡ stage_sent left piece → Sent v.traced w.traced piece → IsTied v → IsTied w
 sends v w (Ready None) body left was now is t =
-    let k = v.line.state.kept in
+    let k = v.traced.state.kept in
     went v w on.body_end (Is on.done) is
     (λ out says m before. ap (λ (x : Change). asks x.kept.exchange) m.changes ∙ ends_in k k.exchange (ap (λ (x : Bool × Bool). x.1) (before ∙ ap asks_at was)) ∙ ap asks_at (sym now)) t
 sends v w (Ready (Some (Ok bytes))) body left was now is t =
-    goes_on v w (on.chunk bytes) body left was now is (λ out m. by_change _ _ _ m.changes (pieces_in bytes v.line.state.kept v.line.state.kept.exchange)) t
+    goes_on v w (on.chunk bytes) body left was now is (λ out m. by_change _ _ _ m.changes (pieces_in bytes v.traced.state.kept v.traced.state.kept.exchange)) t
 sends v w (Ready (Some (Err (Body n)))) body left was now is t = goes_on v w on.body_error body left was now is (λ out m. by_change _ _ _ m.changes refl) t
 sends v w (Ready (Some (Err NoMemory))) body left was now is t = absurd is
 sends v w Pending body left was now is t = still v w is (ap asks_at now ∙ sym (ap asks_at was)) t
@@ -324,36 +324,36 @@ sends v w Pending body left was now is t = still v w is (ap asks_at now ∙ sym 
 pub step_ties : (v w : View) (d : Step) → IsNoted d → IsStep v d w → IsTied v → IsTied w
 step_ties v w (ticked moment expiry) noted is t =
     same v w (on.tick moment) (Is (expiry_of expiry)) is.0 (ap (λ (x : View). x.stage) is.1)
-    (λ out m. by_change _ _ (ticking (setting_of v.line.state.settings) v.line.state.kept (closing_by (setting_of v.line.state.settings) v.line.state.kept) moment) m.changes
-    (ap asks (expires (setting_of v.line.state.settings) v.line.state.kept (closing_by (setting_of v.line.state.settings) v.line.state.kept) _ moment))) t
+    (λ out m. by_change _ _ (ticking (setting_of v.traced.state.settings) v.traced.state.kept (closing_by (setting_of v.traced.state.settings) v.traced.state.kept) moment) m.changes
+    (ap asks (expires (setting_of v.traced.state.settings) v.traced.state.kept (closing_by (setting_of v.traced.state.settings) v.traced.state.kept) _ moment))) t
 step_ties v w drained noted is t = same v w on.drain (Is on.done) is.0 (ap (λ (x : View). x.stage) is.1) (λ out m. by_change _ _ _ m.changes refl) t
 step_ties v w (written answer) noted is t = wrote v w answer is.3 (ap (λ (x : View). x.stage) is.4) t
 step_ties v w (read came answer) noted is t = took v w came answer is.3 (ap (λ (x : View). x.stage) is.4) t
-step_ties v w (shut answer) noted is t = still v w (ap (λ (x : View). x.line) is.2) (ap (λ (x : View). asks_at x.stage) is.2) t
+step_ties v w (shut answer) noted is t = still v w (ap (λ (x : View). x.traced) is.2) (ap (λ (x : View). asks_at x.stage) is.2) t
 step_ties v w (next head) noted is t =
     went v w on.next (SaysNext head) is.3
-    (λ out says m was. nexts (setting_of v.line.state.settings) v.line.state.kept (closing_by (setting_of v.line.state.settings) v.line.state.kept) m.change (was ∙ ap asks_at is.1) m.changes
+    (λ out says m was. nexts (setting_of v.traced.state.settings) v.traced.state.kept (closing_by (setting_of v.traced.state.settings) v.traced.state.kept) m.change (was ∙ ap asks_at is.1) m.changes
     ∙ ap hands_out (sym m.answers) ∙ busy_at head out says ∙ ap (λ (x : View). asks_at x.stage) (sym is.4)) t
 step_ties v w (closed end) noted is t =
     same v w on.next (SaysNext is.3.0) is.3.1 (ap (λ (x : View). x.stage) is.4)
-    (λ out m. ends_so (setting_of v.line.state.settings) v.line.state.kept (closing_by (setting_of v.line.state.settings) v.line.state.kept) (end_of end) m.change is.1 m.changes) t
+    (λ out m. ends_so (setting_of v.traced.state.settings) v.traced.state.kept (closing_by (setting_of v.traced.state.settings) v.traced.state.kept) (end_of end) m.change is.1 m.changes) t
 step_ties v w continued noted is t =
     same v w on.send_continue (Is on.done) is.2 (ap (λ (x : View). x.stage) is.3)
-    (λ out m. by_change _ _ _ m.changes (goes_ahead_in v.line.state.kept interim_text v.line.state.kept.exchange)) t
+    (λ out m. by_change _ _ _ m.changes (goes_ahead_in v.traced.state.kept interim_text v.traced.state.kept.exchange)) t
 step_ties v w (ready request answer) noted is t =
-    still v w (ap (λ (x : View). x.line) is.3)
+    still v w (ap (λ (x : View). x.traced) is.3)
     (both_busy v w (waiting request) (stage_asked request answer) is.0.1 (ap (λ (x : View). x.stage) is.3) refl (asked_busy request answer)) t
 step_ties v w (called request) noted is t =
-    still v w (ap (λ (x : View). x.line) is.2.2) (both_busy v w (waiting request) (calling is.2.0) is.0.1 (ap (λ (x : View). x.stage) is.2.2) refl refl) t
+    still v w (ap (λ (x : View). x.traced) is.2.2) (both_busy v w (waiting request) (calling is.2.0) is.0.1 (ap (λ (x : View). x.stage) is.2.2) refl refl) t
 step_ties v w (answered answer) noted is t =
-    still v w (ap (λ (x : View). x.line) is.same) (both_busy v w (calling is.took) (stage_answered is.more answer) is.calls (ap (λ (x : View). x.stage) is.same) refl (answered_busy is.more answer)) t
+    still v w (ap (λ (x : View). x.traced) is.same) (both_busy v w (calling is.took) (stage_answered is.more answer) is.calls (ap (λ (x : View). x.stage) is.same) refl (answered_busy is.more answer)) t
 step_ties v w (pulled piece) noted is t =
     same v w on.pull (SaysPulled piece) is.1 (ap (λ (x : View). x.stage) is.2)
-    (λ out m. pulls_asks v.line.state.kept v.line.state.kept.exchange m.change m.changes) t
-step_ties v w paused noted is t = still v w (ap (λ (x : View). x.line) is.4) (ap (λ (x : View). asks_at x.stage) is.4) t
+    (λ out m. pulls_asks v.traced.state.kept v.traced.state.kept.exchange m.change m.changes) t
+step_ties v w paused noted is t = still v w (ap (λ (x : View). x.traced) is.4) (ap (λ (x : View). asks_at x.stage) is.4) t
 step_ties v w dropped noted is t =
     same v w on.drop_body (Is on.done) is.2 (ap (λ (x : View). x.stage) is.3)
-    (λ out m. by_change _ _ _ m.changes (drops_in v.line.state.kept v.line.state.kept.exchange)) t
+    (λ out m. by_change _ _ _ m.changes (drops_in v.traced.state.kept v.traced.state.kept.exchange)) t
 step_ties v w (replied answer) noted is t = replies v w answer is.1 is.2 (ap (λ (x : View). x.stage) is.3) t
 step_ties v w (sent piece) noted is t = sends v w piece is.1.body is.0 is.1.goes_out (ap (λ (x : View). x.stage) is.3) is.2 t
 step_ties v w (failed event) noted is t = absurd noted
@@ -361,15 +361,15 @@ step_ties v w (failed_write count) noted is t = absurd noted
 step_ties v w (failed_read came event) noted is t = absurd noted
 step_ties v w (failed_fed bytes) noted is t = absurd noted
 step_ties v w (failed_sent piece) noted is t = absurd noted
-step_ties v w asked_to_drain noted is t = still v w (ap (λ (x : View). x.line) is) (ap (λ (x : View). asks_at x.stage) is) t
-step_ties v w (asked_to_hold upgrades expects) noted is t = still v w (ap (λ (x : View). x.line) is) (ap (λ (x : View). asks_at x.stage) is) t
-step_ties v w declined noted is t = still v w (ap (λ (x : View). x.line) is) (ap (λ (x : View). asks_at x.stage) is) t
-step_ties v w let_on noted is t = still v w (ap (λ (x : View). x.line) is) (ap (λ (x : View). asks_at x.stage) is) t
+step_ties v w asked_to_drain noted is t = still v w (ap (λ (x : View). x.traced) is) (ap (λ (x : View). asks_at x.stage) is) t
+step_ties v w (asked_to_hold upgrades expects) noted is t = still v w (ap (λ (x : View). x.traced) is) (ap (λ (x : View). asks_at x.stage) is) t
+step_ties v w declined noted is t = still v w (ap (λ (x : View). x.traced) is) (ap (λ (x : View). asks_at x.stage) is) t
+step_ties v w let_on noted is t = still v w (ap (λ (x : View). x.traced) is) (ap (λ (x : View). asks_at x.stage) is) t
 step_ties v w (turned_away request answer) noted is t =
-    still v w (ap (λ (x : View). x.line) is.2) (both_busy v w (waiting request) (replying answer) is.1 (ap (λ (x : View). x.stage) is.2) refl refl) t
+    still v w (ap (λ (x : View). x.traced) is.2) (both_busy v w (waiting request) (replying answer) is.1 (ap (λ (x : View). x.stage) is.2) refl refl) t
 step_ties v w (refused limit error) noted is t =
     went v w (on.accept limit) (Is (on.refused error)) is.1
-    (λ out says m was. ap (λ (x : Kept). asks x.exchange) (refused_keeps (setting_of v.line.state.settings) v.line.state.kept w.line.state.kept limit error out says m)
+    (λ out says m was. ap (λ (x : Kept). asks x.exchange) (refused_keeps (setting_of v.traced.state.settings) v.traced.state.kept w.traced.state.kept limit error out says m)
     ∙ was ∙ ap (λ (x : View). asks_at x.stage) (sym is.2)) t
 
 run_ties : (v w : View) (steps : List Step) → AllNoted steps → IsRun v steps w → IsTied v → IsTied w
@@ -401,8 +401,8 @@ room_where set k going runs goes = only_room k.is_over (is_some (closing_by set 
 pub run_stays : (v w : View) (steps : List Step) → AllNoted steps → IsRun v steps w → IsTied v → StaysTied w
 run_stays v w steps noted is t =
     let x = run_ties v w steps noted is t in
-    let set = setting_of w.line.state.settings in
-    let k = w.line.state.kept in
+    let set = setting_of w.traced.state.settings in
+    let k = w.traced.state.kept in
     record {
       tied = x;
       busy = λ allowed. sym x.tied ∙ waits_where set k allowed;
@@ -411,8 +411,8 @@ run_stays v w steps noted is t =
 
 -- ---- a new dispatcher
 
-pub begun_tied : (wire : Wiring) (service : Serving Asking Answer Answer) (settings : Settings) → IsTied (view_begun wire service settings None)
-begun_tied wire service settings = record { trace = []; stands = fresh_line settings None (says_none None [] refl); tied = refl; sends = refl }
+pub begun_tied : (transport : Wiring) (service : Serving Asking Answer Answer) (settings : Settings) → IsTied (view_begun transport service settings None)
+begun_tied transport service settings = record { trace = []; stands = fresh_traced settings None (says_none None [] refl); tied = refl; sends = refl }
 
-pub begun_tied_noted : (wire : Wiring) (service : Serving Asking Answer Answer) (settings : Settings) → IsTied (view_begun wire service settings (Some []))
-begun_tied_noted wire service settings = record { trace = []; stands = fresh_line settings (Some []) (says_empty (Some []) refl); tied = refl; sends = refl }
+pub begun_tied_noted : (transport : Wiring) (service : Serving Asking Answer Answer) (settings : Settings) → IsTied (view_begun transport service settings (Some []))
+begun_tied_noted transport service settings = record { trace = []; stands = fresh_traced settings (Some []) (says_empty (Some []) refl); tied = refl; sends = refl }

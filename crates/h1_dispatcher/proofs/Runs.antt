@@ -106,7 +106,7 @@ pub all_noted : (steps : List Step) → AllContinue steps → AllNoted steps
 all_noted [] all = tt
 all_noted (d ∷ steps) all = (goes_noted d all.0, all_noted steps all.1)
 
--- after steps after each of which a turn goes on the line stands still, so that no answer of the service is left by two runs
+-- after steps after each of which a turn goes on the traced connection stands still, so that no answer of the service is left by two runs
 pub hands_on : (v u w : View) (steps : List Step) → AllContinue steps → IsRun v steps u → HandsOn v u → HandsOn u w → HandsOn v w
 hands_on v u w steps goes run first then = λ trace stands none. then _ (run_follows v u steps (all_noted steps goes) run trace stands).stands (first trace stands none)
 

@@ -19,7 +19,7 @@ use Rattle.h1_connection.specs.Meaning.{setting_of, end_of}
 use Rattle.h1_connection.specs.declared.connection.heads.NextHead.TheVariants as next_head
 use Rattle.h1_connection.specs.declared.event.End.{End}
 use Rattle.h1_connection.specs.declared.event.End.TheVariants as ends
-use Rattle.h1_traced.specs.Line.{LineView, LineStands}
+use Rattle.h1_traced.specs.Traced.{TracedView, TracedStands}
 use Rattle.http_types.specs.declared.error.DispatchError.{DispatchError}
 use Rattle.h1_dispatcher.specs.declared.dispatcher.Ending.TheVariants.{Closed}
 use Rattle.h1_dispatcher.specs.declared.dispatcher.Turn.{Turn}
@@ -64,15 +64,15 @@ shut_over v w end result is ending step =
 -- ---- one step before what follows
 
 -- an answer of the service, which is handed on
-pub step_then : (most : ℕ) → 3 ≤ most → (v u w : View) (d : Step) (turn : Turn) → IsStep v d u → Continues d → u.line ≡ v.line → EndSays 2 u w turn
-    → ((trace : List sums.Step) → LineStands u.line trace → Handed w turn) → ServeSays most v w turn
+pub step_then : (most : ℕ) → 3 ≤ most → (v u w : View) (d : Step) (turn : Turn) → IsStep v d u → Continues d → u.traced ≡ v.traced → EndSays 2 u w turn
+    → ((trace : List sums.Step) → TracedStands u.traced trace → Handed w turn) → ServeSays most v w turn
 step_then most fits v u w d Counted is goes same says handed = record {
   steps = d ∷ says.steps;
   run = (u, is, says.run);
   go_on = (goes, says.go_on);
   enough = omega (arith, says.enough);
   few = omega (arith, says.few, fits);
-  handed = λ trace stands none. handed trace (subst (λ (l : LineView). LineStands l trace) (sym same) stands);
+  handed = λ trace stands none. handed trace (subst (λ (l : TracedView). TracedStands l trace) (sym same) stands);
 }
 step_then most fits v u w d Idle is goes same says handed = absurd says
 step_then most fits v u w d (Over result) is goes same says handed = record {
@@ -80,7 +80,7 @@ step_then most fits v u w d (Over result) is goes same says handed = record {
   run = (u, is, says.run);
   ended = ended_on w d says.steps result goes says.ended;
   few = omega (arith, says.few, fits);
-  handed = λ trace stands none. inl (handed trace (subst (λ (l : LineView). LineStands l trace) (sym same) stands));
+  handed = λ trace stands none. inl (handed trace (subst (λ (l : TracedView). TracedStands l trace) (sym same) stands));
 }
 
 pub drop_then : (v u w : View) (d : Step) (turn : Turn) → IsStep v d u → Quiet d → 1 ≤ counts d → StepSays u w turn → EndSays 2 v w turn
@@ -423,7 +423,7 @@ written_then v u w Idle running is says =
     inl (record { running = running; writing = written Pending ∷ []; after = u; writes = one v u (written Pending) is; no_output = inl refl; waits = says })
 written_then v u w (Over result) running is says = ends_after v u w 0 result 1 4 5 (omega arith) (goes_by 1 (omega arith) v u (written Pending) 0 is tt (omega arith)) says
 
--- the wire took bytes
+-- the transport took bytes
 pub wrote_first : (v w : View) (count : ℕ) → IsStep v (written (Ready (Ok count))) w → TurnSays v w Counted
 wrote_first v w count is = (
   record {
@@ -492,7 +492,7 @@ nothing_read v turn is none = subst (λ t. ReadingSays v v t) (sym is) (record {
 
 -- ---- closing
 
-pub not_closing : (v : View) (r : Option End) → r ≡ None → option_map end_of r ≡ closing_by (setting_of v.line.state.settings) v.line.state.kept → closes v ≡ false
+pub not_closing : (v : View) (r : Option End) → r ≡ None → option_map end_of r ≡ closing_by (setting_of v.traced.state.settings) v.traced.state.kept → closes v ≡ false
 not_closing v r none says = ap is_some (sym says) ∙ ap (λ x. is_some (option_map end_of x)) none
 
 may_tell : (over closing open_one empty : Bool) → (not over && (if closing then true else true)) ≡ true → closing ≡ true → empty ≡ true
@@ -510,7 +510,7 @@ tells set k closing may empty refused =
 
 -- what a connection that closes waits for is that the rest is written, which was tried
 pub held_armed : {P : Type 0} (v : View) → HasNoOutput v ⊎ P → closes v ≡ true → allows v (on.write 0) ≡ true → allows_next v ≡ false → P
-held_armed v (inl (inl empty)) closing may refused = absurd (tells (setting_of v.line.state.settings) v.line.state.kept closing may empty refused)
+held_armed v (inl (inl empty)) closing may refused = absurd (tells (setting_of v.traced.state.settings) v.traced.state.kept closing may empty refused)
 held_armed v (inl (inr unwritten)) closing may refused = absurd (clash (sym may ∙ unwritten))
 held_armed v (inr armed) closing may refused = armed
 

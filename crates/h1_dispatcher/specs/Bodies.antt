@@ -59,7 +59,7 @@ SendsBody (replying answer) steps w = pieces steps ≡ []
 SendsBody (sending body) steps w = GoesOut body.coming steps w
 
 -- what is left to a connection that closes: a moment comes, or the drain; what waits is written, its end is told, and the
--- wire is shut down; requests may be held back from then on, or none
+-- transport is shut down; requests may be held back from then on, or none
 abbrev pub IsOfEnd : Step → Type 0
 IsOfEnd (ticked moment expiry) = ⊤
 IsOfEnd drained = ⊤

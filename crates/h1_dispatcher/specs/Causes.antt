@@ -10,15 +10,15 @@ use Rattle.h1_dispatcher.specs.declared.dispatcher.Ending.TheVariants.{Closed, A
 use Rattle.h1_dispatcher.specs.View.{View}
 use Rattle.h1_dispatcher.specs.Polls.{result_of}
 
--- the connection told this end, and the wire shows that it was shut down
+-- the connection told this end, and the transport shows that it was shut down
 pub record HasClosed (w : View) (end : End) : Type 0 where
   pub ended : w.ending ≡ Some (Closed end)
-  pub shut : IsTrue w.wire.shut
+  pub shut : IsTrue w.transport.shut
 
--- Each result of a poll has its cause, and no other error comes. The wire's failure is a rise of its count in this poll.
+-- Each result of a poll has its cause, and no other error comes. The transport's failure is a rise of its count in this poll.
 abbrev pub HasCause : View → View → Result Unit DispatchError → Type 0
 HasCause v w (Ok x) = (end : End) × (result_of end ≡ Ok tt) × HasClosed w end
-HasCause v w (Err error.Io) = Rose v.wire.faults w.wire.faults
+HasCause v w (Err error.Io) = Rose v.transport.faults w.transport.faults
 HasCause v w (Err error.NoMemory) = w.ending ≡ Some Broken
 HasCause v w (Err error.DisconnectTimeout) = w.ending ≡ Some Abandoned
 HasCause v w (Err error.SlowRequestTimeout) = HasClosed w ends.SlowRequestTimeout

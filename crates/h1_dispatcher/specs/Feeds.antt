@@ -75,4 +75,4 @@ HasBody body (sending sent) q = ⊤
 
 -- Fewer bytes wait in the queue than 32768 and as many as the connection may hold, beyond those that were put back.
 abbrev pub HasQueueBound : View → Type 0
-HasQueueBound v = bytes_waiting v.queue.chunks < 32768 + v.line.state.settings.h1_hold_size + v.queue.put_back
+HasQueueBound v = bytes_waiting v.queue.chunks < 32768 + v.traced.state.settings.h1_hold_size + v.queue.put_back

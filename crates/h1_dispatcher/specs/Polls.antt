@@ -15,7 +15,7 @@ use Rattle.h1_payload.specs.declared.pulled.Pulled.{Pulled}
 use Rattle.h1_payload.specs.declared.pulled.Pulled.TheVariants as pieces
 use Rattle.model_h1.specs.Event as on
 use Rattle.model_h1.specs.Sums as sums
-use Rattle.h1_traced.specs.Line.{LineStands}
+use Rattle.h1_traced.specs.Traced.{TracedStands}
 use Rattle.h1_connection.specs.declared.connection.heads.NextHead.{NextHead}
 use Rattle.h1_connection.specs.declared.connection.heads.NextHead.TheVariants as next_head
 use Rattle.h1_connection.specs.declared.connection.ticks.Expiry.{Expiry}
@@ -30,7 +30,7 @@ use Rattle.h1_dispatcher.specs.Replies.{HasNoReply, HandsOn}
 
 -- ---- steps
 
--- a call of the wire that didn't fail
+-- a call of the transport that didn't fail
 abbrev pub HasNotFailed : Poll (Result ℕ Failed) → Type 0
 HasNotFailed (Ready (Ok n)) = ⊤
 HasNotFailed (Ready (Err e)) = ⊥
@@ -40,7 +40,7 @@ abbrev pub IsPending : {A : Type 0} → Poll A → Type 0
 IsPending (Ready x) = ⊥
 IsPending Pending = ⊤
 
--- A turn goes on after this step. A poll ends with a failed call of the wire, the wire shut down, or where memory ran out;
+-- A turn goes on after this step. A poll ends with a failed call of the transport, the transport shut down, or where memory ran out;
 -- a moment and a drain come before its turns alone.
 abbrev pub Continues : Step → Type 0
 Continues (ticked moment expiry) = ⊥
@@ -136,11 +136,11 @@ result_of ends.Drained = Ok tt
 result_of ends.HalfClosed = Ok tt
 result_of ends.InputEnded = Ok tt
 
--- the connection told an end that means this result, and the wire was shut down
+-- the connection told an end that means this result, and the transport was shut down
 abbrev pub IsShut : View → List Step → Result Unit DispatchError → Type 0
 IsShut w steps result = EndsWith steps (shut (Ready (Ok tt))) × ((end : End) × (w.ending ≡ Some (Closed end)) × (result_of end ≡ result))
 
--- a call of the wire failed
+-- a call of the transport failed
 abbrev pub IsIo : List Step → Type 0
 IsIo steps =
     (failure : Failed) × (EndsWith steps (written (Ready (Err failure)))
@@ -220,7 +220,7 @@ Feeds u feeding =
     (feeding ≡ pulled pieces.Pending ∷ [])
     ⊎ ((feeding ≡ paused ∷ []) ⊎ ((feeding ≡ []) × ((awaits_body u ≡ false) ⊎ ((status_of u.queue ≡ status.Dropped) ⊎ (is_held u ≡ true)))))
 
--- the wire had no bytes, or none may be read
+-- the transport had no bytes, or none may be read
 abbrev pub Reads : View → List Step → Type 0
 Reads x reading =
     (reading ≡ read [] Pending ∷ []) ⊎ ((reading ≡ []) × HasNoInput x)
@@ -246,7 +246,7 @@ pub record IsHeld (v w : View) : Type 0 where
   pub closing : closes v ≡ true
   pub next : allows_next v ≡ false
 
--- the wire took none of what waits to be written, or nothing waits that may be
+-- the transport took none of what waits to be written, or nothing waits that may be
 abbrev pub Writes : View → List Step → Type 0
 Writes v writing = (writing ≡ written Pending ∷ []) ⊎ ((writing ≡ []) × HasNoOutput v)
 
@@ -259,7 +259,7 @@ pub record IsStuckRunning (v w : View) : Type 0 where
   pub no_output : Writes v writing
   pub waits : IsHeld after w ⊎ ((closes after ≡ false) × IsIdle after w)
 
--- the connection has ended, and the wire isn't shut down yet
+-- the connection has ended, and the transport isn't shut down yet
 pub record IsStuckShutting (v w : View) : Type 0 where
   pub end : End
   pub ended : v.ending ≡ Some (Closed end)
@@ -286,13 +286,13 @@ pub record Ends (v w : View) (most : ℕ) (result : Result Unit DispatchError) :
   pub run : IsRun v steps w
   pub ended : Ended w steps result
   pub few : length steps ≤ most
-  pub handed : (trace : List sums.Step) → LineStands v.line trace → HasNoReply v → (result ≡ Err error.NoMemory) ⊎ HasNoReply w
+  pub handed : (trace : List sums.Step) → TracedStands v.traced trace → HasNoReply v → (result ≡ Err error.NoMemory) ⊎ HasNoReply w
 
--- the wire was given what waits to be written in the first of these steps, or nothing waits that may be written
+-- the transport was given what waits to be written in the first of these steps, or nothing waits that may be written
 abbrev pub WritesFirst : View → List Step → Type 0
 WritesFirst v steps = HasNoOutput v ⊎ ((answer : Poll (Result ℕ Failed)) × (rest : List Step) × (steps ≡ written answer ∷ rest))
 
--- a turn, of at most five steps: the wire took nothing, a call was begun and answered, a body dropped, the answer handed on;
+-- a turn, of at most five steps: the transport took nothing, a call was begun and answered, a body dropped, the answer handed on;
 -- or the call was pending, and so was the body or its queue, and the input was read
 abbrev pub TurnSays : View → View → Turn → Type 0
 TurnSays v w Counted = (goes : GoesOn v w 1 5) × WritesFirst v goes.steps
@@ -399,7 +399,7 @@ BeginSays v moment w (Ok x) = IsBegun v moment w
 BeginSays v moment w (Err e) = BeginFails v moment w
 
 -- The turns of a poll are at most 64, of at most five steps each. They are pending where nothing more can be done, or where
--- 64 steps were noted, and then the task is woken; what waited to be written was given to the wire first.
+-- 64 steps were noted, and then the task is woken; what waited to be written was given to the transport first.
 pub record IsSpent (v w : View) (cx : Context) : Type 0 where
   pub goes : GoesOn v w 64 (5 * 64)
   pub first : WritesFirst v goes.steps

@@ -37,17 +37,17 @@ use Rattle.h1_connection.specs.declared.connection.heads.NextHead.TheVariants as
 use Rattle.h1_connection.specs.declared.connection.ticks.Expiry.{Expiry}
 use Rattle.h1_connection.specs.declared.connection.ticks.Expiry.TheVariants as expiries
 use Rattle.h1_connection.specs.declared.event.End.{End}
-use Rattle.h1_traced.specs.Line.{LineView, LineSteps, LineFails}
+use Rattle.h1_traced.specs.Traced.{TracedView, TracedSteps, TracedFails}
 use Rattle.h1_dispatcher.specs.declared.dispatcher.Ending.{Ending}
 use Rattle.h1_dispatcher.specs.declared.dispatcher.Ending.TheVariants.{Closed, Abandoned, Broken}
 use Rattle.h1_dispatcher.specs.View.{View, Asking, Answer, Stage, free, waiting, calling, replying, sending, is_waiting, is_replying, awaits_body, with_drain, with_holds, with_release, with_leave, closes, allows, allows_next, has_write_room, asks_next, allows_answer, is_held, is_checked, may_refuse, may_accept, allows_chunk, buffered, room}
 
--- A step. A moment came; the drain came; the wire was given what waits to be written; it was asked for bytes, and these
+-- A step. A moment came; the drain came; the transport was given what waits to be written; it was asked for bytes, and these
 -- came; it was shut down; the next head was asked for; the connection closes, and told its end; the client of the request
 -- that waits was told to go on; the service was asked whether it takes a call with a request, and takes none; it takes one,
 -- and the call was begun; a call was polled; more of a request's body was asked for, and what came was fed to its queue; the
 -- queue wants no more for now; the rest of a body was dropped; the answer was handed on; its body was polled, and what came
--- was handed on. Or memory ran out: for an event, for that of bytes which the wire had moved, for bytes that came of a
+-- was handed on. Or memory ran out: for an event, for that of bytes which the transport had moved, for bytes that came of a
 -- request's body, or for what came of an answer's. Or what no poll does: it was asked to drain; to hold requests back which
 -- ask for an upgrade, or whose clients wait to be told to go on, or none of these; the upgrade of the request that is held back
 -- was declined; its client may go on; or the request was turned away, with this answer; or its upgrade was to be accepted, with
@@ -82,8 +82,8 @@ pub data Step : Type 0 where
   refused : (limit : ℕ) → (error : HandshakeError) → Step
 
 -- the event came to the connection, was noted, and had such an outcome; its settings stay
-pub record Goes (old : LineView) (event : on.Event) (Says : on.Outcome → Type 0) (new : LineView) : Type 0 where
-  pub steps : LineSteps old event Says new
+pub record Goes (old : TracedView) (event : on.Event) (Says : on.Outcome → Type 0) (new : TracedView) : Type 0 where
+  pub steps : TracedSteps old event Says new
   pub settings : new.state.settings ≡ old.state.settings
 
 -- how it has ended after a tick
@@ -92,15 +92,15 @@ ending_at expiries.None ending = ending
 ending_at (expiries.Expired end) ending = ending
 ending_at expiries.Abandoned ending = Some Abandoned
 
--- the connection after the wire took bytes: those were written
-abbrev pub Wrote : LineView → LineView → Poll (Result ℕ Failed) → Type 0
+-- the connection after the transport took bytes: those were written
+abbrev pub Wrote : TracedView → TracedView → Poll (Result ℕ Failed) → Type 0
 Wrote old new (Ready (Ok n)) =
     (n ≤ length old.state.kept.buffered) × Goes old (on.write n) (Is (on.gave (take n old.state.kept.buffered))) new
 Wrote old new (Ready (Err e)) = new ≡ old
 Wrote old new Pending = new ≡ old
 
 -- the connection after bytes came: they were read; of none the input's end
-abbrev pub Took : LineView → LineView → List ℕ → Poll (Result ℕ Failed) → Type 0
+abbrev pub Took : TracedView → TracedView → List ℕ → Poll (Result ℕ Failed) → Type 0
 Took old new came (Ready (Ok n)) =
     ((n ≡ 0) × Goes old on.eof (Is on.done) new) ⊎ ((0 < n) × ((count : ℕ) × Goes old (on.read came) (Is (on.took count)) new))
 Took old new came (Ready (Err e)) = new ≡ old
@@ -210,7 +210,7 @@ stage_replied body (Sized (suc n)) = sending body
 stage_replied body Stream = sending body
 
 -- what came of a body was handed on: a chunk, its end, or that it failed
-abbrev pub Sent : LineView → LineView → Piece → Type 0
+abbrev pub Sent : TracedView → TracedView → Piece → Type 0
 Sent old new (Ready (Some (Ok bytes))) = Goes old (on.chunk bytes) (Is on.done) new
 Sent old new (Ready (Some (Err (Body n)))) = Goes old on.body_error (Is on.done) new
 Sent old new (Ready (Some (Err NoMemory))) = ⊥
@@ -224,11 +224,11 @@ stage_sent left (Ready (Some piece)) = sending left
 stage_sent left Pending = sending left
 
 -- memory ran out for that, or in the body itself
-abbrev pub Lacked : LineView → LineView → Piece → Type 0
-Lacked old new (Ready (Some (Ok bytes))) = LineFails old (on.chunk bytes) new
-Lacked old new (Ready (Some (Err (Body n)))) = LineFails old on.body_error new
+abbrev pub Lacked : TracedView → TracedView → Piece → Type 0
+Lacked old new (Ready (Some (Ok bytes))) = TracedFails old (on.chunk bytes) new
+Lacked old new (Ready (Some (Err (Body n)))) = TracedFails old on.body_error new
 Lacked old new (Ready (Some (Err NoMemory))) = new ≡ old
-Lacked old new (Ready None) = LineFails old on.body_end new
+Lacked old new (Ready None) = TracedFails old on.body_end new
 Lacked old new Pending = ⊥
 
 -- The body that goes out was polled, where a piece of it may be handed in: this came, and that is left of it.
@@ -283,28 +283,28 @@ IsOfRead count came event = ((count ≡ 0) × (event ≡ on.eof)) ⊎ ((0 < coun
 -- What a step takes, and what it leaves: all but what is named stays.
 abbrev pub IsStep : View → Step → View → Type 0
 IsStep v (ticked moment expiry) w =
-    Goes v.line (on.tick moment) (Is (expiry_of expiry)) w.line
-    × (w ≡ record v { line = w.line; ending = ending_at expiry v.ending })
-IsStep v drained w = Goes v.line on.drain (Is on.done) w.line × (w ≡ record v { line = w.line })
+    Goes v.traced (on.tick moment) (Is (expiry_of expiry)) w.traced
+    × (w ≡ record v { traced = w.traced; ending = ending_at expiry v.ending })
+IsStep v drained w = Goes v.traced on.drain (Is on.done) w.traced × (w ≡ record v { traced = w.traced })
 IsStep v (written answer) w =
-    (v.ending ≡ None) × (0 < length (buffered v)) × WriteSays v.wire w.wire answer (buffered v) × Wrote v.line w.line answer
-    × (w ≡ record v { line = w.line; wire = w.wire })
+    (v.ending ≡ None) × (0 < length (buffered v)) × WriteSays v.transport w.transport answer (buffered v) × Wrote v.traced w.traced answer
+    × (w ≡ record v { traced = w.traced; transport = w.transport })
 IsStep v (read came answer) w =
     (v.ending ≡ None) × (allows v on.eof ≡ true)
-    × ((buf : List ℕ) × (0 < length buf) × (length buf ≤ room v) × (came ≡ moved answer buf) × ReadSays v.wire w.wire answer buf)
-    × Took v.line w.line came answer × (w ≡ record v { line = w.line; wire = w.wire })
+    × ((buf : List ℕ) × (0 < length buf) × (length buf ≤ room v) × (came ≡ moved answer buf) × ReadSays v.transport w.transport answer buf)
+    × Took v.traced w.traced came answer × (w ≡ record v { traced = w.traced; transport = w.transport })
 IsStep v (shut answer) w =
-    ((end : End) × (v.ending ≡ Some (Closed end))) × ShutSays v.wire w.wire answer × (w ≡ record v { wire = w.wire })
+    ((end : End) × (v.ending ≡ Some (Closed end))) × ShutSays v.transport w.transport answer × (w ≡ record v { transport = w.transport })
 IsStep v (next head) w =
-    (v.ending ≡ None) × (v.stage ≡ free) × (asks_next v ≡ true) × Goes v.line on.next (SaysNext head) w.line
-    × (w ≡ record v { line = w.line; queue = queue_at head v.queue; stage = stage_at (request_at head); ending = ending_told head; holding = holding_at head v; checking = checking_at head v })
+    (v.ending ≡ None) × (v.stage ≡ free) × (asks_next v ≡ true) × Goes v.traced on.next (SaysNext head) w.traced
+    × (w ≡ record v { traced = w.traced; queue = queue_at head v.queue; stage = stage_at (request_at head); ending = ending_told head; holding = holding_at head v; checking = checking_at head v })
 IsStep v (closed end) w =
-    (v.ending ≡ None) × (closing_by (setting_of v.line.state.settings) v.line.state.kept ≡ Some (end_of end))
-    × (allows_next v ≡ true) × ((head : NextHead) × Goes v.line on.next (SaysNext head) w.line)
-    × (w ≡ record v { line = w.line; ending = Some (Closed end) })
+    (v.ending ≡ None) × (closing_by (setting_of v.traced.state.settings) v.traced.state.kept ≡ Some (end_of end))
+    × (allows_next v ≡ true) × ((head : NextHead) × Goes v.traced on.next (SaysNext head) w.traced)
+    × (w ≡ record v { traced = w.traced; ending = Some (Closed end) })
 IsStep v continued w =
-    TellsOn v × (allows v on.send_continue ≡ true) × Goes v.line on.send_continue (Is on.done) w.line
-    × (w ≡ record v { line = w.line })
+    TellsOn v × (allows v on.send_continue ≡ true) × Goes v.traced on.send_continue (Is on.done) w.traced
+    × (w ≡ record v { traced = w.traced })
 IsStep v (ready request answer) w =
     IsAsked v request × TakesNone answer × ReadySays v.service w.service answer
     × (w ≡ record v { service = w.service; stage = stage_asked request answer })
@@ -313,33 +313,33 @@ IsStep v (called request) w =
     × ((took : Option lent.Took) × TookNothing took × (w ≡ record v { service = w.service; stage = calling took }))
 IsStep v (answered answer) w = IsAnswered v answer w
 IsStep v (pulled piece) w =
-    Wants v × Goes v.line on.pull (SaysPulled piece) w.line × (w ≡ record v { line = w.line; queue = fed_with piece v.queue })
+    Wants v × Goes v.traced on.pull (SaysPulled piece) w.traced × (w ≡ record v { traced = w.traced; queue = fed_with piece v.queue })
 IsStep v paused w =
     (v.ending ≡ None) × (awaits_body v ≡ true) × (status_of v.queue ≡ status.Pause) × Asked v.queue w.queue status.Pause
     × (w ≡ record v { queue = w.queue })
 IsStep v dropped w =
-    (v.ending ≡ None) × (is_replying v.stage ≡ true) × Goes v.line on.drop_body (Is on.done) w.line × (w ≡ record v { line = w.line })
+    (v.ending ≡ None) × (is_replying v.stage ≡ true) × Goes v.traced on.drop_body (Is on.done) w.traced × (w ≡ record v { traced = w.traced })
 IsStep v (replied answer) w =
-    MayReply v × (v.stage ≡ replying answer) × Goes v.line (on.answer (answer_of answer.head) (size_of answer.body.size)) (Is on.done) w.line
-    × (w ≡ record v { line = w.line; queue = new_queue true; stage = stage_replied answer.body answer.body.size })
+    MayReply v × (v.stage ≡ replying answer) × Goes v.traced (on.answer (answer_of answer.head) (size_of answer.body.size)) (Is on.done) w.traced
+    × (w ≡ record v { traced = w.traced; queue = new_queue true; stage = stage_replied answer.body answer.body.size })
 IsStep v (sent piece) w =
-    (left : Giving) × Polls v left piece × Sent v.line w.line piece × (w ≡ record v { line = w.line; stage = stage_sent left piece })
-IsStep v (failed event) w = MayFail v event × LineFails v.line event w.line × (w ≡ record v { line = w.line; ending = Some Broken })
+    (left : Giving) × Polls v left piece × Sent v.traced w.traced piece × (w ≡ record v { traced = w.traced; stage = stage_sent left piece })
+IsStep v (failed event) w = MayFail v event × TracedFails v.traced event w.traced × (w ≡ record v { traced = w.traced; ending = Some Broken })
 IsStep v (failed_write count) w =
-    (v.ending ≡ None) × (0 < length (buffered v)) × WriteSays {E = Failed} v.wire w.wire (Ready (Ok count)) (buffered v)
-    × LineFails v.line (on.write count) w.line
-    × (w ≡ record v { line = w.line; wire = w.wire; ending = Some Broken })
+    (v.ending ≡ None) × (0 < length (buffered v)) × WriteSays {E = Failed} v.transport w.transport (Ready (Ok count)) (buffered v)
+    × TracedFails v.traced (on.write count) w.traced
+    × (w ≡ record v { traced = w.traced; transport = w.transport; ending = Some Broken })
 IsStep v (failed_read came event) w =
     (v.ending ≡ None) × (allows v on.eof ≡ true)
     × ((buf : List ℕ) × (count : ℕ) × (0 < length buf) × (length buf ≤ room v) × (came ≡ take count buf)
-    × ReadSays {E = Failed} v.wire w.wire (Ready (Ok count)) buf × IsOfRead count came event)
-    × LineFails v.line event w.line
-    × (w ≡ record v { line = w.line; wire = w.wire; ending = Some Broken })
+    × ReadSays {E = Failed} v.transport w.transport (Ready (Ok count)) buf × IsOfRead count came event)
+    × TracedFails v.traced event w.traced
+    × (w ≡ record v { traced = w.traced; transport = w.transport; ending = Some Broken })
 IsStep v (failed_fed bytes) w =
-    Wants v × Goes v.line on.pull (SaysPulled (pieces.Bytes bytes)) w.line × (w ≡ record v { line = w.line; ending = Some Broken })
+    Wants v × Goes v.traced on.pull (SaysPulled (pieces.Bytes bytes)) w.traced × (w ≡ record v { traced = w.traced; ending = Some Broken })
 IsStep v (failed_sent piece) w =
-    (left : Giving) × Polls v left piece × Lacked v.line w.line piece
-    × (w ≡ record v { line = w.line; stage = sending left; ending = Some Broken })
+    (left : Giving) × Polls v left piece × Lacked v.traced w.traced piece
+    × (w ≡ record v { traced = w.traced; stage = sending left; ending = Some Broken })
 IsStep v asked_to_drain w = w ≡ with_drain v
 IsStep v (asked_to_hold upgrades expects) w = w ≡ with_holds upgrades expects v
 IsStep v declined w = w ≡ with_release v
@@ -347,8 +347,8 @@ IsStep v let_on w = w ≡ with_leave v
 IsStep v (turned_away request answer) w =
     (may_refuse v ≡ true) × (v.stage ≡ waiting request) × (w ≡ record v { stage = replying answer })
 IsStep v (refused limit error) w =
-    (may_accept v limit ≡ true) × Goes v.line (on.accept limit) (Is (on.refused error)) w.line
-    × (w ≡ record v { line = w.line })
+    (may_accept v limit ≡ true) × Goes v.traced (on.accept limit) (Is (on.refused error)) w.traced
+    × (w ≡ record v { traced = w.traced })
 
 -- one step after another
 abbrev pub IsRun : View → List Step → View → Type 0

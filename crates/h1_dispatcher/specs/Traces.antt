@@ -1,4 +1,4 @@
--- What the steps of a run are together: a trace of the connection, with the bytes that the wire moved, the requests and their
+-- What the steps of a run are together: a trace of the connection, with the bytes that the transport moved, the requests and their
 -- bodies that came, and the answers that were handed on.
 use Rattle.std.specs.Prelude.{◌≡◌, List, [], ◌∷◌, ◌++◌, ⊤, Option, Some, None, Ok, Err}
 use Rattle.std.specs.List.{AllByRecursion}
@@ -19,7 +19,7 @@ use Rattle.model_h1.specs.Trace.{IsTrace}
 use Rattle.h1_connection.specs.Steps.{Pair}
 use Rattle.model_h1.specs.Sums as sums
 use Rattle.model_h1.specs.Sums.{taken, written}
-use Rattle.h1_traced.specs.Line.{SaysNoted, LineStands}
+use Rattle.h1_traced.specs.Traced.{SaysNoted, TracedStands}
 use Rattle.h1_dispatcher.specs.View.{View, Asking}
 use Rattle.h1_dispatcher.specs.Steps.{Step, request_at, next, pulled, replied, sent, failed, failed_write, failed_read, failed_fed, failed_sent}
 
@@ -120,19 +120,19 @@ AreCame (c ∷ more) [] = ⊥
 AreCame (c ∷ more) (out ∷ outs) = IsCame c out × AreCame more outs
 
 -- After this trace these steps of the connection came, the newest first, and the connection and what was noted stand for
--- all of them. What the wire received is the bytes that their reads took, and what it sent is those that were written. What
+-- all of them. What the transport received is the bytes that their reads took, and what it sent is those that were written. What
 -- they hand on of answers is this, and what they hand out of requests is that.
 pub record Follows (v w : View) (trace : List sums.Step) (handed : List on.Event) (asked : List Came) : Type 0 where
   pub more : List sums.Step
-  pub stands : LineStands w.line (more ++ trace)
-  pub received : Grows v.wire.received w.wire.received (taken more)
-  pub sent : Grows v.wire.sent w.wire.sent (written more)
+  pub stands : TracedStands w.traced (more ++ trace)
+  pub received : Grows v.transport.received w.transport.received (taken more)
+  pub sent : Grows v.transport.sent w.transport.sent (written more)
   pub answers : answers_in more ≡ handed
   pub requests : AreCame asked (requests_in more)
 
 -- this holds after each trace that the connection stood for
 abbrev pub AreTraces : View → List Step → View → Type 0
-AreTraces v steps w = (trace : List sums.Step) → LineStands v.line trace → Follows v w trace (hands steps) (came steps)
+AreTraces v steps w = (trace : List sums.Step) → TracedStands v.traced trace → Follows v w trace (hands steps) (came steps)
 
 -- What was noted is a trace of a connection with these settings, which has this one at its end, as the newest step comes first.
 pub record NotesTrace (setting : Setting) (noted : Option (List Pair)) (trace : List sums.Step) : Type 0 where

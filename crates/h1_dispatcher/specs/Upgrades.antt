@@ -11,7 +11,7 @@ use Rattle.h1_connection.specs.State.{Is}
 use Rattle.h1_connection.specs.Steps.{Pair}
 use Rattle.h1_connection.specs.declared.event.Outcome.{Outcome}
 use Rattle.h1_connection.specs.declared.event.Outcome.TheVariants as outcomes
-use Rattle.h1_traced.specs.Line.{line_of}
+use Rattle.h1_traced.specs.Traced.{traced_of}
 use Rattle.h1_dispatcher.specs.declared.dispatcher.upgrade.Accepting.{Accepting}
 use Rattle.h1_dispatcher.specs.declared.dispatcher.upgrade.Accepting.TheVariants.{Done, Refused}
 use Rattle.h1_dispatcher.specs.declared.dispatcher.upgrade.Upgraded.{Upgraded}
@@ -43,15 +43,15 @@ expecting_in v = if is_expecting v then waiting_in v.stage else None
 
 -- the upgrade came to the connection, which did it, or refused it
 abbrev pub Accepts : View → ℕ → View → Option HandshakeError → Type 0
-Accepts v limit w None = Goes v.line (on.accept limit) (Is on.done) w.line × (w ≡ record v { line = w.line })
+Accepts v limit w None = Goes v.traced (on.accept limit) (Is on.done) w.traced × (w ≡ record v { traced = w.traced })
 Accepts v limit w (Some error) = IsStep v (refused limit error) w
 
 -- What was handed over: the request that waited; the connection, to which the upgrade came, with the step that was noted; the
--- wire and the service, as they were.
+-- transport and the service, as they were.
 pub record HandsOver {T S L B : Type 0} (wiring : T → Wiring) (served : S → Serving Asking (FullResponse B) (FullResponse B)) (gives : B → Giving) (noted : L → Option (List Pair)) (v : View) (limit : ℕ) (handed : Upgraded T S L) : Type 0 where
   pub request : v.stage ≡ waiting handed.request
-  pub line : Goes v.line (on.accept limit) (Is on.done) (line_of noted handed.line)
-  pub wire : wiring handed.wire ≡ v.wire
+  pub traced : Goes v.traced (on.accept limit) (Is on.done) (traced_of noted handed.traced)
+  pub transport : wiring handed.transport ≡ v.transport
   pub service : told_service gives (served handed.service) ≡ v.service
 
 -- what becomes of an upgrade with this limit

@@ -15,7 +15,7 @@ use Rattle.h1_connection.specs.Given.{next_allowed}
 use Rattle.h1_connection.specs.Meaning.{setting_of}
 use Rattle.h1_connection.specs.State.{fresh_state}
 use Rattle.h1_connection.specs.Steps.{Pair}
-use Rattle.h1_traced.specs.Line.{LineView, line_of}
+use Rattle.h1_traced.specs.Traced.{TracedView, traced_of}
 use Rattle.h1_dispatcher.specs.declared.dispatcher.Dispatcher.{Dispatcher}
 use Rattle.h1_dispatcher.specs.declared.dispatcher.Ending.{Ending}
 use Rattle.h1_dispatcher.specs.declared.dispatcher.Ending.TheVariants.{Closed, Abandoned, Broken}
@@ -112,13 +112,13 @@ stage_of calls gives (Called call) = calling (calls call).took
 stage_of calls gives (Replying response) = replying (told_response gives response)
 stage_of calls gives (Sending body) = sending (gives body)
 
--- The connection with the steps that were noted; the wire; the service; the queue of the last request's body; how far that
+-- The connection with the steps that were noted; the transport; the service; the queue of the last request's body; how far that
 -- request is; how the connection has ended; that it is to be drained; that requests which ask for an upgrade are to be held
 -- back, and those whose clients wait to be told to go on; and that the last request is, if it asks for the one or waits for the
 -- other.
 pub record View : Type 0 where
-  pub line : LineView
-  pub wire : Wiring
+  pub traced : TracedView
+  pub transport : Wiring
   pub service : Serving Asking Answer Answer
   pub queue : Queue
   pub stage : Stage
@@ -132,8 +132,8 @@ pub record View : Type 0 where
 abbrev pub view_of : {T S C L B : Type 0} → (T → Wiring) → (S → Serving Asking (FullResponse B) (FullResponse B)) → (C → Calling Asking) → (B → Giving) → (L → Option (List Pair)) → Dispatcher T S C L B → View
 view_of wiring served calls gives noted d =
     record {
-      line = line_of noted d.line;
-      wire = wiring d.wire;
+      traced = traced_of noted d.traced;
+      transport = wiring d.transport;
       service = told_service gives (served d.service);
       queue = d.queue;
       stage = stage_of calls gives d.work;
@@ -145,12 +145,12 @@ view_of wiring served calls gives noted d =
       checking = d.is_checking;
     }
 
--- a new dispatcher over this wire and this service
+-- a new dispatcher over this transport and this service
 abbrev pub view_begun : Wiring → Serving Asking Answer Answer → Settings → Option (List Pair) → View
-view_begun wire service settings noted =
+view_begun transport service settings noted =
     record {
-      line = record { state = fresh_state settings; noted = noted };
-      wire = wire;
+      traced = record { state = fresh_state settings; noted = noted };
+      transport = transport;
       service = service;
       queue = new_queue true;
       stage = free;
@@ -179,9 +179,9 @@ with_release v = record v { holding = false }
 abbrev pub with_leave : View → View
 with_leave v = record v { checking = false }
 
--- the wire, the service and the recorder
+-- the transport, the service and the recorder
 abbrev pub parts_of : {T S C L B : Type 0} → Dispatcher T S C L B → T × S × L
-parts_of d = (d.wire, d.service, d.line.recorder)
+parts_of d = (d.transport, d.service, d.traced.recorder)
 
 -- memory ran out
 abbrev pub is_broken : Option Ending → Bool
@@ -205,19 +205,19 @@ MayBePolled called d = IsCallOpen called d.work
 
 -- it closes
 abbrev pub closes : View → Bool
-closes v = is_some (closing_by (setting_of v.line.state.settings) v.line.state.kept)
+closes v = is_some (closing_by (setting_of v.traced.state.settings) v.traced.state.kept)
 
 -- the event may come
 abbrev pub allows : View → on.Event → Bool
-allows v event = allowed_by (setting_of v.line.state.settings) v.line.state.kept event
+allows v event = allowed_by (setting_of v.traced.state.settings) v.traced.state.kept event
 
 -- the next head may be asked for; where it closes, only once all is written
 abbrev pub allows_next : View → Bool
-allows_next v = next_allowed (setting_of v.line.state.settings) v.line.state.kept
+allows_next v = next_allowed (setting_of v.traced.state.settings) v.traced.state.kept
 
 -- there is room for an answer: fewer bytes wait to be written than the settings' write buffer size
 abbrev pub has_write_room : View → Bool
-has_write_room v = has_room (setting_of v.line.state.settings) v.line.state.kept
+has_write_room v = has_room (setting_of v.traced.state.settings) v.traced.state.kept
 
 -- the next head is asked for where that is allowed, and where there is room for its answer
 abbrev pub asks_next : View → Bool
@@ -243,7 +243,7 @@ is_held v = is_waiting v.stage && ((v.checking && allows v on.send_continue) || 
 
 -- the request that is held back may be turned away with an answer: the connection hasn't ended, and there is room for one
 abbrev pub may_refuse : View → Bool
-may_refuse v = not (is_some v.ending) && (is_held v && (allows v any_answer && has_room (setting_of v.line.state.settings) v.line.state.kept))
+may_refuse v = not (is_some v.ending) && (is_held v && (allows v any_answer && has_room (setting_of v.traced.state.settings) v.traced.state.kept))
 
 -- and so is its client, which may go on
 abbrev pub is_expecting : View → Bool
@@ -267,15 +267,15 @@ allows_chunk v = allows v (on.chunk [])
 
 -- the bytes that wait to be written
 abbrev pub buffered : View → List ℕ
-buffered v = v.line.state.kept.buffered
+buffered v = v.traced.state.kept.buffered
 
 -- how many more bytes may be held
 abbrev pub room : View → ℕ
-room v = v.line.state.settings.h1_hold_size - length v.line.state.kept.unread
+room v = v.traced.state.settings.h1_hold_size - length v.traced.state.kept.unread
 
 -- no byte of a head is there, and some may be held
 abbrev pub HasNoByte : View → Type 0
-HasNoByte v = (length v.line.state.kept.unread ≡ 0) × (0 < room v)
+HasNoByte v = (length v.traced.state.kept.unread ≡ 0) × (0 < room v)
 
 -- nothing waits to be written, or nothing may be written any more
 abbrev pub HasNoOutput : View → Type 0

@@ -2,16 +2,16 @@
 ghost use Rattle.std.specs.Prelude.{◌≡◌, ◌≤◌, ◌⊎◌, None, Some, []};
 ghost use Rattle.model_state.specs.Deadline.{deadline_by};
 ghost use Rattle.h1_connection.specs.Meaning.{setting_of};
-ghost use Rattle.h1_traced.specs.Line.{LineStands};
+ghost use Rattle.h1_traced.specs.Traced.{TracedStands};
 ghost use Rattle.http_services.specs.Serving.{Calling};
 ghost use Rattle.h1_dispatcher.specs.View.{Asking, view_of, view_begun, with_drain, parts_of, told_service, stage_of, is_busy, is_waiting, is_sending, MayBePolled};
 
 use h1_connection::End;
-use h1_traced::{Line, Recorder};
+use h1_traced::{Recorder, Traced};
 use http_bodies::MessageBody;
 use http_services::Service;
 use http_services::h1::Payload;
-use http_transport::Wire;
+use http_transport::Transport;
 use http_types::{Request, Response, ServiceConfig};
 use std::alloc::Global;
 
@@ -32,13 +32,13 @@ pub use upgrade::{Accepting, Upgraded};
 /// How a connection has ended: nothing more is asked of it.
 #[derive(Clone, Copy, Debug, PartialEq, Eq)]
 pub enum Ending {
-    /// It told its end. The wire is to be shut down.
+    /// It told its end. The transport is to be shut down.
     Closed(End),
 
-    /// The peer took too long to take what was left. The wire isn't shut down.
+    /// The peer took too long to take what was left. The transport isn't shut down.
     Abandoned,
 
-    /// Memory ran out. The wire isn't shut down, since what it took or gave may be lost.
+    /// Memory ran out. The transport isn't shut down, since what it took or gave may be lost.
     Broken,
 }
 
@@ -102,17 +102,17 @@ impl<C, B: MessageBody> Work<C, B> {
     }
 }
 
-/// A service over a wire, by one connection of HTTP/1: each request goes to the service, and its answer is written.
+/// A service over a transport, by one connection of HTTP/1: each request goes to the service, and its answer is written.
 ///
-/// The parameters are the wire, the service and its call, the body of its answers, and who notes the steps of the
+/// The parameters are the transport, the service and its call, the body of its answers, and who notes the steps of the
 /// connection. A piece of an answer's body is asked for once there is room for it. What comes of a request's body is fed to
 /// a queue that is lent to the service's call, as long as that wants more; what is left of the body is dropped when the
 /// request is answered.
 #[derive(Drop)]
 pub struct Dispatcher<T, S, C, L, B = ()> {
     alloc: Global,
-    line: Line<L>,
-    wire: T,
+    traced: Traced<L>,
+    transport: T,
     service: S,
     queue: Payload,
     work: Work<C, B>,
@@ -127,7 +127,7 @@ pub struct Dispatcher<T, S, C, L, B = ()> {
 
 impl<T, S, L, B> Dispatcher<T, S, S::Call, L, B>
 where
-    T: Wire,
+    T: Transport,
     S: Service<Request<(), ()>, Response = Response<B>, Error = Response<B>, Lent = Payload>,
     B: MessageBody,
     L: Recorder,
@@ -135,19 +135,19 @@ where
     /// A dispatcher of a connection to which nothing has come. It takes no memory.
     pub fn new(
         alloc: Global,
-        wire: T,
+        transport: T,
         service: S,
         config: ServiceConfig,
         recorder: L,
     ) -> Dispatcher<T, S, S::Call, L, B>
-        ensures view { view_of T.wiring S.served S.calling B.gives L.noted result ≡ view_begun (T.wiring wire) (told_service B.gives (S.served service)) config (L.noted recorder) }
-        ensures stands { (L.noted recorder ≡ None) ⊎ (L.noted recorder ≡ Some []) → LineStands (view_of T.wiring S.served S.calling B.gives L.noted result).line [] }
+        ensures view { view_of T.wiring S.served S.calling B.gives L.noted result ≡ view_begun (T.wiring transport) (told_service B.gives (S.served service)) config (L.noted recorder) }
+        ensures stands { (L.noted recorder ≡ None) ⊎ (L.noted recorder ≡ Some []) → TracedStands (view_of T.wiring S.served S.calling B.gives L.noted result).traced [] }
         ensures open { MayBePolled S.calling result }
     {
         Dispatcher {
             alloc,
-            line: Line::new(alloc, config, recorder),
-            wire,
+            traced: Traced::new(alloc, config, recorder),
+            transport,
             service,
             queue: Payload::create(alloc, true),
             work: Work::Free,
@@ -172,18 +172,18 @@ where
     /// The least moment at which a poll would tell that a time has run out, in milliseconds after the start of 1970, where
     /// one would. Who drives the dispatcher polls it then, if it isn't woken before.
     pub fn deadline(&self) -> Option<u64>
-        ensures { result ≡ deadline_by (setting_of (view_of T.wiring S.served S.calling B.gives L.noted self.now).line.state.settings) (view_of T.wiring S.served S.calling B.gives L.noted self.now).line.state.kept }
+        ensures { result ≡ deadline_by (setting_of (view_of T.wiring S.served S.calling B.gives L.noted self.now).traced.state.settings) (view_of T.wiring S.served S.calling B.gives L.noted self.now).traced.state.kept }
     {
-        self.line.connection().deadline()
+        self.traced.connection().deadline()
     }
 
     /// How many heads were read ahead of the request that was handed out last: at most 16. They count among the bytes that
     /// are held.
     pub fn ahead(&self) -> usize
-        ensures value { result ≡ (view_of T.wiring S.served S.calling B.gives L.noted self.now).line.state.ahead }
+        ensures value { result ≡ (view_of T.wiring S.served S.calling B.gives L.noted self.now).traced.state.ahead }
         ensures most { result ≤ 16 }
     {
-        self.line.connection().ahead()
+        self.traced.connection().ahead()
     }
 
     /// The service.
@@ -193,12 +193,12 @@ where
         &self.service
     }
 
-    /// The wire, the service, and who noted the steps. A call in progress is dropped.
+    /// The transport, the service, and who noted the steps. A call in progress is dropped.
     pub fn into_parts(self) -> (T, S, L)
         ensures { result ≡ parts_of self }
     {
-        let (_connection, recorder) = self.line.into_parts();
-        (self.wire, self.service, recorder)
+        let (_connection, recorder) = self.traced.into_parts();
+        (self.transport, self.service, recorder)
     }
 }
 

@@ -12,7 +12,7 @@ ghost use Rattle.http_transport.specs.Wiring.{Wiring};
 ghost use Rattle.model_h1.specs.Sums as sums;
 ghost use Rattle.model_state.specs.Local.{has_room};
 ghost use Rattle.h1_connection.specs.Meaning.{setting_of};
-ghost use Rattle.h1_traced.specs.Line.{LineStands};
+ghost use Rattle.h1_traced.specs.Traced.{TracedStands};
 ghost use Rattle.h1_connection.specs.declared.connection.heads.NextHead.{NextHead};
 ghost use Rattle.h1_connection.specs.declared.connection.heads.NextHead.TheVariants.{Pending};
 ghost use Rattle.h1_dispatcher.specs.View.{View, Asking, Answer, closes, has_write_room, HasNoByte, view_begun};
@@ -32,7 +32,7 @@ ghost use Rattle.h1_dispatcher.specs.Polls.{PollSays};
 
 /// Polls one after another, with drains asked for between them, are one run of steps: the moment, the drain and the turns
 /// of each. Memory runs out in none of its steps, unless a poll answered so. And unless one did, no answer of the service is
-/// at hand after them that wasn't handed on to the connection: where the line stands for a trace and none was at hand before.
+/// at hand after them that wasn't handed on to the connection: where the traced connection stands for a trace and none was at hand before.
 pub fn polls_are_one_run()
     ensures { (v w : View) (acts : List Act) → ActsSay v acts w → AreOneRun v acts w }
 {}
@@ -40,19 +40,19 @@ pub fn polls_are_one_run()
 /// Where no byte is held, and some may be, no head is there: it would be pending if it were asked for, while the connection
 /// doesn't close. So a poll that is pending needn't have asked.
 pub fn no_head_comes_of_no_byte()
-    ensures { (v w : View) (head : NextHead) (trace : List sums.Step) → LineStands v.line trace → closes v ≡ false → HasNoByte v → IsStep v (next head) w → head ≡ Pending }
+    ensures { (v w : View) (head : NextHead) (trace : List sums.Step) → TracedStands v.traced trace → closes v ≡ false → HasNoByte v → IsStep v (next head) w → head ≡ Pending }
 {}
 
 /// Each result of a poll has its cause. Ok, `Parse`, `SlowRequestTimeout` and `Body` come only where the connection told such
-/// an end, and the wire shows that it was shut down; `DisconnectTimeout` only where a moment abandoned the connection; `Io`
-/// only where the wire's count of failures rose in this poll; `NoMemory` only where memory ran out in it or before. Of
+/// an end, and the transport shows that it was shut down; `DisconnectTimeout` only where a moment abandoned the connection; `Io`
+/// only where the transport's count of failures rose in this poll; `NoMemory` only where memory ran out in it or before. Of
 /// `Parse` only `Header` and `TooLarge` come. No other error comes.
 pub fn polls_end_by_their_cause()
     ensures { (v w : View) (cx : Context) (moment : ℕ) (result : Result Unit DispatchError) → PollSays v w cx moment (Ready result) → HasCause v w result }
 {}
 
 /// Over every run in which memory doesn't run out, the steps of the connection that were noted are a trace of it, whatever
-/// came before: its reads took what the wire gave, all of it and in order, and what the wire took is what was written. The
+/// came before: its reads took what the transport gave, all of it and in order, and what the transport took is what was written. The
 /// heads that it hands out are those of the requests that came to the dispatcher, each its own, and behind each what it hands
 /// out of its body is what came of that, all of it and in order.
 /// Each answer that was handed on stands in that trace with its head and the size of its body, and behind it all that came
@@ -64,7 +64,7 @@ pub fn runs_are_traces()
 /// After the first step of a run in which memory runs out, what was noted is a trace of the connection still, whatever came
 /// before.
 pub fn runs_note_traces()
-    ensures { (v u w : View) (steps : List Step) (step : Step) (trace : List sums.Step) → LineStands v.line trace → AllNoted steps → IsRun v steps u → ¬ IsNoted step → IsStep u step w → NotesTrace (setting_of u.line.state.settings) w.line.noted trace }
+    ensures { (v u w : View) (steps : List Step) (step : Step) (trace : List sums.Step) → TracedStands v.traced trace → AllNoted steps → IsRun v steps u → ¬ IsNoted step → IsStep u step w → NotesTrace (setting_of u.traced.state.settings) w.traced.noted trace }
 {}
 
 /// Over every run requests are called, or refused, in the order in which their heads were handed out; the last one may
@@ -82,8 +82,8 @@ pub fn runs_keep_order()
 pub fn runs_send_bodies()
     ensures runs { (v w : View) (steps : List Step) → IsRun v steps w → SendsBody v.stage steps w }
     ensures answers { (v w : View) (answer : Answer) (steps : List Step) → IsRun v (replied answer ∷ steps) w → SendsBody (stage_replied answer.body answer.body.size) steps w }
-    ensures bounded { (v : View) (left : Giving) (piece : Piece) → Polls v left piece → has_room (setting_of v.line.state.settings) v.line.state.kept ≡ true }
-    ensures failed { (v w : View) (number : ℕ) (steps : List Step) (trace : List sums.Step) → LineStands v.line trace → AllNoted steps → IsRun v (sent (Ready (Some (Err (Body number)))) ∷ steps) w → OnlyEnds steps w }
+    ensures bounded { (v : View) (left : Giving) (piece : Piece) → Polls v left piece → has_room (setting_of v.traced.state.settings) v.traced.state.kept ≡ true }
+    ensures failed { (v w : View) (number : ℕ) (steps : List Step) (trace : List sums.Step) → TracedStands v.traced trace → AllNoted steps → IsRun v (sent (Ready (Some (Err (Body number)))) ∷ steps) w → OnlyEnds steps w }
 {}
 
 /// Over every run what was fed to the queue of a request's body is what came of the body, once and in order: as long as the
@@ -96,10 +96,10 @@ pub fn runs_send_bodies()
 pub fn runs_feed_bodies()
     ensures runs { (v w : View) (steps : List Step) (body : CameBody) → IsRun v steps w → HasBody body v.stage v.queue → HasBody (body_after body steps) w.stage w.queue }
     ensures wanted { (v w : View) (piece : Pulled) → IsStep v (pulled piece) w → Wants v }
-    ensures new { (wire : Wiring) (service : Serving Asking Answer Answer) (settings : Settings) (noted : Option (List Pair)) (body : CameBody) → HasBody body (view_begun wire service settings noted).stage (view_begun wire service settings noted).queue × HasQueueBound (view_begun wire service settings noted) }
-    ensures bound { (v w : View) (steps : List Step) (trace : List sums.Step) → LineStands v.line trace → AllNoted steps → IsRun v steps w → HasQueueBound v → HasQueueBound w }
-    ensures once { (v w : View) (steps : List Step) (body : CameBody) (trace : List sums.Step) → LineStands v.line trace → AllNoted steps → IsRun v steps w → body.faults ≡ [] → length (body_after body steps).faults ≤ 1 }
-    ensures held { (v : View) (trace : List sums.Step) → LineStands v.line trace → length v.line.state.kept.unread ≤ v.line.state.settings.h1_hold_size }
+    ensures new { (transport : Wiring) (service : Serving Asking Answer Answer) (settings : Settings) (noted : Option (List Pair)) (body : CameBody) → HasBody body (view_begun transport service settings noted).stage (view_begun transport service settings noted).queue × HasQueueBound (view_begun transport service settings noted) }
+    ensures bound { (v w : View) (steps : List Step) (trace : List sums.Step) → TracedStands v.traced trace → AllNoted steps → IsRun v steps w → HasQueueBound v → HasQueueBound w }
+    ensures once { (v w : View) (steps : List Step) (body : CameBody) (trace : List sums.Step) → TracedStands v.traced trace → AllNoted steps → IsRun v steps w → body.faults ≡ [] → length (body_after body steps).faults ≤ 1 }
+    ensures held { (v : View) (trace : List sums.Step) → TracedStands v.traced trace → length v.traced.state.kept.unread ≤ v.traced.state.settings.h1_hold_size }
 {}
 
 /// Over every run in which memory doesn't run out, an open request without an answer waits for the service, or its call is
@@ -107,7 +107,7 @@ pub fn runs_feed_bodies()
 /// body of an answer that isn't whole is at hand, and may be polled while the connection goes on, wherever there is room for
 /// a piece of it. So it is for a new dispatcher whose recorder knows of no step.
 pub fn runs_lose_no_request()
-    ensures new { (wire : Wiring) (service : Serving Asking Answer Answer) (settings : Settings) → IsTied (view_begun wire service settings None) × IsTied (view_begun wire service settings (Some [])) }
+    ensures new { (transport : Wiring) (service : Serving Asking Answer Answer) (settings : Settings) → IsTied (view_begun transport service settings None) × IsTied (view_begun transport service settings (Some [])) }
     ensures runs { (v w : View) (steps : List Step) → AllNoted steps → IsRun v steps w → IsTied v → StaysTied w }
 {}
 
@@ -117,14 +117,14 @@ pub fn runs_lose_no_request()
 /// body, or of its end, or tells a client to go on. A moment may add the text of one answer of the connection's own, and then it closes.
 pub fn runs_bound_output()
     ensures asked { (v w : View) (head : NextHead) → IsStep v (next head) w → has_write_room v ≡ true }
-    ensures new { (wire : Wiring) (service : Serving Asking Answer Answer) (settings : Settings) → HasRoomForAnswer (view_begun wire service settings None) × HasRoomForAnswer (view_begun wire service settings (Some [])) }
+    ensures new { (transport : Wiring) (service : Serving Asking Answer Answer) (settings : Settings) → HasRoomForAnswer (view_begun transport service settings None) × HasRoomForAnswer (view_begun transport service settings (Some [])) }
     ensures runs { (v u w : View) (steps : List Step) (step : Step) → AllNoted steps → IsNoted step → HasRoomForAnswer v → IsRun v steps u → IsStep u step w → GrowsInRoom u step w }
 {}
 
 /// Over every run in which nobody asks that requests be held back, none is: so all that is said of requests that aren't held
 /// back holds of each. So it is over polls and drains alone. A new dispatcher holds none back.
 pub fn runs_hold_none_unasked()
-    ensures new { (wire : Wiring) (service : Serving Asking Answer Answer) (settings : Settings) (noted : Option (List Pair)) → HoldsNone (view_begun wire service settings noted) }
+    ensures new { (transport : Wiring) (service : Serving Asking Answer Answer) (settings : Settings) (noted : Option (List Pair)) → HoldsNone (view_begun transport service settings noted) }
     ensures runs { (v w : View) (steps : List Step) → AllByRecursion AsksNoHold steps → IsRun v steps w → HoldsNone v → StaysUnheld w }
     ensures polls { (v w : View) (acts : List Act) → ActsSay v acts w → HoldsNone v → StaysUnheld w }
 {}

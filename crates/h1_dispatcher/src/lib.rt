@@ -1,9 +1,9 @@
-//! A service over a wire: requests that come go to a service, and its answers are written (RFC 7230).
+//! A service over a transport: requests that come go to a service, and its answers are written (RFC 7230).
 //!
 //! # Example
 //!
 //! ```ignore
-//! let mut dispatcher = Dispatcher::new(alloc, wire, service, config, NoRecord);
+//! let mut dispatcher = Dispatcher::new(alloc, transport, service, config, NoRecord);
 //! match dispatcher.poll(now_ms, cx) {
 //!     Poll::Ready(Ok(())) => {}        // the connection has ended
 //!     Poll::Ready(Err(error)) => {}    // why it broke off
@@ -15,7 +15,7 @@
 //!
 //! A poll says by which steps it came from one view of the dispatcher to another: a moment that came, bytes written or
 //! read, a head handed out, a call begun, a piece of its body fed to the queue that the call is lent, an answer handed on, a
-//! piece of its body. Each step says what it takes, what the wire, the service, the body and the connection did, and that all
+//! piece of its body. Each step says what it takes, what the transport, the service, the body and the connection did, and that all
 //! else stays. What a poll answers says how its steps end.
 //! Polls one after another are one run of steps ([`polls_are_one_run`]). Over every run in which memory doesn't run out, the
 //! steps that were noted are a trace of the connection, and an open request is at hand; over every run requests and answers
@@ -24,7 +24,7 @@
 //! no answer of the service is at hand that wasn't handed on.
 //!
 //! Requests that ask for an upgrade go to the service as all others do, or are held back for who polls
-//! ([`Dispatcher::hold_upgrades`]), who accepts one and takes over its connection and wire, or declines it.
+//! ([`Dispatcher::hold_upgrades`]), who accepts one and takes over its connection and transport, or declines it.
 #![tactic(auto)]
 
 mod dispatcher;

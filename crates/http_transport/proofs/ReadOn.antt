@@ -168,7 +168,7 @@ module _ {D I R E : Type 0} (reads : D → List ℕ → R → Type 0) (given : I
         },
       )
 
-      -- the wire failed, or there was no memory to read
+      -- the transport failed, or there was no memory to read
       pub fault_says : (new : Wiring) (more after : List ℕ) (e : FramedError E) → ReadBy {E = E} now new rest more after (Ready (Err e))
           → ItemSays reads given nothing breaks lacks seen leaves old new woken d bytes mid after (Ready (Some (Err e)))
       fault_says new more after (Codec e) by = absurd by.counts
@@ -193,7 +193,7 @@ module _ {D I R E : Type 0} (reads : D → List ℕ → R → Type 0) (given : I
         },
       )
 
-      -- the wire was pending
+      -- the transport was pending
       pub pending_says : (new : Wiring) (more after : List ℕ) → ReadBy {E = E} now new rest more after Pending
           → ItemSays reads given nothing breaks lacks seen leaves old new woken d bytes mid after Pending
       pending_says new more after by = (

@@ -43,7 +43,7 @@ by_flush a b result says = record {
 and_no_more : (old mid new : Option (List ℕ)) (gave : List ℕ) → Grows old mid gave → Grows mid new [] → Grows old new gave
 and_no_more old mid new gave first then = subst (λ l. Grows old new l) (append-nil gave) (grown gave [] old mid new first then)
 
--- what the wire took is the front
+-- what the transport took is the front
 flushed : (before gave left after : List ℕ) (n : ℕ) → before ≡ gave ++ left → after ≡ drop n left → before ≡ (gave ++ take n left) ++ after
 flushed before gave left after n is then =
     is ∙ ap (λ l. gave ++ l) (sym (take-append-drop n left)) ∙ sym (append_assoc gave (take n left) (drop n left))
@@ -88,7 +88,7 @@ module _ {E : Type 0} (old now new : Wiring) (before : List ℕ) (turn : ℕ) (g
     some = took_some turn n gave left sent.some (says.progress some) says.bound;
   }
 
-  -- the wire failed
+  -- the transport failed
   pub fault_says : (woken : Bool) (e : E) → WriteSays {E = E} now new (Ready (Err e)) left → Flushes {E = E} old new woken before left (Ready (Err e))
   fault_says woken e says = (
     gave,
@@ -103,7 +103,7 @@ module _ {E : Type 0} (old now new : Wiring) (before : List ℕ) (turn : ℕ) (g
     },
   )
 
-  -- the wire was pending
+  -- the transport was pending
   pub pending_says : (woken : Bool) → WriteSays {E = E} now new Pending left → Flushes {E = E} old new woken before left Pending
   pending_says woken says = (
     gave,
@@ -118,7 +118,7 @@ module _ {E : Type 0} (old now new : Wiring) (before : List ℕ) (turn : ℕ) (g
     },
   )
 
-  -- all was taken, and the wire was flushed
+  -- all was taken, and the transport was flushed
   pub flush_says : (woken : Bool) (result : Poll (Result Unit E)) → FlushSays {E = E} now new result → left ≡ []
       → Flushes {E = E} old new woken before [] result
   flush_says woken result says empty = (

@@ -1,4 +1,4 @@
--- What is written over a wire.
+-- What is written over a transport.
 use Rattle.std.specs.Prelude.{◌≡◌, ◌≤◌, ◌⊎◌, ℕ, Bool, true, List, [], ◌++◌, length, Result, Ok, Err}
 use Rattle.futures.specs.declared.task.Poll.{Poll}
 use Rattle.futures.specs.declared.task.Poll.TheVariants.{Ready, Pending}
@@ -6,7 +6,7 @@ use Rattle.http_config.specs.Causes.{Rose}
 use Rattle.http_bodies.specs.Told.{Grows}
 use Rattle.http_transport.specs.Wiring.{Wiring}
 
--- All was given; the wire failed; it was pending; or it took at least 64 bytes, and the task was woken.
+-- All was given; the transport failed; it was pending; or it took at least 64 bytes, and the task was woken.
 abbrev pub FlushAnswers : {E : Type 0} → Wiring → Wiring → Bool → List ℕ → List ℕ → Poll (Result Unit E) → Type 0
 FlushAnswers old new woken gave left (Ready (Ok x)) = left ≡ []
 FlushAnswers old new woken gave left (Ready (Err e)) = Rose old.faults new.faults
@@ -21,7 +21,7 @@ pub record OnlyWrote (old new : Wiring) : Type 0 where
   pub reads : new.read_waits ≡ old.read_waits
   pub shuts : new.shut_waits ≡ old.shut_waits
 
--- what the wire took is the front of what was buffered, and the rest stays
+-- what the transport took is the front of what was buffered, and the rest stays
 pub record Gave {E : Type 0} (old new : Wiring) (woken : Bool) (before gave after : List ℕ) (result : Poll (Result Unit E)) : Type 0 where
   pub front : before ≡ gave ++ after
   pub sent : Grows old.sent new.sent gave

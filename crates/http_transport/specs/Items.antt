@@ -1,4 +1,4 @@
--- The items that are read over a wire.
+-- The items that are read over a transport.
 use Rattle.std.specs.Prelude.{◌≡◌, ◌≤◌, ◌⊎◌, ℕ, Bool, true, Option, Some, None, List, [], ◌++◌, length, IsTrue, Result, Ok, Err}
 use Rattle.futures.specs.declared.task.Poll.{Poll}
 use Rattle.futures.specs.declared.task.Poll.TheVariants.{Ready, Pending}
@@ -9,7 +9,7 @@ use Rattle.http_transport.specs.Wiring.{Wiring}
 use Rattle.http_transport.specs.declared.framed.error.FramedError.{FramedError}
 use Rattle.http_transport.specs.declared.framed.error.FramedError.TheVariants.{Codec, Io, NoMemory}
 
--- a read that gave a piece, failed, or found the wire not ready
+-- a read that gave a piece, failed, or found the transport not ready
 abbrev pub CountsRead : {E : Type 0} → Wiring → Wiring → List ℕ → Poll (Result ℕ (FramedError E)) → Type 0
 CountsRead old new came (Ready (Ok n)) =
     (n ≡ length came) × (n ≡ 0 → IsTrue new.ended) × (old.faults ≤ new.faults) × (new.read_waits ≡ old.read_waits)
@@ -61,8 +61,8 @@ module _ {D I R E : Type 0} (reads : D → List ℕ → R → Type 0) (given : I
     pub lacking : lacks e → (after ≡ before) × (rest ≡ left)
     pub leaves_so : leaves e before left after rest
 
-  -- An item is the next of the bytes that were there and came. The codec refuses them; the wire failed; memory ran out;
-  -- the input ended. Or more bytes are needed and the wire was pending, or at least 64 bytes came and the task was woken.
+  -- An item is the next of the bytes that were there and came. The codec refuses them; the transport failed; memory ran out;
+  -- the input ended. Or more bytes are needed and the transport was pending, or at least 64 bytes came and the task was woken.
   abbrev pub Answers : Wiring → Wiring → Bool → D → List ℕ → List ℕ → D → List ℕ → Poll (Option (Result I (FramedError E))) → Type 0
   Answers old new woken d bytes came after rest (Ready (Some (Ok item))) =
       GoesOn reads given d (bytes ++ came) (given item) after rest × (seen d bytes → seen after rest)
@@ -74,7 +74,7 @@ module _ {D I R E : Type 0} (reads : D → List ℕ → R → Type 0) (given : I
       (Waiting d bytes came after rest × Rose old.read_waits new.read_waits)
       ⊎ (Passed d bytes came after rest × (64 ≤ length came) × (woken ≡ true))
 
-  -- the bytes that came were received in this poll, and the wire is else as before
+  -- the bytes that came were received in this poll, and the transport is else as before
   pub record Items (old new : Wiring) (woken : Bool) (d : D) (bytes came : List ℕ) (after : D) (rest : List ℕ)
       (result : Poll (Option (Result I (FramedError E)))) : Type 0 where
     pub received : Grows old.received new.received came

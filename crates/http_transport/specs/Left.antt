@@ -1,9 +1,9 @@
--- The pieces that a wire in memory has left.
+-- The pieces that a transport in memory has left.
 use Rattle.std.specs.Prelude.{◌≡◌, ◌<◌, ℕ, List, [], ◌∷◌, length, take, drop, min}
 use Rattle.http_transport.specs.LeftAfter.{left_after}
-use Rattle.http_transport.specs.declared.mem_wire.pieces.Front.{Front}
-use Rattle.http_transport.specs.declared.mem_wire.pieces.Front.TheVariants.{Empty, Moved}
-use Rattle.http_transport.specs.declared.mem_wire.pieces.Front.TheVariants as front
+use Rattle.http_transport.specs.declared.mem_transport.pieces.Front.{Front}
+use Rattle.http_transport.specs.declared.mem_transport.pieces.Front.TheVariants.{Empty, Moved}
+use Rattle.http_transport.specs.declared.mem_transport.pieces.Front.TheVariants as front
 
 -- Bytes of the first piece go to the front of the buffer, as many as fit. An empty piece is passed.
 abbrev pub Gives : List (List ℕ) → List (List ℕ) → List ℕ → Front → Type 0

@@ -2,7 +2,7 @@ pub mod Wiring
 pub mod Opening
 pub mod LeftAfter
 pub mod Left
-pub mod MemWires
+pub mod MemTransports
 pub mod MemTold
 pub mod Parts
 pub mod Items

@@ -1,7 +1,7 @@
--- What is known of a wire in memory: all.
+-- What is known of a transport in memory: all.
 use Rattle.std.specs.Prelude.{Some}
 use Rattle.http_transport.specs.Wiring.{Wiring}
-use Rattle.http_transport.specs.MemWires.{MemWiring}
+use Rattle.http_transport.specs.MemTransports.{MemWiring}
 
 -- it is never pending at a flush or a shutdown
 abbrev pub known : MemWiring → Wiring

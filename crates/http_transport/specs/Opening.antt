@@ -1,4 +1,4 @@
--- What is known of a door, and how a call changes it.
+-- What is known of an acceptor, and how a call changes it.
 use Rattle.std.specs.Prelude.{◌≡◌, ◌≤◌, ℕ, Bool, false, Option, Some, None, [], IsTrue, Result, Ok, Err}
 use Rattle.http_config.specs.Causes.{Rose, counted}
 use Rattle.http_bodies.specs.Told.{Tells}
@@ -19,7 +19,7 @@ pub record OpenSays {E : Type 0} (old new : Opening) (result : Result Unit E) : 
 
 -- over a new connection no byte was received or sent, and it shows no end and no shutdown
 abbrev pub IsFresh : Wiring → Type 0
-IsFresh wire = Tells wire.received [] × Tells wire.sent [] × (wire.ended ≡ false) × (wire.shut ≡ false)
+IsFresh transport = Tells transport.received [] × Tells transport.sent [] × (transport.ended ≡ false) × (transport.shut ≡ false)
 
 -- a connection was given, none follows, or it failed
 abbrev pub Accepts : {C E : Type 0} → (C → Wiring) → Opening → Opening → Result (Option C) E → Type 0

@@ -1,4 +1,4 @@
-//! Items over a wire.
+//! Items over a transport.
 ghost use Rattle.std.specs.Prelude.{◌≡◌, ◌≤◌, ◌↔◌, ◌++◌, ℕ, List, [], IsTrue, OnOk, OnErr, IfOk, IfErr, IfSome, length};
 ghost use Rattle.std.specs.Borrow.{sem};
 ghost use Rattle.futures.specs.Task.{IsArmed, Keeps};
@@ -10,7 +10,7 @@ mod error;
 mod flush;
 mod read;
 
-use crate::Wire;
+use crate::Transport;
 use bytes::BytesMut;
 pub use error::FramedError;
 use futures::task::{Context, Poll};
@@ -22,9 +22,9 @@ use std::marker::Model;
 /// From so many bytes on the write buffer is full.
 const FULL: usize = 8192;
 
-/// Items over a wire: it decodes what the wire gives, and buffers what is written until it is flushed.
+/// Items over a transport: it decodes what the transport gives, and buffers what is written until it is flushed.
 ///
-/// A clause sees it as the record of the wire, the codec, the bytes that were read and not decoded, and those that were
+/// A clause sees it as the record of the transport, the codec, the bytes that were read and not decoded, and those that were
 /// written and not sent.
 #[derive(Drop)]
 pub struct Framed<T, U> {
@@ -42,10 +42,10 @@ impl<T, U> Model for Framed<T, U> {
     ghost view = { λ f. record { io = f.io; codec = f.codec; unread = f.unread.items; unsent = f.unsent.items } };
 }
 
-impl<T: Wire, U> Framed<T, U> {
+impl<T: Transport, U> Framed<T, U> {
     ghost use Rattle.http_transport.specs.Lends.{lends_io, lends_codec};
 
-    /// Items of this codec over this wire. It takes no memory.
+    /// Items of this codec over this transport. It takes no memory.
     pub fn new(alloc: Global, io: T, codec: U) -> Framed<T, U>
         ensures { result ≡ record { io = io; codec = codec; unread = []; unsent = [] } }
     {
@@ -79,7 +79,7 @@ impl<T: Wire, U> Framed<T, U> {
         &mut self.codec
     }
 
-    /// The wire, for writing.
+    /// The transport, for writing.
     pub fn io_mut(&mut self) -> &mut T
         ensures* writes_back { sem 𝓛 (lends_io T.row U.row self.entry result) }
         ensures value { result.now ≡ self.old.io }
@@ -103,9 +103,9 @@ impl<T: Wire, U> Framed<T, U> {
         self.codec.encode(item, &mut self.unsent)
     }
 
-    /// Gives the wire what is buffered, and then flushes it. What it took leaves the buffer, also at an error.
+    /// Gives the transport what is buffered, and then flushes it. What it took leaves the buffer, also at an error.
     ///
-    /// It is pending where the wire is, or where it took at least 64 bytes: then the task is woken.
+    /// It is pending where the transport is, or where it took at least 64 bytes: then the task is woken.
     pub fn flush(&mut self, cx: &mut Context<'_>) -> Poll<Result<(), Failed>>
         ensures says { Flushes (T.wiring self.old.io) (T.wiring self.new.io) cx.new.is_woken self.old.unsent self.new.unsent result }
         ensures codec { self.new.codec ≡ self.old.codec }
@@ -117,12 +117,12 @@ impl<T: Wire, U> Framed<T, U> {
     }
 }
 
-impl<T: Wire, U: Decoder> Framed<T, U> {
+impl<T: Transport, U: Decoder> Framed<T, U> {
     /// The next item, or nothing once the input has ended and holds no further item. What was read and not decoded
     /// stays, at each answer, as does what the codec keeps beside its reading. An item is as the codec says that its
     /// items are.
     ///
-    /// It is pending where the bytes hold no item yet and the wire is pending, or where at least 64 bytes came: then
+    /// It is pending where the bytes hold no item yet and the transport is pending, or where at least 64 bytes came: then
     /// the task is woken.
     pub fn next_item(
         &mut self,

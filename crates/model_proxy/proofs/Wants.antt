@@ -30,14 +30,14 @@ use Rattle.model_state.specs.KeptOf.{exchange_of}
 use Rattle.model_state.specs.StandsFor.{StandsFor}
 use Rattle.model_state.proofs.Kernel.{coming_of}
 use Rattle.model_state.proofs.OneStep.{coming_one}
-use Rattle.model_proxy.specs.Wants.{is_running, IsAnswered, IsComplete, IsWaitedFor, head_mark, IsAskedBy, AsksTheSame, waits_to_go_on, IsTold, WantsNoMore, WantsTheSame, AnswersNothing, WantsAfterNext}
+use Rattle.model_proxy.specs.Wants.{is_running, IsAnswered, IsComplete, IsWaitedFor, head_mark, IsAskedBy, AsksTheSame, awaits_continue, IsTold, WantsNoMore, WantsTheSame, AnswersNothing, WantsAfterNext}
 use Rattle.model_proxy.proofs.Client.{machine_step, droppable}
 
 -- ---- what an exchange wants
 
 -- a client that doesn't wait to be told to go on doesn't afterwards
 abbrev StaysTold : Kept → Kept → Type 0
-StaysTold k m = waits_to_go_on k ≡ false → waits_to_go_on m ≡ false
+StaysTold k m = awaits_continue k ≡ false → awaits_continue m ≡ false
 
 -- what is wanted is what was, by the same request, whether the connection goes on or not
 abbrev pub Alike : Kept → Kept → Type 0
@@ -145,7 +145,7 @@ pull_alike k (Some x) c here plain (p, pull, is) =
     let going = ap (λ (e : Option Exchange). is_answering (record k { exchange = e })) here in
     let frames = ap (λ (e : Option Exchange). is_upgraded (record k { exchange = e })) here in
     let marked = ap (λ (e : Option Exchange). head_mark e) here in
-    let told = ap (λ (e : Option Exchange). waits_to_go_on (record k { exchange = e })) here in
+    let told = ap (λ (e : Option Exchange). awaits_continue (record k { exchange = e })) here in
     subst (λ (c : Change). Alike k c.kept) (sym is)
     (ap (λ (f : Bool). is_unanswered x.reply && not f) (pull_frames k.has_ended x.rest k.unread p pull (sym frames ∙ plain) ∙ sym plain ∙ frames) ∙ sym waits, sym going, sym marked, λ t. sym told ∙ t)
 
@@ -156,9 +156,9 @@ piece_alike bytes k x unanswered = (refl, refl, refl, λ t. t)
 piece_alike bytes k x (sending shape kind missing) = (refl, refl, refl, λ t. t)
 piece_alike bytes k x (answered kind) = (refl, refl, refl, λ t. t)
 
-told_to_go_on : (expects : Bool) → (expects && not true) ≡ false
-told_to_go_on true = refl
-told_to_go_on false = refl
+told_to_continue : (expects : Bool) → (expects && not true) ≡ false
+told_to_continue true = refl
+told_to_continue false = refl
 
 module _ (setting : Setting) where
   of_change : (k : Kept) (c d : Change) → c ≡ d → Alike k d.kept → Alike k c.kept
@@ -191,7 +191,7 @@ module _ (setting : Setting) where
       of_change k c _ is (with_exchange (λ x k. record k { exchange = Some (record x { was_dropped = true }) }) k k.exchange (λ x. (refl, refl, refl, λ t. t)))
   change_alike k on.send_continue c asks is =
       of_change k c _ is
-      (with_exchange (λ x k. record k { buffered = k.buffered ++ interim_text; exchange = Some (record x { had_continue = true }) }) k k.exchange (λ x. (refl, refl, refl, λ t. told_to_go_on x.expects)))
+      (with_exchange (λ x k. record k { buffered = k.buffered ++ interim_text; exchange = Some (record x { had_continue = true }) }) k k.exchange (λ x. (refl, refl, refl, λ t. told_to_continue x.expects)))
   change_alike k (on.chunk bytes) c asks is = of_change k c _ is (with_exchange (sending_piece bytes) k k.exchange (λ x. piece_alike bytes k x x.reply))
   change_alike k (on.write n) c asks is = of_change k c _ is (same k)
   change_alike k (on.tick ms) c asks is = of_change k c _ is (ticking_alike k (closing_by setting k) ms)
@@ -347,15 +347,15 @@ module _ (setting : Setting) where
   -- the word to go on
   continue_change : (k : Kept) (ex : Option Exchange) (c : Change)
       → c ≡ doing_with (λ x k. record k { buffered = k.buffered ++ interim_text; exchange = Some (record x { had_continue = true }) }) (record k { exchange = ex })
-      → waits_to_go_on c.kept ≡ false
-  continue_change k None c is = ap (λ (c : Change). waits_to_go_on c.kept) is
-  continue_change k (Some x) c is = ap (λ (c : Change). waits_to_go_on c.kept) is ∙ told_to_go_on x.expects
+      → awaits_continue c.kept ≡ false
+  continue_change k None c is = ap (λ (c : Change). awaits_continue c.kept) is
+  continue_change k (Some x) c is = ap (λ (c : Change). awaits_continue c.kept) is ∙ told_to_continue x.expects
 
   pub continue_tells : (k next : Kept) (trace : List Step) (o : on.Outcome)
       → StandsFor setting k trace → StandsFor setting next (record { event = on.send_continue; outcome = o } ∷ trace) → IsTold setting next
   continue_tells k next trace o x y = λ runs.
       let step = machine_step setting k next trace (record { event = on.send_continue; outcome = o }) x y in
-      ap (λ (n : Kept). waits_to_go_on n) step.keeps ∙ continue_change k k.exchange step.change step.changes
+      ap (λ (n : Kept). awaits_continue n) step.keeps ∙ continue_change k k.exchange step.change step.changes
 
   -- the head of an answer
   abbrev HasHead : BodySize → Kept → Kept → Type 0
@@ -555,7 +555,7 @@ module _ (setting : Setting) where
   -- where a request waits for its answer, and its client can't be told to go on, it doesn't wait for that
   pub no_continue : (k : Kept) → allowed_by setting k on.send_continue ≡ false → IsWaitedFor setting k → IsTold setting k
   unfolding allowed_by
-  no_continue k is waited runs = by_parts k.is_over (closing_by setting k) (waits_for_answer k) (waits_to_go_on k) is (waited runs) runs
+  no_continue k is waited runs = by_parts k.is_over (closing_by setting k) (waits_for_answer k) (awaits_continue k) is (waited runs) runs
     where
       by_parts : (over : Bool) (closing : Option End) (waits on : Bool) → (not over && (if is_some closing then false else (waits && on))) ≡ false
           → waits ≡ true → (not over && is_none closing) ≡ true → on ≡ false

@@ -39,12 +39,12 @@ abbrev pub AsksTheSame : Kept → Kept → Type 0
 AsksTheSame old new = (is_head : Bool) → IsAskedBy is_head old → IsAskedBy is_head new
 
 -- the client of the newest request waits to be told to go on, and wasn't told
-abbrev pub waits_to_go_on : Kept → Bool
-waits_to_go_on k = of_exchange (λ x. x.expects && not x.had_continue) k
+abbrev pub awaits_continue : Kept → Bool
+awaits_continue k = of_exchange (λ x. x.expects && not x.had_continue) k
 
 -- while it goes on, the client doesn't wait to be told to go on
 abbrev pub IsTold : Setting → Kept → Type 0
-IsTold setting k = is_running setting k ≡ true → waits_to_go_on k ≡ false
+IsTold setting k = is_running setting k ≡ true → awaits_continue k ≡ false
 
 -- nothing is wanted that wasn't before, and the newest request is one of HEAD, or isn't, as before
 pub record WantsNoMore (setting : Setting) (old new : Kept) : Type 0 where

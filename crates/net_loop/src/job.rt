@@ -5,7 +5,7 @@ ghost use Rattle.net_loop.specs.Runs.{Polling, Draining};
 ghost use Rattle.http_transport.specs.Opening.{IsFresh};
 
 use futures::task::{Context, Poll};
-use http_transport::Wire;
+use http_transport::Transport;
 
 /// What is polled until it ends.
 pub trait Job: Drop {
@@ -43,7 +43,7 @@ pub trait Job: Drop {
 }
 
 /// Makes a job of each connection.
-pub trait Makes<C: Wire, J: Job>: Drop {
+pub trait Makes<C: Transport, J: Job>: Drop {
     /// A job of a fresh connection.
     fn job(&mut self, connection: C) -> J
         requires { IsFresh (C.wiring connection) }

@@ -6,14 +6,14 @@ use crate::job::{Job, Makes};
 use crate::seats::{Seats, Went, Why};
 use crate::watch::{Happening, Watch};
 use http_config::Failed;
-use http_transport::{Clock, Wire};
+use http_transport::{Clock, Transport};
 use std::alloc::AllocGlobal;
 use std::random::RandomSource;
 
 /// The most connections that are let in in one turn.
 const ENTRIES: u32 = 64;
 
-/// The longest wait, and how long a door that failed isn't asked again, in milliseconds.
+/// The longest wait, and how long an acceptor that failed isn't asked again, in milliseconds.
 const LONGEST: u64 = 1000;
 
 /// What tells which connections are ready has failed.
@@ -26,7 +26,7 @@ pub struct Going {
     // There may be new connections.
     may_enter: bool,
 
-    // When a door that failed is asked again.
+    // When an acceptor that failed is asked again.
     retry: Option<u64>,
     is_ending: bool,
 
@@ -39,7 +39,7 @@ pub struct Going {
     /// Jobs that were given up.
     pub given_up: u64,
 
-    /// How often the door failed, or there was no memory for a job.
+    /// How often the acceptor failed, or there was no memory for a job.
     pub refused: u64,
 }
 
@@ -62,7 +62,7 @@ impl Going {
         self.is_ending
     }
 
-    // A door that failed may be asked again.
+    // An acceptor that failed may be asked again.
     fn retry(&mut self, moment: u64) {
         if let Some(when) = self.retry
             && when <= moment
@@ -72,7 +72,7 @@ impl Going {
         }
     }
 
-    // The door failed: it is asked again a while later.
+    // The acceptor failed: it is asked again a while later.
     fn failed(&mut self, moment: u64) {
         self.may_enter = false;
         self.retry = Some(moment.saturating_add(LONGEST));
@@ -116,7 +116,7 @@ pub fn turn<R, C, W, J, M, K>(
 ) -> Result<(), Lost>
 where
     R: RandomSource + AllocGlobal,
-    C: Wire,
+    C: Transport,
     W: Watch<Conn = C>,
     J: Job,
     M: Makes<C, J>,
@@ -153,7 +153,7 @@ fn hear<W: Watch, J: Job>(watch: &mut W, seats: &mut Seats<J>, going: &mut Going
     for _ in 0..u64::MAX {
         match watch.next() {
             None => return,
-            Some(Happening::Door) => going.may_enter = true,
+            Some(Happening::Acceptor) => going.may_enter = true,
             Some(Happening::Stop) => end_all(seats, going, moment),
             Some(Happening::Ready(number)) => serve_ready(seats, going, number, moment),
         }
@@ -208,7 +208,7 @@ fn end_all<J: Job>(seats: &mut Seats<J>, going: &mut Going, moment: u64)
     }
 }
 
-/// Lets new connections in, as far as there are slots. Who has a slot keeps it as it is, whatever the door answers.
+/// Lets new connections in, as far as there are slots. Who has a slot keeps it as it is, whatever the acceptor answers.
 fn enter<R, C, W, J, M>(
     rt: &R,
     watch: &mut W,
@@ -219,7 +219,7 @@ fn enter<R, C, W, J, M>(
 )
 where
     R: RandomSource + AllocGlobal,
-    C: Wire,
+    C: Transport,
     W: Watch<Conn = C>,
     J: Job,
     M: Makes<C, J>,

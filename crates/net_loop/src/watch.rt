@@ -1,29 +1,29 @@
-//! What tells which wires are ready, and gives new ones.
+//! What tells which transports are ready, and gives new ones.
 ghost use Rattle.std.specs.Prelude.{◌≡◌};
 ghost use Rattle.net_loop.specs.Watching.{Watching, Keeps, Enters};
 
 use http_config::Failed;
-use http_transport::Wire;
+use http_transport::Transport;
 
 /// What happened.
 #[derive(Clone, Copy, Debug, PartialEq, Eq)]
 pub enum Happening {
     /// There may be new connections.
-    Door,
+    Acceptor,
 
-    /// The wire with this number by `accept` may be ready to be read from or written to.
+    /// The transport with this number by `accept` may be ready to be read from or written to.
     Ready(usize),
 
     /// It is time to end.
     Stop,
 }
 
-/// What tells which wires are ready, and gives new ones.
+/// What tells which transports are ready, and gives new ones.
 ///
-/// A wire is told of after a call of it was pending, as soon as it may be otherwise; it may be told of at other times too.
+/// A transport is told of after a call of it was pending, as soon as it may be otherwise; it may be told of at other times too.
 pub trait Watch: Drop {
     /// A connection.
-    type Conn: Wire;
+    type Conn: Transport;
 
     /// How often it failed, and how many connections it gave.
     ghost watching: { Self → Watching };
@@ -39,7 +39,7 @@ pub trait Watch: Drop {
     /// A new connection, where one is there, whose readiness is told by this number from now on. Over it no byte was
     /// received or sent, and its input hasn't ended, nor was it shut down.
     ///
-    /// Where none is there, `Door` happens once one may be.
+    /// Where none is there, `Acceptor` happens once one may be.
     fn accept(&mut self, number: usize) -> Result<Option<Self::Conn>, Failed>
         ensures says { Enters Self.Conn.wiring (watching self.old) (watching self.new) result };
 }

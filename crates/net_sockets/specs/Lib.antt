@@ -1,5 +1,5 @@
-pub mod Door
+pub mod Acceptor
 pub mod Gate
 pub mod Moments
 pub mod Socket
-pub mod Wires
+pub mod Transports

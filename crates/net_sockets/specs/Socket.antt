@@ -1,9 +1,9 @@
--- What is known of a socket as a wire: no bytes, but its end, its shutdown and the counts.
+-- What is known of a socket as a transport: no bytes, but its end, its shutdown and the counts.
 use Rattle.std.specs.Prelude.{None}
 use Rattle.http_transport.specs.Wiring.{Wiring}
-use Rattle.net_sockets.specs.declared.wire.TcpWire.{TcpWire}
+use Rattle.net_sockets.specs.declared.transport.TcpTransport.{TcpTransport}
 
-abbrev pub socket_wiring : {R : Type 0} → TcpWire R → Wiring
+abbrev pub socket_wiring : {R : Type 0} → TcpTransport R → Wiring
 socket_wiring w =
     record {
       received = None;

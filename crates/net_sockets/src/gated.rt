@@ -1,4 +1,4 @@
-//! A wire that reads nothing while its write waits.
+//! A transport that reads nothing while its write waits.
 ghost use Rattle.std.specs.Prelude.{◌≡◌, true, false};
 ghost use Rattle.futures.specs.Task.{IsArmed, Keeps};
 ghost use Rattle.futures.specs.Poll.{OnPending};
@@ -7,19 +7,19 @@ ghost use Rattle.http_transport.specs.Wiring.{ReadSays, WriteSays, FlushSays, Sh
 
 use futures::task::{Context, Poll, Source, Waker};
 use http_config::Failed;
-use http_transport::Wire;
+use http_transport::Transport;
 use std::marker::Model;
 
-/// A wire over another one that reads nothing while its write waits: so a peer that doesn't read what it is sent can't
+/// A transport over another one that reads nothing while its write waits: so a peer that doesn't read what it is sent can't
 /// make us hold more of what it sends.
 ///
-/// From a pending write on, each read is pending, and asks the other wire for nothing. The task is woken once a write is
+/// From a pending write on, each read is pending, and asks the other transport for nothing. The task is woken once a write is
 /// answered.
 ///
-/// A clause sees it as the record of the other wire, whether its write waits, and how often its reads were pending.
+/// A clause sees it as the record of the other transport, whether its write waits, and how often its reads were pending.
 #[derive(Drop)]
 pub struct Gated<W> {
-    wire: W,
+    transport: W,
     waits: bool,
     reads: u64,
     taken: Source,
@@ -32,16 +32,16 @@ impl<W> Model for Gated<W> {
 
     ghost Value = { Gate W };
 
-    ghost view = { λ g. record { wire = g.wire; waits = g.waits; reads = g.reads } };
+    ghost view = { λ g. record { transport = g.transport; waits = g.waits; reads = g.reads } };
 }
 
 impl<W> Gated<W> {
-    /// A wire over this one, whose write doesn't wait.
-    pub fn new(wire: W) -> Gated<W>
-        ensures { result ≡ record { wire = wire; waits = false; reads = 0 } }
+    /// A transport over this one, whose write doesn't wait.
+    pub fn new(transport: W) -> Gated<W>
+        ensures { result ≡ record { transport = transport; waits = false; reads = 0 } }
     {
         Gated {
-            wire,
+            transport,
             waits: false,
             reads: 0,
             taken: Source::new(),
@@ -49,20 +49,20 @@ impl<W> Gated<W> {
         }
     }
 
-    /// The wire below.
-    pub fn wire(&self) -> &W
-        ensures { result.now ≡ self.now.wire }
+    /// The transport below.
+    pub fn transport(&self) -> &W
+        ensures { result.now ≡ self.now.transport }
     {
-        &self.wire
+        &self.transport
     }
 }
 
-impl<W: Wire> Wire for Gated<W> {
+impl<W: Transport> Transport for Gated<W> {
     ghost wiring = { gate_wiring W.wiring };
 
     fn poll_read(&mut self, buf: &mut [u8], cx: &mut Context<'_>) -> Poll<Result<usize, Failed>>
         ensures says { ReadSays (gate_wiring W.wiring self.old) (gate_wiring W.wiring self.new) result buf.new }
-        ensures held { self.old.waits ≡ true → (result ≡ Poll.Pending) × (self.new.wire ≡ self.old.wire) }
+        ensures held { self.old.waits ≡ true → (result ≡ Poll.Pending) × (self.new.transport ≡ self.old.transport) }
         ensures stays { self.new.waits ≡ self.old.waits }
         ensures registered { OnPending result (IsArmed cx.new) }
         ensures kept { Keeps cx.old cx.new }
@@ -71,7 +71,7 @@ impl<W: Wire> Wire for Gated<W> {
             self.reads = self.reads.saturating_add(1);
             return cx.register(&self.taken, &mut self.reader);
         }
-        match self.wire.poll_read(buf, cx) {
+        match self.transport.poll_read(buf, cx) {
             Poll::Pending => {
                 self.reads = self.reads.saturating_add(1);
                 Poll::Pending
@@ -86,7 +86,7 @@ impl<W: Wire> Wire for Gated<W> {
         ensures registered { OnPending result (IsArmed cx.new) }
         ensures kept { Keeps cx.old cx.new }
     {
-        match self.wire.poll_write(bytes, cx) {
+        match self.transport.poll_write(bytes, cx) {
             Poll::Pending => {
                 self.waits = true;
                 Poll::Pending
@@ -105,7 +105,7 @@ impl<W: Wire> Wire for Gated<W> {
         ensures registered { OnPending result (IsArmed cx.new) }
         ensures kept { Keeps cx.old cx.new }
     {
-        self.wire.poll_flush(cx)
+        self.transport.poll_flush(cx)
     }
 
     fn poll_shutdown(&mut self, cx: &mut Context<'_>) -> Poll<Result<(), Failed>>
@@ -114,6 +114,6 @@ impl<W: Wire> Wire for Gated<W> {
         ensures registered { OnPending result (IsArmed cx.new) }
         ensures kept { Keeps cx.old cx.new }
     {
-        self.wire.poll_shutdown(cx)
+        self.transport.poll_shutdown(cx)
     }
 }

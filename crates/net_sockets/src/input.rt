@@ -13,7 +13,7 @@ const SOMETHING: u64 = 1;
 /// The peer sends nothing after what is there.
 const LAST: u64 = 2;
 
-/// What was told of a socket's input, which its wire and who watches it share.
+/// What was told of a socket's input, which its transport and who watches it share.
 #[derive(Drop)]
 pub struct Input {
     told: Arc<AtomicU64>,

@@ -1,11 +1,11 @@
 //! Readiness by the system.
 ghost use Rattle.std.specs.Prelude.{◌≡◌, IfOk};
 ghost use Rattle.net_loop.specs.Watching.{unwatched, Enters};
-ghost use Rattle.net_sockets.specs.Wires.{mio_watching, mio_wiring};
+ghost use Rattle.net_sockets.specs.Transports.{mio_watching, mio_wiring};
 
 use crate::Linger;
 use crate::input::Input;
-use crate::mio_wire::MioWire;
+use crate::mio_transport::MioTransport;
 use http_config::Failed;
 use mio::event::Event;
 use mio::net::{TcpListener, TcpStream};
@@ -19,7 +19,7 @@ use std::net::Net;
 use std::time::{self, Duration};
 
 /// The token of the listener.
-const DOOR: usize = usize::MAX;
+const ACCEPTOR: usize = usize::MAX;
 
 /// The token of the standard input.
 const STOP: usize = usize::MAX - 1;
@@ -39,7 +39,7 @@ pub struct MioWatch<R> {
     happened: VecDeque<Happening>,
     listener: TcpListener,
 
-    // The input of each wire, by its number.
+    // The input of each transport, by its number.
     inputs: Vec<Option<Input>>,
     alloc: Global,
     linger: Linger,
@@ -48,7 +48,7 @@ pub struct MioWatch<R> {
 }
 
 impl<R> MioWatch<R> {
-    /// Watches a listener that doesn't wait. A wait tells of so many happenings at most; the shutdown of its wires has these
+    /// Watches a listener that doesn't wait. A wait tells of so many happenings at most; the shutdown of its transports has these
     /// bounds.
     pub fn new(
         rt: R,
@@ -62,7 +62,7 @@ impl<R> MioWatch<R> {
     {
         let poll = Poll::new(&rt)?;
         poll.registry()
-            .register(&mut listener, Token(DOOR), Interest::READABLE)?;
+            .register(&mut listener, Token(ACCEPTOR), Interest::READABLE)?;
         let events = Events::with_capacity(rt.alloc(), most)?;
         let happened = VecDeque::with_capacity(rt.alloc(), most)?;
         let alloc = rt.alloc();
@@ -95,7 +95,7 @@ impl<R> Watch for MioWatch<R>
 where
     R: time::Clock + Copy + Drop,
 {
-    type Conn = MioWire<R>;
+    type Conn = MioTransport<R>;
 
     ghost watching = { mio_watching };
 
@@ -118,7 +118,7 @@ where
         self.happened.pop_front()
     }
 
-    fn accept(&mut self, number: usize) -> Result<Option<MioWire<R>>, Failed> {
+    fn accept(&mut self, number: usize) -> Result<Option<MioTransport<R>>, Failed> {
         match next_stream(&self.listener) {
             Next::Later => Ok(None),
             Next::Failed => self.fail(),
@@ -128,9 +128,13 @@ where
 }
 
 impl<R: time::Clock + Copy> MioWatch<R> {
-    /// A wire over a new connection, whose readiness is told by this number. One of which it can't be told is lost, and one for
+    /// A transport over a new connection, whose readiness is told by this number. One of which it can't be told is lost, and one for
     /// which there is no memory.
-    fn admit(&mut self, mut stream: TcpStream, number: usize) -> Result<Option<MioWire<R>>, Failed>
+    fn admit(
+        &mut self,
+        mut stream: TcpStream,
+        number: usize,
+    ) -> Result<Option<MioTransport<R>>, Failed>
         ensures { Enters mio_wiring (mio_watching self.old) (mio_watching self.new) result }
     {
         // A socket that refuses to be set is lost, and its first read says so.
@@ -142,11 +146,11 @@ impl<R: time::Clock + Copy> MioWatch<R> {
             return self.fail();
         }
         self.given = self.given.saturating_add(1);
-        Ok(Some(MioWire::new(self.rt, stream, input, self.linger)))
+        Ok(Some(MioTransport::new(self.rt, stream, input, self.linger)))
     }
 
     /// A failure, which is counted.
-    fn fail(&mut self) -> Result<Option<MioWire<R>>, Failed>
+    fn fail(&mut self) -> Result<Option<MioTransport<R>>, Failed>
         ensures { Enters mio_wiring (mio_watching self.old) (mio_watching self.new) result }
     {
         self.faults = self.faults.saturating_add(1);
@@ -224,7 +228,7 @@ fn note_all(
 ) -> Result<(), AllocError> {
     for event in events {
         let happening = match event.token().0 {
-            DOOR => Happening::Door,
+            ACCEPTOR => Happening::Acceptor,
             STOP => Happening::Stop,
             number => {
                 note_input(event, inputs.get(number));

@@ -13,7 +13,7 @@ use Rattle.model_h1.specs.End.{End}
 use Rattle.model_h1.specs.Sums.{Step, head_of, request}
 use Rattle.model_state.specs.Local.{closing_by, allowed_by, waits_for_answer, is_answering}
 use Rattle.model_state.specs.StandsFor.{StandsFor}
-use Rattle.model_proxy.specs.Wants.{is_running, waits_to_go_on}
+use Rattle.model_proxy.specs.Wants.{is_running, awaits_continue}
 use Rattle.proxy.specs.Leaves.{IsAwaited, LacksBytes, LacksHead}
 use Rattle.http_framing.specs.declared.body.size.BodySize as ours
 use Rattle.http_framing.specs.declared.body.size.BodySize.TheVariants as sizes
@@ -32,7 +32,7 @@ use Rattle.model_proxy.specs.Exchange.{Pulled, pulled_by, newest_pulled, with_he
 use Rattle.model_proxy.specs.Past.{ProxyStep}
 use Rattle.model_proxy.specs.Happenings.{Request, Happenings}
 use Rattle.proxy.specs.Sides.{ClientBrings, ClientBringsHead}
-use Rattle.proxy.specs.Wants.{IsAnswered, IsAnswering, IsAskedBy, IsTold, WantsTheSame, Wants, WantsNext, HasHead, HasEnd, TellsToGoOn}
+use Rattle.proxy.specs.Wants.{IsAnswered, IsAnswering, IsAskedBy, IsTold, WantsTheSame, Wants, WantsNext, HasHead, HasEnd, TellsToContinue}
 use Rattle.proxy.proofs.Wants.{client_wants}
 use Rattle.proxy.specs.declared.proxy.Proxy.{Proxy}
 use Rattle.proxy.specs.declared.proxy.Unsent.{Unsent}
@@ -114,8 +114,8 @@ no_reply_of p s runs is x =
 pub no_reply_to : (p : Proxy) (s : Sent) → Runs s p → s.is_answered ≡ false → Serving p → HasNoReplyTo s.is_head p
 no_reply_to p s runs is x = (no_reply_of p s runs is x, (runs_fits p s runs x).1)
 
-pub told_to_go_on : (p : Proxy) (s : Sent) → Runs s p → Serving p → IsTold p.client
-told_to_go_on p s runs x = (runs_fits p s runs x).2
+pub told_to_continue : (p : Proxy) (s : Sent) → Runs s p → Serving p → IsTold p.client
+told_to_continue p s runs x = (runs_fits p s runs x).2
 
 pub answered_of : (p : Proxy) (s : Sent) → Runs s p → s.is_answered ≡ true → Serving p → IsAnswered p.client
 answered_of p s runs is x = (subst (λ (t : Bool). FitsAnswer t p.client) is (runs_fits p s runs x).0).0
@@ -140,7 +140,7 @@ passed_serves is_head closes p t none is told answered answering asked on = reco
 
 -- its client is told to go on, and it waits to be sent on
 pub waits_serves : (is_head : Bool) (p : Proxy) (c : State) (u : Unsent) → u.sent.is_answered ≡ false → u.sent.is_head ≡ is_head
-    → ClientBrings on.done p.client c → Wants WantsTheSame p.client c → Wants TellsToGoOn p.client c → HasNoReplyTo is_head p
+    → ClientBrings on.done p.client c → Wants WantsTheSame p.client c → Wants TellsToContinue p.client c → HasNoReplyTo is_head p
     → Serving (record p { client = c; unsent = Some u })
 waits_serves is_head p c u is method brings wants tells x =
     let same = wants x.0.told.0 x.0.told.1 in
@@ -335,15 +335,15 @@ not_second true b is = is
 not_second false b is = refl
 
 not_telling : (client : State) (u : Option Unsent) (s : Option Sent) → Fits u s client → is_running (setting_of client.settings) client.kept ≡ true
-    → (waits_for_answer client.kept && waits_to_go_on client.kept) ≡ false
-not_telling client (Some u) s fits runs = not_second (waits_for_answer client.kept) (waits_to_go_on client.kept) (fits.3 runs)
-not_telling client None (Some s) fits runs = not_second (waits_for_answer client.kept) (waits_to_go_on client.kept) (fits.2 runs)
-not_telling client None None fits runs = ap (λ (b : Bool). b && waits_to_go_on client.kept) (fits.0 runs)
+    → (waits_for_answer client.kept && awaits_continue client.kept) ≡ false
+not_telling client (Some u) s fits runs = not_second (waits_for_answer client.kept) (awaits_continue client.kept) (fits.3 runs)
+not_telling client None (Some s) fits runs = not_second (waits_for_answer client.kept) (awaits_continue client.kept) (fits.2 runs)
+not_telling client None None fits runs = ap (λ (b : Bool). b && awaits_continue client.kept) (fits.0 runs)
 
 pub none_to_tell : (p : Proxy) → IsServed p → allowed_by (setting_of p.client.settings) p.client.kept on.send_continue ≡ false
 unfolding allowed_by
 none_to_tell p served =
-    by_parts p.client.kept.is_over (closing_by (setting_of p.client.settings) p.client.kept) (waits_for_answer p.client.kept && waits_to_go_on p.client.kept)
+    by_parts p.client.kept.is_over (closing_by (setting_of p.client.settings) p.client.kept) (waits_for_answer p.client.kept && awaits_continue p.client.kept)
     (not_telling p.client p.unsent p.sent served)
   where
     by_parts : (over : Bool) (closing : Option End) (may : Bool) → ((not over && is_none closing) ≡ true → may ≡ false)

@@ -18,7 +18,7 @@ use Rattle.h1_connection.specs.declared.connection.heads.NextHead.{NextHead}
 use Rattle.h1_connection.specs.declared.connection.heads.NextHead.TheVariants as next
 use Rattle.model_proxy.specs.Wants as wanted
 use Rattle.model_proxy.proofs.Wants.{others_want, pull_wants, next_wants, answer_wants, waited, end_wants, cut_wants, continue_tells, no_answer, no_end, no_continue}
-use Rattle.proxy.specs.Wants.{IsAnswered, IsComplete, IsWaitedFor, IsAnswering, IsTold, WantsTheSame, Wants, WantsNext, HasHead, HasEnd, TellsToGoOn}
+use Rattle.proxy.specs.Wants.{IsAnswered, IsComplete, IsWaitedFor, IsAnswering, IsTold, WantsTheSame, Wants, WantsNext, HasHead, HasEnd, TellsToContinue}
 use Rattle.proxy.proofs.Sides.{stepped}
 
 -- by the settings that stay
@@ -146,11 +146,11 @@ was_cut a b settings one = λ trace stands.
 
 -- ---- the word to go on
 
-pub continue_told : (a b : State) → b.settings ≡ a.settings → GoesOn a on.send_continue (Is on.done) b → Wants TellsToGoOn a b
+pub continue_told : (a b : State) → b.settings ≡ a.settings → GoesOn a on.send_continue (Is on.done) b → Wants TellsToContinue a b
 continue_told a b settings one = λ trace stands waited.
     let s = one trace stands in
     told_as a b settings
     (continue_tells (setting_of a.settings) a.kept b.kept trace on.done stands (stepped a b on.send_continue on.done s.0 trace settings s.1 s.3))
 
-pub continue_not_wanted : (a : State) → allowed_by (setting_of a.settings) a.kept on.send_continue ≡ false → TellsToGoOn a a
+pub continue_not_wanted : (a : State) → allowed_by (setting_of a.settings) a.kept on.send_continue ≡ false → TellsToContinue a a
 continue_not_wanted a none = no_continue (setting_of a.settings) a.kept none

@@ -79,5 +79,5 @@ pub record HasEnd (old new : State) : Type 0 where
   pub told : IsTold old → IsTold new
 
 -- where a request waits for its answer, its client is told to go on
-abbrev pub TellsToGoOn : State → State → Type 0
-TellsToGoOn old new = IsWaitedFor old → IsTold new
+abbrev pub TellsToContinue : State → State → Type 0
+TellsToContinue old new = IsWaitedFor old → IsTold new

@@ -6,7 +6,7 @@ ghost use Rattle.model_h1.specs.Event as on;
 ghost use Rattle.proxy.specs.Sides.{ClientBrings, BringsNext, BringsPulled};
 ghost use Rattle.h1_encoder.specs.Meaning.{answer_of, size_of};
 ghost use Rattle.proxy.specs.Leaves.{LeavesNext, LeavesPulled};
-ghost use Rattle.proxy.specs.Wants.{Wants, WantsTheSame, WantsNext, HasHead, HasEnd, TellsToGoOn};
+ghost use Rattle.proxy.specs.Wants.{Wants, WantsTheSame, WantsNext, HasHead, HasEnd, TellsToContinue};
 ghost use Rattle.proxy.specs.Puts.{MayLeave, begins, continues, ends, breaks_off, Puts, MayPut, HandsNext, HandsPulled};
 
 use h1_connection::{BodySize, Bytes, Connection, NextHead, NoMemory, Pulled, ResponseHead};
@@ -52,10 +52,10 @@ pub fn leave_body(client: &mut Connection)
 }
 
 /// Tells the client to go on, where it waits for that.
-pub fn tell_to_go_on(client: &mut Connection) -> Result<(), NoMemory>
+pub fn tell_to_continue(client: &mut Connection) -> Result<(), NoMemory>
     ensures brings { OnOk result (ClientBrings on.done client.old client.new) }
     ensures wants { OnOk result (Wants WantsTheSame client.old client.new) }
-    ensures told { OnOk result (Wants TellsToGoOn client.old client.new) }
+    ensures told { OnOk result (Wants TellsToContinue client.old client.new) }
     ensures puts { OnOk result (Puts [] client.old client.new) }
 {
     if !client.can_continue() {

@@ -20,7 +20,7 @@ ghost use Rattle.proxy.specs.Replies.{own, KeepsIdle, KeepsFor, may_keep, ReplyI
 ghost use Rattle.proxy.specs.Rests.{may_begin, is_over, may_turn, Settles, LeavesLess, LeavesMore, Works, WorksBody, Turns, IsNotToEnd};
 
 use crate::client::{
-    cut_reply, leave_body, next_bytes, next_head, put_end, put_head, put_piece, tell_to_go_on,
+    cut_reply, leave_body, next_bytes, next_head, put_end, put_head, put_piece, tell_to_continue,
 };
 use crate::proxy::{MAX_WAITING, Proxy, Sent, Unsent};
 use crate::server::{ask, next_answer, next_piece, sends_body, tick_server};
@@ -249,7 +249,7 @@ impl Proxy {
             return Ok(());
         }
         self.unsent = Some(Unsent::new(item));
-        tell_to_go_on(&mut self.client)?;
+        tell_to_continue(&mut self.client)?;
         Ok(())
     }
 

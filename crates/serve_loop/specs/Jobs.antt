@@ -1,4 +1,4 @@
--- A service over a wire as a job: what is done to it is what is done to its dispatcher.
+-- A service over a transport as a job: what is done to it is what is done to its dispatcher.
 use Rattle.std.specs.Prelude.{◌≡◌, ℕ, List, [], ◌∷◌, None, Result}
 use Rattle.futures.specs.declared.task.Poll.{Poll}
 use Rattle.futures.specs.declared.task.context.Context.{Context}
@@ -12,13 +12,13 @@ use Rattle.h1_dispatcher.specs.Polls.{PollSays}
 use Rattle.h1_dispatcher.specs.View.{View, Asking, Answer, view_begun, with_drain}
 use Rattle.net_loop.specs.Runs as jobs
 
--- a new dispatcher over a fresh wire
+-- a new dispatcher over a fresh transport
 pub record IsBegun (v : View) : Type 0 where
-  pub wire : Wiring
-  pub fresh : IsFresh wire
+  pub transport : Wiring
+  pub fresh : IsFresh transport
   pub service : Serving Asking Answer Answer
   pub settings : Settings
-  pub is : v ≡ view_begun wire service settings None
+  pub is : v ≡ view_begun transport service settings None
 
 -- Polls, and drains between them, have brought it there from such a one, and they are one run of steps.
 pub record HasServed (v : View) : Type 0 where

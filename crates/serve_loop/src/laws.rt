@@ -10,14 +10,14 @@ ghost use Rattle.serve_loop.specs.declared.served.Served.{Served as Job};
 use http_bodies::MessageBody;
 use http_services::Service;
 use http_services::h1::Payload;
-use http_transport::Wire;
+use http_transport::Transport;
 use http_types::{Request, Response};
 
 /// A job that lives is a dispatcher that stands where polls, and drains between them, have brought it from its beginning
-/// over a fresh wire: these are one run of steps, of which the laws of `h1_dispatcher` speak.
+/// over a fresh transport: these are one run of steps, of which the laws of `h1_dispatcher` speak.
 pub fn jobs_are_served<T, S, B>()
 where
-    T: Wire,
+    T: Transport,
     S: Service<Request<(), ()>, Response = Response<B>, Error = Response<B>, Lent = Payload>,
     B: MessageBody,
     ensures { let view = λ (j : Job T S S.Call B). view_of T.wiring S.served S.calling B.gives (λ _. None) j.dispatcher in
@@ -27,7 +27,7 @@ where
 /// A job that has ended did so for one of the causes of `h1_dispatcher`.
 pub fn ends_have_causes<T, S, B>()
 where
-    T: Wire,
+    T: Transport,
     S: Service<Request<(), ()>, Response = Response<B>, Error = Response<B>, Lent = Payload>,
     B: MessageBody,
     ensures { let view = λ (j : Job T S S.Call B). view_of T.wiring S.served S.calling B.gives (λ _. None) j.dispatcher in

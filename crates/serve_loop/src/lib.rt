@@ -11,7 +11,7 @@
 //!
 //! # Contract
 //!
-//! Each slot of the loop has a [`Served`], which is a dispatcher over a wire of its own. What is done to it is what
+//! Each slot of the loop has a [`Served`], which is a dispatcher over a transport of its own. What is done to it is what
 //! `Dispatcher` says of a poll and of a drain, and nothing else is: so all laws of `h1_dispatcher` hold of each connection,
 //! from the moment on at which it came.
 #![tactic(auto)]

@@ -5,7 +5,7 @@ use h1_traced::NoRecord;
 use http_bodies::MessageBody;
 use http_services::Service;
 use http_services::h1::Payload;
-use http_transport::Wire;
+use http_transport::Transport;
 use http_types::{Request, Response, ServiceConfig};
 use net_loop::Makes;
 use std::alloc::Global;
@@ -38,7 +38,7 @@ impl<F> Maker<F> {
 impl<F, T, S, B> Makes<T, Served<T, S, S::Call, B>> for Maker<F>
 where
     F: Services<S>,
-    T: Wire,
+    T: Transport,
     S: Service<Request<(), ()>, Response = Response<B>, Error = Response<B>, Lent = Payload>,
     B: MessageBody,
 {

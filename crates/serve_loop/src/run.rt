@@ -4,7 +4,7 @@ use crate::served::Served;
 use http_bodies::MessageBody;
 use http_services::Service;
 use http_services::h1::Payload;
-use http_transport::{Clock, Wire};
+use http_transport::{Clock, Transport};
 use http_types::{Request, Response, ServiceConfig};
 use net_loop::{Going, Limits, Seats, Watch, turn};
 use std::alloc::AllocGlobal;
@@ -35,7 +35,7 @@ pub fn run_many<R, T, W, K, F, S, B>(
 ) -> Result<Going, RunError>
 where
     R: RandomSource + AllocGlobal,
-    T: Wire,
+    T: Transport,
     W: Watch<Conn = T>,
     K: Clock,
     F: Services<S>,

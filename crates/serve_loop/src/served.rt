@@ -1,4 +1,4 @@
-//! A service over a wire as a job.
+//! A service over a transport as a job.
 ghost use Rattle.std.specs.Prelude.{None};
 ghost use Rattle.h1_dispatcher.specs.View.{view_of, MayBePolled};
 ghost use Rattle.serve_loop.specs.Jobs.{IsNew, Polls, Drains};
@@ -9,11 +9,11 @@ use h1_traced::NoRecord;
 use http_bodies::MessageBody;
 use http_services::Service;
 use http_services::h1::Payload;
-use http_transport::Wire;
+use http_transport::Transport;
 use http_types::{DispatchError, Request, Response};
 use net_loop::Job;
 
-/// A service over a wire, by one connection of HTTP/1, as a job.
+/// A service over a transport, by one connection of HTTP/1, as a job.
 #[derive(Drop)]
 pub struct Served<T, S, C, B> {
     pub(crate) dispatcher: Dispatcher<T, S, C, NoRecord, B>,
@@ -21,7 +21,7 @@ pub struct Served<T, S, C, B> {
 
 impl<T, S, B> Job for Served<T, S, S::Call, B>
 where
-    T: Wire,
+    T: Transport,
     S: Service<Request<(), ()>, Response = Response<B>, Error = Response<B>, Lent = Payload>,
     B: MessageBody,
 {

@@ -1,5 +1,5 @@
 //! Tests of the two sides of a connection and of what stands on them, through what these crates make public: a
-//! connection's calls (`h1_connection`), the codecs for a framed wire and an answer that is sent (`h1_codec`,
+//! connection's calls (`h1_connection`), the codecs for a framed transport and an answer that is sent (`h1_codec`,
 //! `h1_codec`, `h1_codec`), a client's requests and what answers to HEAD mean (`h1_encoder`, `h1_client`), heads
 //! that a forwarder passes on (`proxy_heads`), a body's decoder and its copy (`h1_payload`), scripts (`h1_replay`), and
 //! sessions of WebSocket (`ws_session`).

@@ -1,4 +1,4 @@
-//! Wires that fail.
+//! Transports that fail.
 ghost use Rattle.ws_dispatcher.specs.Polls.{MayBePolled};
 ghost use Rattle.tests_servers.specs.Calls.{answers_once};
 
@@ -25,7 +25,7 @@ fn end_of(task: &MockTask, served: &mut Served) -> Result<Ends, Fail>
 }
 
 #[test]
-fn each_failing_call_of_the_wire_ends_it(rt: HostRuntime) -> Result<(), Fail> {
+fn each_failing_call_of_the_transport_ends_it(rt: HostRuntime) -> Result<(), Fail> {
     // The calls are a read, a write, a flush and the read of the end.
     for call in 0..4_usize {
         let task = MockTask::new(&rt)?;

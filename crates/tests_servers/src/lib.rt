@@ -1,4 +1,4 @@
-//! Tests of dispatchers of frames over wires in memory, through what `ws_dispatcher` makes public. These are also its only
+//! Tests of dispatchers of frames over transports in memory, through what `ws_dispatcher` makes public. These are also its only
 //! callers that are proved: they show that what its calls require can be met.
 #![tactic(auto)]
 

@@ -1,11 +1,11 @@
-//! A service of frames, over a wire in memory.
+//! A service of frames, over a transport in memory.
 ghost use Rattle.std.specs.Prelude.{IfOk};
 ghost use Rattle.ws_dispatcher.specs.Polls.{MayBePolled};
 ghost use Rattle.tests_servers.specs.Calls.{answers_once};
 
 use bytes::Bytes;
 use http_services::{FnService, Handler};
-use http_transport::{Framed, MemWire};
+use http_transport::{Framed, MemTransport};
 use std::alloc::{AllocError, Global};
 use std::test::Fail;
 use ws_dispatcher::{DispatcherError, inner, ws};
@@ -34,12 +34,12 @@ impl Handler<Frame> for Echo {
 
 pub(crate) type Service = FnService<Echo, ()>;
 
-pub(crate) type Served = ws::Dispatcher<Service, Option<Frame>, MemWire, ()>;
+pub(crate) type Served = ws::Dispatcher<Service, Option<Frame>, MemTransport, ()>;
 
 /// Why a dispatcher of an echo ends.
 pub(crate) type Ends = Result<(), DispatcherError<()>>;
 
-/// An echo over a wire that gives this text in pieces of so many bytes, of which there is at least one.
+/// An echo over a transport that gives this text in pieces of so many bytes, of which there is at least one.
 pub(crate) fn serve_text(
     alloc: Global,
     text: &'static [u8],
@@ -58,14 +58,14 @@ pub(crate) fn serve_text(
         let count = rest.len().min(size.max(1));
         pieces.push(rest.split_to(count)?)?;
     }
-    Ok(over(alloc, MemWire::new(alloc, pieces, room, fail)))
+    Ok(over(alloc, MemTransport::new(alloc, pieces, room, fail)))
 }
 
-/// An echo over this wire.
-pub(crate) fn over(alloc: Global, wire: MemWire) -> Served
+/// An echo over this transport.
+pub(crate) fn over(alloc: Global, transport: MemTransport) -> Served
     ensures { MayBePolled answers_once result }
 {
-    ws::over_wire(alloc, wire, FnService::new(Echo))
+    ws::over_transport(alloc, transport, FnService::new(Echo))
 }
 
 /// What was sent.

@@ -1,4 +1,4 @@
-//! Whole connections of a dispatcher over wires in memory, each with the report that it has to get. A file has blocks; the
+//! Whole connections of a dispatcher over transports in memory, each with the report that it has to get. A file has blocks; the
 //! crate's page says what their lines mean.
 mod body;
 mod play;
@@ -8,7 +8,7 @@ mod service;
 mod setup;
 mod silence;
 mod step;
-mod wire;
+mod transport;
 
 use crate::dispatch::play::play;
 use crate::dispatch::setup::{Cut, Setup, keep};
@@ -79,7 +79,7 @@ impl Plan {
         }
     }
 
-    // Whether the connection gets the report, however the wire cuts, with a recorder and without. Where it does not,
+    // Whether the connection gets the report, however the transport cuts, with a recorder and without. Where it does not,
     // what it gets is written to `different`.
     fn is_answered<R: RandomSource + AllocGlobal>(
         &self,

@@ -23,7 +23,7 @@ as_before reads d e left rest more z r codec is said =
 module _ {U Q I E R : Type 0} (reads : U → List ℕ → R → Type 0) (given : Q → R → R) (nothing : R)
     (breaks : ProtocolError → R → Type 0) (lacks : ProtocolError → Type 0) (seen : U → List ℕ → Type 0)
     (leaves : ProtocolError → U → List ℕ → U → List ℕ → Type 0) (writes : U → I → List ℕ → U → Type 0) (unwritten_so : ProtocolError → U → I → U → Type 0) (keeps : KeepsReading reads writes) where
-  pending_goes : (v u : View U Q I E) (came : List ℕ) (woken : Bool) → Answers reads given nothing breaks lacks seen leaves v.wire u.wire woken v.codec v.unread came u.codec u.unread Pending
+  pending_goes : (v u : View U Q I E) (came : List ℕ) (woken : Bool) → Answers reads given nothing breaks lacks seen leaves v.transport u.transport woken v.codec v.unread came u.codec u.unread Pending
       → GoesOn reads given v.codec (v.unread ++ came) (λ x. x) u.codec u.unread
   pending_goes v u came woken (inl is) = is.0.passed.goes_on
   pending_goes v u came woken (inr is) = is.0.goes_on

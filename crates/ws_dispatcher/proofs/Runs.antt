@@ -9,10 +9,10 @@ use Rattle.ws_dispatcher.specs.Steps.{Step, IsStep, IsRun, read, ready, called, 
 
 -- no count falls
 pub record Later {U Q I E : Type 0} (v w : View U Q I E) : Type 0 where
-  pub reads : v.wire.read_waits ≤ w.wire.read_waits
-  pub writes : v.wire.write_waits ≤ w.wire.write_waits
-  pub flushes : v.wire.flush_waits ≤ w.wire.flush_waits
-  pub faults : v.wire.faults ≤ w.wire.faults
+  pub reads : v.transport.read_waits ≤ w.transport.read_waits
+  pub writes : v.transport.write_waits ≤ w.transport.write_waits
+  pub flushes : v.transport.flush_waits ≤ w.transport.flush_waits
+  pub faults : v.transport.faults ≤ w.transport.faults
   pub readies : v.service.ready_waits ≤ w.service.ready_waits
   pub calls : v.service.call_waits ≤ w.service.call_waits
 
@@ -34,28 +34,28 @@ trans a b c x y = omega (arith, x, y)
 
 pub later-trans : {U Q I E : Type 0} (v u w : View U Q I E) → Later v u → Later u w → Later v w
 later-trans v u w x y = record {
-  reads = trans v.wire.read_waits u.wire.read_waits w.wire.read_waits x.reads y.reads;
-  writes = trans v.wire.write_waits u.wire.write_waits w.wire.write_waits x.writes y.writes;
-  flushes = trans v.wire.flush_waits u.wire.flush_waits w.wire.flush_waits x.flushes y.flushes;
-  faults = trans v.wire.faults u.wire.faults w.wire.faults x.faults y.faults;
+  reads = trans v.transport.read_waits u.transport.read_waits w.transport.read_waits x.reads y.reads;
+  writes = trans v.transport.write_waits u.transport.write_waits w.transport.write_waits x.writes y.writes;
+  flushes = trans v.transport.flush_waits u.transport.flush_waits w.transport.flush_waits x.flushes y.flushes;
+  faults = trans v.transport.faults u.transport.faults w.transport.faults x.faults y.faults;
   readies = trans v.service.ready_waits u.service.ready_waits w.service.ready_waits x.readies y.readies;
   calls = trans v.service.call_waits u.service.call_waits w.service.call_waits x.calls y.calls;
 }
 
--- the wire stays as it is, and no count of the service falls
-serving : {U Q I E : Type 0} (v w : View U Q I E) → w.wire ≡ v.wire → v.service.ready_waits ≤ w.service.ready_waits → v.service.call_waits ≤ w.service.call_waits → Later v w
+-- the transport stays as it is, and no count of the service falls
+serving : {U Q I E : Type 0} (v w : View U Q I E) → w.transport ≡ v.transport → v.service.ready_waits ≤ w.service.ready_waits → v.service.call_waits ≤ w.service.call_waits → Later v w
 serving v w is readies calls = record {
-  reads = same v.wire.read_waits w.wire.read_waits (ap (λ x. x.read_waits) is);
-  writes = same v.wire.write_waits w.wire.write_waits (ap (λ x. x.write_waits) is);
-  flushes = same v.wire.flush_waits w.wire.flush_waits (ap (λ x. x.flush_waits) is);
-  faults = same v.wire.faults w.wire.faults (ap (λ x. x.faults) is);
+  reads = same v.transport.read_waits w.transport.read_waits (ap (λ x. x.read_waits) is);
+  writes = same v.transport.write_waits w.transport.write_waits (ap (λ x. x.write_waits) is);
+  flushes = same v.transport.flush_waits w.transport.flush_waits (ap (λ x. x.flush_waits) is);
+  faults = same v.transport.faults w.transport.faults (ap (λ x. x.faults) is);
   readies = readies;
   calls = calls;
 }
 
-still : {U Q I E : Type 0} (v w : View U Q I E) → w.wire ≡ v.wire → w.service ≡ v.service → Later v w
-still v w wire service =
-    serving v w wire (same v.service.ready_waits w.service.ready_waits (ap (λ x. x.ready_waits) service))
+still : {U Q I E : Type 0} (v w : View U Q I E) → w.transport ≡ v.transport → w.service ≡ v.service → Later v w
+still v w transport service =
+    serving v w transport (same v.service.ready_waits w.service.ready_waits (ap (λ x. x.ready_waits) service))
     (same v.service.call_waits w.service.call_waits (ap (λ x. x.call_waits) service))
 
 waited : {A : Type 0} (before now : ℕ) (result : Poll A) → Waits before now result → before ≤ now
@@ -71,37 +71,37 @@ module _ {U Q I E R : Type 0} (reads : U → List ℕ → R → Type 0) (given :
       let service : w.service ≡ v.service = ap (λ x. x.service) is.5 in
       record {
         reads = items.waits;
-        writes = same v.wire.write_waits w.wire.write_waits items.others.writes;
-        flushes = same v.wire.flush_waits w.wire.flush_waits items.others.flushes;
+        writes = same v.transport.write_waits w.transport.write_waits items.others.writes;
+        flushes = same v.transport.flush_waits w.transport.flush_waits items.others.flushes;
         faults = items.faults;
         readies = same v.service.ready_waits w.service.ready_waits (ap (λ x. x.ready_waits) service);
         calls = same v.service.call_waits w.service.call_waits (ap (λ x. x.call_waits) service);
       }
   step_later v w (ready answer) is =
-      serving v w (ap (λ x. x.wire) is.3) (waited v.service.ready_waits w.service.ready_waits answer is.2.ready_waits)
+      serving v w (ap (λ x. x.transport) is.3) (waited v.service.ready_waits w.service.ready_waits answer is.2.ready_waits)
       (same v.service.call_waits w.service.call_waits is.2.call_waits)
   step_later v w (called item) is =
-      serving v w (ap (λ x. x.wire) is.4) (same v.service.ready_waits w.service.ready_waits (is.3.begun.ready_waits ∙ is.3.is_ready.ready_waits))
+      serving v w (ap (λ x. x.transport) is.4) (same v.service.ready_waits w.service.ready_waits (is.3.begun.ready_waits ∙ is.3.is_ready.ready_waits))
       (same v.service.call_waits w.service.call_waits (is.3.begun.call_waits ∙ is.3.is_ready.call_waits))
   step_later v w (answered answer) is =
-      serving v w (ap (λ x. x.wire) is.3) (same v.service.ready_waits w.service.ready_waits is.2.ready_waits)
+      serving v w (ap (λ x. x.transport) is.3) (same v.service.ready_waits w.service.ready_waits is.2.ready_waits)
       (waited v.service.call_waits w.service.call_waits answer is.2.call_waits)
-  step_later v w (wrote message text) is = still v w (ap (λ x. x.wire) is.3) (ap (λ x. x.service) is.3)
-  step_later v w (unwritten message error) is = still v w (ap (λ x. x.wire) is.2) (ap (λ x. x.service) is.2)
-  step_later v w closed is = still v w (ap (λ x. x.wire) is.2) (ap (λ x. x.service) is.2)
-  step_later v w (failed error) is = still v w (ap (λ x. x.wire) is.2) (ap (λ x. x.service) is.2)
+  step_later v w (wrote message text) is = still v w (ap (λ x. x.transport) is.3) (ap (λ x. x.service) is.3)
+  step_later v w (unwritten message error) is = still v w (ap (λ x. x.transport) is.2) (ap (λ x. x.service) is.2)
+  step_later v w closed is = still v w (ap (λ x. x.transport) is.2) (ap (λ x. x.service) is.2)
+  step_later v w (failed error) is = still v w (ap (λ x. x.transport) is.2) (ap (λ x. x.service) is.2)
   step_later v w (flushed gave answer) is =
       let gives = is.0.1 in
       let service : w.service ≡ v.service = ap (λ x. x.service) is.1 in
       record {
-        reads = same v.wire.read_waits w.wire.read_waits gives.others.reads;
+        reads = same v.transport.read_waits w.transport.read_waits gives.others.reads;
         writes = gives.writes;
         flushes = gives.flushes;
         faults = gives.faults;
         readies = same v.service.ready_waits w.service.ready_waits (ap (λ x. x.ready_waits) service);
         calls = same v.service.call_waits w.service.call_waits (ap (λ x. x.call_waits) service);
       }
-  step_later v w (told error) is = still v w (ap (λ x. x.wire) is.1) (ap (λ x. x.service) is.1)
+  step_later v w (told error) is = still v w (ap (λ x. x.transport) is.1) (ap (λ x. x.service) is.1)
 
   pub run_later : (v w : View U Q I E) (steps : List (Step Q I E)) → IsRun reads given nothing breaks lacks seen leaves writes unwritten_so v steps w → Later v w
   run_later v w [] is = subst (λ x. Later v x) (sym is) (later-refl v)

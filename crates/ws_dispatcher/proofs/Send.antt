@@ -38,16 +38,16 @@ module _ {U Q I E R : Type 0} (reads : U → List ℕ → R → Type 0) (given :
 module _ {U Q I E R : Type 0} (reads : U → List ℕ → R → Type 0) (given : Q → R → R) (nothing : R)
     (breaks : ProtocolError → R → Type 0) (lacks : ProtocolError → Type 0) (seen : U → List ℕ → Type 0)
     (leaves : ProtocolError → U → List ℕ → U → List ℕ → Type 0) (writes : U → I → List ℕ → U → Type 0) (unwritten_so : ProtocolError → U → I → U → Type 0) (v w : View U Q I E) (cx : Context) where
-  pub flush_counted : (answer : Poll (Result Unit config.Failed)) → IsFlushGood answer → Flushes v.wire w.wire cx.is_woken v.unsent w.unsent answer
-      → w ≡ record v { wire = w.wire; unsent = w.unsent; flushing = is_unflushed answer } → TurnSays reads given nothing breaks lacks seen leaves writes unwritten_so v w cx Counted
+  pub flush_counted : (answer : Poll (Result Unit config.Failed)) → IsFlushGood answer → Flushes v.transport w.transport cx.is_woken v.unsent w.unsent answer
+      → w ≡ record v { transport = w.transport; unsent = w.unsent; flushing = is_unflushed answer } → TurnSays reads given nothing breaks lacks seen leaves writes unwritten_so v w cx Counted
   flush_counted answer good says is = (flushed says.0 answer ∷ [], (w, ((cx.is_woken, says.1), is), refl), ((good, tt), omega arith))
 
-  pub flush_failed : (x : config.Failed) → w.failing ≡ None → Flushes v.wire w.wire cx.is_woken v.unsent w.unsent (Ready (Err x))
-      → w ≡ record v { wire = w.wire; unsent = w.unsent; flushing = true } → TurnSays reads given nothing breaks lacks seen leaves writes unwritten_so v w cx (Over (Err (Encoder protocol.Io)))
+  pub flush_failed : (x : config.Failed) → w.failing ≡ None → Flushes v.transport w.transport cx.is_woken v.unsent w.unsent (Ready (Err x))
+      → w ≡ record v { transport = w.transport; unsent = w.unsent; flushing = true } → TurnSays reads given nothing breaks lacks seen leaves writes unwritten_so v w cx (Over (Err (Encoder protocol.Io)))
   flush_failed x none says is = (flushed says.0 (Ready (Err x)) ∷ [], (w, ((cx.is_woken, says.1), is), refl), (none, inr (inl (refl, (says.0, x, ([], refl, tt), says.1.answers)))))
 
-  pub flush_idle : IsEnding w → Flushes {E = config.Failed} v.wire w.wire cx.is_woken v.unsent w.unsent Pending
-      → w ≡ record v { wire = w.wire; unsent = w.unsent; flushing = true } → TurnSays reads given nothing breaks lacks seen leaves writes unwritten_so v w cx Idle
+  pub flush_idle : IsEnding w → Flushes {E = config.Failed} v.transport w.transport cx.is_woken v.unsent w.unsent Pending
+      → w ≡ record v { transport = w.transport; unsent = w.unsent; flushing = true } → TurnSays reads given nothing breaks lacks seen leaves writes unwritten_so v w cx Idle
   flush_idle ending says is = (flushed says.0 Pending ∷ [], (w, ((cx.is_woken, says.1), is), refl), ((tt, tt), inr (record { ending = ending; gave = says.0; last = ([], refl, tt); writing = waits_of cx says.1.answers })))
 
   pub wrote_counted : (message : I) (text : List ℕ) → IsOpen v → v.queue ≡ Ok (Item message) ∷ w.queue → writes v.codec message text w.codec
@@ -97,27 +97,27 @@ module _ {U Q I E R : Type 0} (reads : U → List ℕ → R → Type 0) (given :
     (breaks : ProtocolError → R → Type 0) (lacks : ProtocolError → Type 0) (seen : U → List ℕ → Type 0)
     (leaves : ProtocolError → U → List ℕ → U → List ℕ → Type 0) (writes : U → I → List ℕ → U → Type 0) (unwritten_so : ProtocolError → U → I → U → Type 0) (v u w : View U Q I E) (cx : Context) where
   -- a flush failed, and then the error was told
-  pub flush_told : (x : config.Failed) (error : E) → Flushes v.wire u.wire cx.is_woken v.unsent u.unsent (Ready (Err x))
-      → u ≡ record v { wire = u.wire; unsent = u.unsent; flushing = true } → u.failing ≡ Some error → w ≡ record u { failing = None }
+  pub flush_told : (x : config.Failed) (error : E) → Flushes v.transport u.transport cx.is_woken v.unsent u.unsent (Ready (Err x))
+      → u ≡ record v { transport = u.transport; unsent = u.unsent; flushing = true } → u.failing ≡ Some error → w ≡ record u { failing = None }
       → TurnSays reads given nothing breaks lacks seen leaves writes unwritten_so v w cx (Over (Err (Service error)))
   flush_told x error says is fails then = (
     flushed says.0 (Ready (Err x)) ∷ told error ∷ [],
     (u, ((cx.is_woken, says.1), is), (w, (fails, then), refl)),
-    inr (says.0, x, ([], refl, tt), subst (λ y. Rose v.wire.faults y.faults) (sym (ap (λ y. y.wire) then)) says.1.answers),
+    inr (says.0, x, ([], refl, tt), subst (λ y. Rose v.transport.faults y.faults) (sym (ap (λ y. y.transport) then)) says.1.answers),
   )
 
   waiting_still : (last : Context) (gave : List ℕ) → Later u w → Keeps cx last → FlushWaits v u cx gave → FlushWaits v w last gave
-  waiting_still last gave later kept (inl (inl rose)) = inl (inl (rose_still v.wire.write_waits u.wire.write_waits w.wire.write_waits rose later.writes))
-  waiting_still last gave later kept (inl (inr rose)) = inl (inr (rose_still v.wire.flush_waits u.wire.flush_waits w.wire.flush_waits rose later.flushes))
+  waiting_still last gave later kept (inl (inl rose)) = inl (inl (rose_still v.transport.write_waits u.transport.write_waits w.transport.write_waits rose later.writes))
+  waiting_still last gave later kept (inl (inr rose)) = inl (inr (rose_still v.transport.flush_waits u.transport.flush_waits w.transport.flush_waits rose later.flushes))
   waiting_still last gave later kept (inr spent) = inr (spent.0, λ source. kept (Lasting.hears source) (spent.1 source))
 
-  later_by : (gave : List ℕ) → Gave {E = config.Failed} v.wire u.wire cx.is_woken v.unsent gave u.unsent Pending
-      → u ≡ record v { wire = u.wire; unsent = u.unsent; flushing = true } → Later v u
+  later_by : (gave : List ℕ) → Gave {E = config.Failed} v.transport u.transport cx.is_woken v.unsent gave u.unsent Pending
+      → u ≡ record v { transport = u.transport; unsent = u.unsent; flushing = true } → Later v u
   later_by gave gives is = step_later reads given nothing breaks lacks seen leaves writes unwritten_so v u (flushed gave Pending) ((cx.is_woken, gives), is)
 
   -- a flush that was pending, and then a turn that serves
-  pub flush_served : (turn : Turn E) (last : Context) → Keeps cx last → Flushes {E = config.Failed} v.wire u.wire cx.is_woken v.unsent u.unsent Pending
-      → u ≡ record v { wire = u.wire; unsent = u.unsent; flushing = true } → IsSettled u → ServeSays reads given nothing breaks lacks seen leaves writes unwritten_so u w last turn
+  pub flush_served : (turn : Turn E) (last : Context) → Keeps cx last → Flushes {E = config.Failed} v.transport u.transport cx.is_woken v.unsent u.unsent Pending
+      → u ≡ record v { transport = u.transport; unsent = u.unsent; flushing = true } → IsSettled u → ServeSays reads given nothing breaks lacks seen leaves writes unwritten_so u w last turn
       → TurnSays reads given nothing breaks lacks seen leaves writes unwritten_so v w last turn
   flush_served Counted last kept flushes is settled says =
       (flushed flushes.0 Pending ∷ says.0, (u, ((cx.is_woken, flushes.1), is), says.1), ((tt, says.2.0), omega arith))

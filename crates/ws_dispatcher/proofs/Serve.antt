@@ -19,26 +19,26 @@ use Rattle.ws_dispatcher.specs.declared.error.DispatcherError.TheVariants.{Encod
 
 -- a view by its parts
 made : {U Q I E : Type 0} → Wiring → U → List ℕ → List ℕ → Serving Q I E → Option Q → Bool → List (Result (Message I) E) → Bool → Bool → Option E → Bool → View U Q I E
-made a b c d e f g h i j k l = record { wire = a; codec = b; unread = c; unsent = d; service = e; waiting = f; calling = g; queue = h; ended = i; closing = j; failing = k; flushing = l }
+made a b c d e f g h i j k l = record { transport = a; codec = b; unread = c; unsent = d; service = e; waiting = f; calling = g; queue = h; ended = i; closing = j; failing = k; flushing = l }
 
 -- two views that agree in each part are one
-pub same_view : {U Q I E : Type 0} (v w : View U Q I E) → w.wire ≡ v.wire → w.codec ≡ v.codec → w.unread ≡ v.unread → w.unsent ≡ v.unsent
+pub same_view : {U Q I E : Type 0} (v w : View U Q I E) → w.transport ≡ v.transport → w.codec ≡ v.codec → w.unread ≡ v.unread → w.unsent ≡ v.unsent
     → w.service ≡ v.service → w.waiting ≡ v.waiting → w.calling ≡ v.calling → w.queue ≡ v.queue → w.ended ≡ v.ended
     → w.closing ≡ v.closing → w.failing ≡ v.failing → w.flushing ≡ v.flushing → w ≡ v
 unfolding made
 same_view v w a b c d e f g h i j k l =
     ap (λ x. made x w.codec w.unread w.unsent w.service w.waiting w.calling w.queue w.ended w.closing w.failing w.flushing) a
-    ∙ ap (λ x. made v.wire x w.unread w.unsent w.service w.waiting w.calling w.queue w.ended w.closing w.failing w.flushing) b
-    ∙ ap (λ x. made v.wire v.codec x w.unsent w.service w.waiting w.calling w.queue w.ended w.closing w.failing w.flushing) c
-    ∙ ap (λ x. made v.wire v.codec v.unread x w.service w.waiting w.calling w.queue w.ended w.closing w.failing w.flushing) d
-    ∙ ap (λ x. made v.wire v.codec v.unread v.unsent x w.waiting w.calling w.queue w.ended w.closing w.failing w.flushing) e
-    ∙ ap (λ x. made v.wire v.codec v.unread v.unsent v.service x w.calling w.queue w.ended w.closing w.failing w.flushing) f
-    ∙ ap (λ x. made v.wire v.codec v.unread v.unsent v.service v.waiting x w.queue w.ended w.closing w.failing w.flushing) g
-    ∙ ap (λ x. made v.wire v.codec v.unread v.unsent v.service v.waiting v.calling x w.ended w.closing w.failing w.flushing) h
-    ∙ ap (λ x. made v.wire v.codec v.unread v.unsent v.service v.waiting v.calling v.queue x w.closing w.failing w.flushing) i
-    ∙ ap (λ x. made v.wire v.codec v.unread v.unsent v.service v.waiting v.calling v.queue v.ended x w.failing w.flushing) j
-    ∙ ap (λ x. made v.wire v.codec v.unread v.unsent v.service v.waiting v.calling v.queue v.ended v.closing x w.flushing) k
-    ∙ ap (λ x. made v.wire v.codec v.unread v.unsent v.service v.waiting v.calling v.queue v.ended v.closing v.failing x) l
+    ∙ ap (λ x. made v.transport x w.unread w.unsent w.service w.waiting w.calling w.queue w.ended w.closing w.failing w.flushing) b
+    ∙ ap (λ x. made v.transport v.codec x w.unsent w.service w.waiting w.calling w.queue w.ended w.closing w.failing w.flushing) c
+    ∙ ap (λ x. made v.transport v.codec v.unread x w.service w.waiting w.calling w.queue w.ended w.closing w.failing w.flushing) d
+    ∙ ap (λ x. made v.transport v.codec v.unread v.unsent x w.waiting w.calling w.queue w.ended w.closing w.failing w.flushing) e
+    ∙ ap (λ x. made v.transport v.codec v.unread v.unsent v.service x w.calling w.queue w.ended w.closing w.failing w.flushing) f
+    ∙ ap (λ x. made v.transport v.codec v.unread v.unsent v.service v.waiting x w.queue w.ended w.closing w.failing w.flushing) g
+    ∙ ap (λ x. made v.transport v.codec v.unread v.unsent v.service v.waiting v.calling x w.ended w.closing w.failing w.flushing) h
+    ∙ ap (λ x. made v.transport v.codec v.unread v.unsent v.service v.waiting v.calling v.queue x w.closing w.failing w.flushing) i
+    ∙ ap (λ x. made v.transport v.codec v.unread v.unsent v.service v.waiting v.calling v.queue v.ended x w.failing w.flushing) j
+    ∙ ap (λ x. made v.transport v.codec v.unread v.unsent v.service v.waiting v.calling v.queue v.ended v.closing x w.flushing) k
+    ∙ ap (λ x. made v.transport v.codec v.unread v.unsent v.service v.waiting v.calling v.queue v.ended v.closing v.failing x) l
 
 pub none_waits : {A : Type 0} (x : Option A) → is_some x ≡ false → x ≡ None
 none_waits None is = refl
@@ -56,7 +56,7 @@ module _ {U Q I E R : Type 0} (reads : U → List ℕ → R → Type 0) (given :
 
   -- a read, after which all but this is as before
   was_read : (answer : Reading Q) → IsOpen v → is_some v.waiting ≡ false → v.calling ≡ false → v.ended ≡ false
-      → (woken : Bool) (came : List ℕ) → Items reads given nothing breaks lacks seen leaves v.wire w.wire woken v.codec v.unread came w.codec w.unread answer
+      → (woken : Bool) (came : List ℕ) → Items reads given nothing breaks lacks seen leaves v.transport w.transport woken v.codec v.unread came w.codec w.unread answer
       → w.unsent ≡ v.unsent → w.service ≡ v.service → w.waiting ≡ item_read answer → w.calling ≡ v.calling → w.queue ≡ v.queue
       → w.ended ≡ end_read answer → w.closing ≡ v.closing → w.failing ≡ v.failing → w.flushing ≡ v.flushing
       → IsRun reads given nothing breaks lacks seen leaves writes unwritten_so v (read came answer ∷ []) w
@@ -67,20 +67,20 @@ module _ {U Q I E R : Type 0} (reads : U → List ℕ → R → Type 0) (given :
         calling,
         ended,
         (woken, items),
-        same_view (record v { wire = w.wire; codec = w.codec; unread = w.unread; waiting = item_read answer; ended = end_read answer }) w refl refl refl d e f g h i j k l,
+        same_view (record v { transport = w.transport; codec = w.codec; unread = w.unread; waiting = item_read answer; ended = end_read answer }) w refl refl refl d e f g h i j k l,
       )
 
   needs_read : w.calling ≡ false → w.waiting ≡ None → w.ended ≡ false → (came : List ℕ) → ReadWaits v w cx came
       → NeedsOf {I = I} {E = E} w.calling w.waiting w.ended v w cx (read came Pending ∷ [])
   needs_read c n e came is = rw (c, n, e) (came, refl, is)
 
-  waits_so : (came : List ℕ) → Answers reads given nothing breaks lacks seen leaves v.wire w.wire cx.is_woken v.codec v.unread came w.codec w.unread Pending
+  waits_so : (came : List ℕ) → Answers reads given nothing breaks lacks seen leaves v.transport w.transport cx.is_woken v.codec v.unread came w.codec w.unread Pending
       → ReadWaits v w cx came
   waits_so came (inl is) = inl is.1
   waits_so came (inr is) = inr (is.1, is.2)
 
   pub read_pending : IsOpen v → is_some v.waiting ≡ false → v.calling ≡ false → v.ended ≡ false
-      → ItemSays reads given nothing breaks lacks seen leaves v.wire w.wire cx.is_woken v.codec v.unread w.codec w.unread Pending
+      → ItemSays reads given nothing breaks lacks seen leaves v.transport w.transport cx.is_woken v.codec v.unread w.codec w.unread Pending
       → w.unsent ≡ v.unsent → w.service ≡ v.service → w.waiting ≡ v.waiting → w.calling ≡ v.calling → w.queue ≡ v.queue
       → w.ended ≡ v.ended → w.closing ≡ v.closing → w.failing ≡ v.failing → w.flushing ≡ v.flushing
       → ServeSays reads given nothing breaks lacks seen leaves writes unwritten_so v w cx Idle
@@ -91,7 +91,7 @@ module _ {U Q I E R : Type 0} (reads : U → List ℕ → R → Type 0) (given :
   )
 
   pub read_counted : (answer : Reading Q) → IsReadGood answer → IsOpen v → is_some v.waiting ≡ false → v.calling ≡ false → v.ended ≡ false
-      → ItemSays reads given nothing breaks lacks seen leaves v.wire w.wire cx.is_woken v.codec v.unread w.codec w.unread answer
+      → ItemSays reads given nothing breaks lacks seen leaves v.transport w.transport cx.is_woken v.codec v.unread w.codec w.unread answer
       → w.unsent ≡ v.unsent → w.service ≡ v.service → w.waiting ≡ item_read answer → w.calling ≡ v.calling → w.queue ≡ v.queue
       → w.ended ≡ end_read answer → w.closing ≡ v.closing → w.failing ≡ v.failing → w.flushing ≡ v.flushing
       → ServeSays reads given nothing breaks lacks seen leaves writes unwritten_so v w cx Counted
@@ -102,7 +102,7 @@ module _ {U Q I E R : Type 0} (reads : U → List ℕ → R → Type 0) (given :
   )
 
   pub read_refused : (cause : FramedError ProtocolError) (error : ProtocolError) → IsOpen v → is_some v.waiting ≡ false → v.calling ≡ false → v.ended ≡ false
-      → ItemSays reads given nothing breaks lacks seen leaves v.wire w.wire cx.is_woken v.codec v.unread w.codec w.unread (Ready (Some (Err cause)))
+      → ItemSays reads given nothing breaks lacks seen leaves v.transport w.transport cx.is_woken v.codec v.unread w.codec w.unread (Ready (Some (Err cause)))
       → error ≡ read_error cause
       → w.unsent ≡ v.unsent → w.service ≡ v.service → w.waiting ≡ v.waiting → w.calling ≡ v.calling → w.queue ≡ v.queue
       → w.ended ≡ v.ended → w.closing ≡ v.closing → w.failing ≡ v.failing → w.flushing ≡ v.flushing
@@ -114,7 +114,7 @@ module _ {U Q I E R : Type 0} (reads : U → List ℕ → R → Type 0) (given :
   )
 
   serves : (answer : Poll (Result Unit E)) → TakesNone answer → IsOpen v → v.calling ≡ false → ReadySays v.service w.service answer
-      → w.wire ≡ v.wire → w.codec ≡ v.codec → w.unread ≡ v.unread → w.unsent ≡ v.unsent → w.waiting ≡ v.waiting → w.calling ≡ v.calling
+      → w.transport ≡ v.transport → w.codec ≡ v.codec → w.unread ≡ v.unread → w.unsent ≡ v.unsent → w.waiting ≡ v.waiting → w.calling ≡ v.calling
       → w.queue ≡ v.queue → w.ended ≡ v.ended → w.closing ≡ v.closing → w.failing ≡ error_of_ready answer → w.flushing ≡ v.flushing
       → IsStep reads given nothing breaks lacks seen leaves writes unwritten_so v (ready answer) w
   serves answer none so calling says a b c d f g h i j k l =
@@ -127,7 +127,7 @@ module _ {U Q I E R : Type 0} (reads : U → List ℕ → R → Type 0) (given :
   needs_ready calling None ended not_calling is rose = absurd (clash (sym is))
 
   pub ready_pending : IsOpen v → v.calling ≡ false → is_some v.waiting ≡ true → ReadySays v.service w.service Pending
-      → w.wire ≡ v.wire → w.codec ≡ v.codec → w.unread ≡ v.unread → w.unsent ≡ v.unsent → w.waiting ≡ v.waiting → w.calling ≡ v.calling
+      → w.transport ≡ v.transport → w.codec ≡ v.codec → w.unread ≡ v.unread → w.unsent ≡ v.unsent → w.waiting ≡ v.waiting → w.calling ≡ v.calling
       → w.queue ≡ v.queue → w.ended ≡ v.ended → w.closing ≡ v.closing → w.failing ≡ v.failing → w.flushing ≡ v.flushing
       → ServeSays reads given nothing breaks lacks seen leaves writes unwritten_so v w cx Idle
   ready_pending so calling waiting says a b c d f g h i j k l = (
@@ -137,14 +137,14 @@ module _ {U Q I E R : Type 0} (reads : U → List ℕ → R → Type 0) (given :
   )
 
   pub ready_failed : (error : E) → IsOpen v → v.calling ≡ false → ReadySays v.service w.service (Ready (Err error))
-      → w.wire ≡ v.wire → w.codec ≡ v.codec → w.unread ≡ v.unread → w.unsent ≡ v.unsent → w.waiting ≡ v.waiting → w.calling ≡ v.calling
+      → w.transport ≡ v.transport → w.codec ≡ v.codec → w.unread ≡ v.unread → w.unsent ≡ v.unsent → w.waiting ≡ v.waiting → w.calling ≡ v.calling
       → w.queue ≡ v.queue → w.ended ≡ v.ended → w.closing ≡ v.closing → w.failing ≡ Some error → w.flushing ≡ v.flushing
       → ServeSays reads given nothing breaks lacks seen leaves writes unwritten_so v w cx Counted
   ready_failed error so calling says a b c d f g h i j k l =
       (ready (Ready (Err error)) ∷ [], one (ready (Ready (Err error))) (serves (Ready (Err error)) tt so calling says a b c d f g h i j k l), omega arith)
 
   call_polled : (answer : Poll (Result I E)) → IsOpen v → v.calling ≡ true → AnswerSays v.service w.service answer
-      → w.wire ≡ v.wire → w.codec ≡ v.codec → w.unread ≡ v.unread → w.unsent ≡ v.unsent → w.waiting ≡ v.waiting → w.calling ≡ still_called answer
+      → w.transport ≡ v.transport → w.codec ≡ v.codec → w.unread ≡ v.unread → w.unsent ≡ v.unsent → w.waiting ≡ v.waiting → w.calling ≡ still_called answer
       → w.queue ≡ v.queue ++ answer_queued answer → w.ended ≡ v.ended → w.closing ≡ v.closing → w.failing ≡ error_of_answer answer → w.flushing ≡ v.flushing
       → IsRun reads given nothing breaks lacks seen leaves writes unwritten_so v (answered answer ∷ []) w
   call_polled answer so calling says a b c d f g h i j k l =
@@ -162,7 +162,7 @@ module _ {U Q I E R : Type 0} (reads : U → List ℕ → R → Type 0) (given :
   needs_call false waiting ended is rose = absurd (clash (sym is))
 
   pub call_pending : IsOpen v → v.calling ≡ true → AnswerSays v.service w.service Pending
-      → w.wire ≡ v.wire → w.codec ≡ v.codec → w.unread ≡ v.unread → w.unsent ≡ v.unsent → w.waiting ≡ v.waiting → w.calling ≡ true
+      → w.transport ≡ v.transport → w.codec ≡ v.codec → w.unread ≡ v.unread → w.unsent ≡ v.unsent → w.waiting ≡ v.waiting → w.calling ≡ true
       → w.queue ≡ v.queue → w.ended ≡ v.ended → w.closing ≡ v.closing → w.failing ≡ v.failing → w.flushing ≡ v.flushing
       → ServeSays reads given nothing breaks lacks seen leaves writes unwritten_so v w cx Idle
   call_pending so calling says a b c d f g h i j k l = (
@@ -172,7 +172,7 @@ module _ {U Q I E R : Type 0} (reads : U → List ℕ → R → Type 0) (given :
   )
 
   pub call_answered : (answer : Result I E) → IsOpen v → v.calling ≡ true → AnswerSays v.service w.service (Ready answer)
-      → w.wire ≡ v.wire → w.codec ≡ v.codec → w.unread ≡ v.unread → w.unsent ≡ v.unsent → w.waiting ≡ v.waiting → w.calling ≡ false
+      → w.transport ≡ v.transport → w.codec ≡ v.codec → w.unread ≡ v.unread → w.unsent ≡ v.unsent → w.waiting ≡ v.waiting → w.calling ≡ false
       → w.queue ≡ v.queue ++ answer_queued (Ready answer) → w.ended ≡ v.ended → w.closing ≡ v.closing → w.failing ≡ error_of_answer (Ready answer) → w.flushing ≡ v.flushing
       → ServeSays reads given nothing breaks lacks seen leaves writes unwritten_so v w cx Counted
   call_answered answer so calling says a b c d f g h i j k l =

@@ -20,12 +20,12 @@ ends_behind s t last goes_on is =
 
 module _ {U Q I E : Type 0} (v u w : View U Q I E) (s t : List (Step Q I E)) (later : Later v u) (goes_on : AllContinue s) where
   flush_behind : (cx : Context) (gave : List ℕ) → FlushWaits u w cx gave → FlushWaits v w cx gave
-  flush_behind cx gave (inl (inl rose)) = inl (inl (rose_since v.wire.write_waits u.wire.write_waits w.wire.write_waits later.writes rose))
-  flush_behind cx gave (inl (inr rose)) = inl (inr (rose_since v.wire.flush_waits u.wire.flush_waits w.wire.flush_waits later.flushes rose))
+  flush_behind cx gave (inl (inl rose)) = inl (inl (rose_since v.transport.write_waits u.transport.write_waits w.transport.write_waits later.writes rose))
+  flush_behind cx gave (inl (inr rose)) = inl (inr (rose_since v.transport.flush_waits u.transport.flush_waits w.transport.flush_waits later.flushes rose))
   flush_behind cx gave (inr spent) = inr spent
 
   read_behind : (cx : Context) (came : List ℕ) → ReadWaits u w cx came → ReadWaits v w cx came
-  read_behind cx came (inl rose) = inl (rose_since v.wire.read_waits u.wire.read_waits w.wire.read_waits later.reads rose)
+  read_behind cx came (inl rose) = inl (rose_since v.transport.read_waits u.transport.read_waits w.transport.read_waits later.reads rose)
   read_behind cx came (inr spent) = inr spent
 
   pub needs_behind : (cx : Context) (last : List (Step Q I E)) (calling : Bool) (waiting : Option Q) (ended : Bool)
@@ -56,7 +56,7 @@ module _ {U Q I E : Type 0} (v u w : View U Q I E) (s t : List (Step Q I E)) (la
 
   failed_behind : (last : List (Step Q I E)) → FlushFailed u w t last → FlushFailed v w (s ++ t) last
   failed_behind last is =
-      (is.0, is.1, ends_behind s t _ goes_on is.2, rose_since v.wire.faults u.wire.faults w.wire.faults later.faults is.3)
+      (is.0, is.1, ends_behind s t _ goes_on is.2, rose_since v.transport.faults u.transport.faults w.transport.faults later.faults is.3)
 
   pub ended_behind : (result : Result Unit (DispatcherError E)) → Ended u w t result → Ended v w (s ++ t) result
   ended_behind (Ok x) is = (go_on s t goes_on is.0, is.1, is.2, is.3)

@@ -93,7 +93,7 @@ texts_in (failed error ∷ steps) = texts_in steps
 texts_in (flushed gave answer ∷ steps) = texts_in steps
 texts_in (told error ∷ steps) = texts_in steps
 
--- the bytes that the wire took
+-- the bytes that the transport took
 abbrev pub sent_in : {Q I E : Type 0} → List (Step Q I E) → List ℕ
 sent_in [] = []
 sent_in (read came answer ∷ steps) = sent_in steps
@@ -119,11 +119,11 @@ TakesInOrder v steps w = v.queue ++ queued_in steps ≡ taken_in steps ++ w.queu
 abbrev pub SendsInOrder : {U Q I E : Type 0} → View U Q I E → List (Step Q I E) → View U Q I E → Type 0
 SendsInOrder v steps w = v.unsent ++ texts_in steps ≡ sent_in steps ++ w.unsent
 
--- what is known of the service and the wire grows by what the steps say
+-- what is known of the service and the transport grows by what the steps say
 pub record Tells {U Q I E : Type 0} (v : View U Q I E) (steps : List (Step Q I E)) (w : View U Q I E) : Type 0 where
   pub called : Grows v.service.called w.service.called (calls_in steps)
-  pub received : Grows v.wire.received w.wire.received (came_in steps)
-  pub sent : Grows v.wire.sent w.wire.sent (sent_in steps)
+  pub received : Grows v.transport.received w.transport.received (came_in steps)
+  pub sent : Grows v.transport.sent w.transport.sent (sent_in steps)
 
 -- the codec refused nothing
 abbrev pub IsReadWell : {Q : Type 0} → Reading Q → Type 0

@@ -68,17 +68,17 @@ EndsWith {Q} {I} {E} steps last = (before : List (Step Q I E)) × (steps ≡ bef
 abbrev pub AskedAgain : Context → Type 0
 AskedAgain cx = (source : ℕ) → Hears cx source
 
--- a flush was pending that gave these bytes: the wire was, or it took at least 64 and the task asked for another poll
+-- a flush was pending that gave these bytes: the transport was, or it took at least 64 and the task asked for another poll
 abbrev pub FlushWaits : {U Q I E : Type 0} → View U Q I E → View U Q I E → Context → List ℕ → Type 0
 FlushWaits v w cx gave =
-    (Rose v.wire.write_waits w.wire.write_waits ⊎ Rose v.wire.flush_waits w.wire.flush_waits) ⊎ ((64 ≤ length gave) × AskedAgain cx)
+    (Rose v.transport.write_waits w.transport.write_waits ⊎ Rose v.transport.flush_waits w.transport.flush_waits) ⊎ ((64 ≤ length gave) × AskedAgain cx)
 
 -- the same of a read
 abbrev pub ReadWaits : {U Q I E : Type 0} → View U Q I E → View U Q I E → Context → List ℕ → Type 0
-ReadWaits v w cx came = Rose v.wire.read_waits w.wire.read_waits ⊎ ((64 ≤ length came) × (cx.is_woken ≡ true))
+ReadWaits v w cx came = Rose v.transport.read_waits w.transport.read_waits ⊎ ((64 ≤ length came) × (cx.is_woken ≡ true))
 
 -- The first that applies was pending, in the last step: the call in progress; the service, while an item waits; the
--- wire's reading, while its input hasn't ended. After that something is still buffered or not passed on, and nothing else
+-- transport's reading, while its input hasn't ended. After that something is still buffered or not passed on, and nothing else
 -- is needed.
 abbrev pub NeedsOf : {U Q I E : Type 0} → Bool → Option Q → Bool → View U Q I E → View U Q I E → Context → List (Step Q I E) → Type 0
 NeedsOf true item ended v w cx last = (last ≡ answered Pending ∷ []) × Rose v.service.call_waits w.service.call_waits
@@ -117,7 +117,7 @@ pub record IsFinished {U Q I E : Type 0} (w : View U Q I E) : Type 0 where
   pub calling : w.calling ≡ false
   pub queue : w.queue ≡ []
 
--- the error of a read, which is the codec's, or says that the wire failed or that memory ran out
+-- the error of a read, which is the codec's, or says that the transport failed or that memory ran out
 abbrev pub read_error : FramedError ProtocolError → ProtocolError
 read_error (framed.Codec e) = e
 read_error framed.Io = protocol.Io
@@ -126,7 +126,7 @@ read_error framed.NoMemory = protocol.NoMemory
 -- a flush failed, and then these came last
 abbrev pub FlushFailed : {U Q I E : Type 0} → View U Q I E → View U Q I E → List (Step Q I E) → List (Step Q I E) → Type 0
 FlushFailed v w steps last =
-    (gave : List ℕ) × (failure : Failed) × EndsWith steps (flushed gave (Ready (Err failure)) ∷ last) × Rose v.wire.faults w.wire.faults
+    (gave : List ℕ) × (failure : Failed) × EndsWith steps (flushed gave (Ready (Err failure)) ∷ last) × Rose v.transport.faults w.transport.faults
 
 -- Why it ended, with no error before. A Close was taken and all is sent, or the input has ended and nothing is left to
 -- be done or sent, and no error waits. The service's error, once nothing is buffered or a flush failed. While no error

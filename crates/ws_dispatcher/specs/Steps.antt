@@ -18,7 +18,7 @@ Reading Q = Poll (Option (Result Q (FramedError ProtocolError)))
 
 -- A step: these bytes came, and this was answered; the service was asked whether it takes a call, and takes none; it was
 -- asked, takes one, and a call was begun; a call was polled; a message was taken and written as this text, or couldn't be written; a Close was taken, or an
--- error; the wire took these bytes; the error was reported.
+-- error; the transport took these bytes; the error was reported.
 pub data Step (Q I E : Type 0) : Type 0 where
   read : (came : List ℕ) → (answer : Reading Q) → Step Q I E
   ready : (answer : Poll (Result Unit E)) → Step Q I E
@@ -105,8 +105,8 @@ module _ {U Q I E R : Type 0} (reads : U → List ℕ → R → Type 0) (given :
   abbrev pub IsStep : View U Q I E → Step Q I E → View U Q I E → Type 0
   IsStep v (read came answer) w =
       IsOpen v × (v.waiting ≡ None) × (v.calling ≡ false) × (v.ended ≡ false)
-      × ((woken : Bool) × Items reads given nothing breaks lacks seen leaves v.wire w.wire woken v.codec v.unread came w.codec w.unread answer)
-      × (w ≡ record v { wire = w.wire; codec = w.codec; unread = w.unread; waiting = item_read answer; ended = end_read answer })
+      × ((woken : Bool) × Items reads given nothing breaks lacks seen leaves v.transport w.transport woken v.codec v.unread came w.codec w.unread answer)
+      × (w ≡ record v { transport = w.transport; codec = w.codec; unread = w.unread; waiting = item_read answer; ended = end_read answer })
   IsStep v (ready answer) w =
       IsOpen v × (v.calling ≡ false) × ReadySays v.service w.service answer
       × (w ≡ record v { service = w.service; failing = error_of_ready answer }) × TakesNone answer
@@ -125,7 +125,7 @@ module _ {U Q I E R : Type 0} (reads : U → List ℕ → R → Type 0) (given :
   IsStep v closed w = IsOpen v × (v.queue ≡ Ok Close ∷ w.queue) × (w ≡ record v { queue = w.queue; closing = true })
   IsStep v (failed error) w = IsOpen v × (v.queue ≡ Err error ∷ w.queue) × (w ≡ record v { queue = w.queue; failing = Some error })
   IsStep v (flushed gave answer) w =
-      ((woken : Bool) × Gave v.wire w.wire woken v.unsent gave w.unsent answer) × (w ≡ record v { wire = w.wire; unsent = w.unsent; flushing = is_unflushed answer })
+      ((woken : Bool) × Gave v.transport w.transport woken v.unsent gave w.unsent answer) × (w ≡ record v { transport = w.transport; unsent = w.unsent; flushing = is_unflushed answer })
   IsStep v (told error) w = (v.failing ≡ Some error) × (w ≡ record v { failing = None })
 
   -- one step after another

@@ -9,12 +9,12 @@ use Rattle.ws_dispatcher.specs.declared.inner.dispatcher.Dispatcher.{Dispatcher}
 use Rattle.ws_dispatcher.specs.declared.inner.dispatcher.End.{End}
 use Rattle.ws_dispatcher.specs.declared.inner.dispatcher.End.TheVariants.{Open, Closed, Failed}
 
--- The wire; the codec, the bytes that were read and not decoded, and those that were written and not sent; the service;
+-- The transport; the codec, the bytes that were read and not decoded, and those that were written and not sent; the service;
 -- the item that it is to be asked next, and whether a call is in progress; the queue; that the input has ended; that a
--- Close was taken; the error that is to be reported; and that the last flush isn't done, so that the wire may hold bytes
+-- Close was taken; the error that is to be reported; and that the last flush isn't done, so that the transport may hold bytes
 -- that it hasn't passed on.
 pub record View (U Q I E : Type 0) : Type 0 where
-  pub wire : Wiring
+  pub transport : Wiring
   pub codec : U
   pub unread : List ℕ
   pub unsent : List ℕ
@@ -40,7 +40,7 @@ error_kept (Failed e) = Some e
 abbrev pub view_of : {S C T U Q I E : Type 0} → (T → Wiring) → (S → Serving Q I E) → Dispatcher S C T U Q I E → View U Q I E
 view_of wiring served w =
     record {
-      wire = wiring w.framed.io;
+      transport = wiring w.framed.io;
       codec = w.framed.codec;
       unread = w.framed.unread;
       unsent = w.framed.unsent;
@@ -54,11 +54,11 @@ view_of wiring served w =
       flushing = w.flushing;
     }
 
--- a new dispatcher over this framed wire and this service, with this queue
+-- a new dispatcher over this framed transport and this service, with this queue
 abbrev pub view_begun : {T U Q I E : Type 0} → (T → Wiring) → Parts T U → Serving Q I E → List (Result (Message I) E) → View U Q I E
 view_begun wiring framed service queue =
     record {
-      wire = wiring framed.io;
+      transport = wiring framed.io;
       codec = framed.codec;
       unread = framed.unread;
       unsent = framed.unsent;
@@ -72,7 +72,7 @@ view_begun wiring framed service queue =
       flushing = false;
     }
 
--- nothing is buffered, and the wire has passed on all that it took, as far as it said so
+-- nothing is buffered, and the transport has passed on all that it took, as far as it said so
 pub record IsSent {U Q I E : Type 0} (v : View U Q I E) : Type 0 where
   pub unsent : v.unsent ≡ []
   pub flushed : v.flushing ≡ false
@@ -81,6 +81,6 @@ pub record IsSent {U Q I E : Type 0} (v : View U Q I E) : Type 0 where
 abbrev pub with_queued : {U Q I E : Type 0} → Result (Message I) E → View U Q I E → View U Q I E
 with_queued item v = record v { queue = v.queue ++ item ∷ [] }
 
--- the framed wire and the service
+-- the framed transport and the service
 abbrev pub parts_of : {S C T U Q I E : Type 0} → Dispatcher S C T U Q I E → Parts T U × S
 parts_of d = (d.framed, d.service)

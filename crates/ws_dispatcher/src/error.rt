@@ -9,11 +9,11 @@ pub enum DispatcherError<E> {
     #[error("the service failed")]
     Service(E),
 
-    /// A message could not be written: the codec refuses it, the wire failed, or there was no memory.
+    /// A message could not be written: the codec refuses it, the transport failed, or there was no memory.
     #[error("a message could not be written")]
     Encoder(ProtocolError),
 
-    /// No item could be read: the codec refuses the bytes, the wire failed, or there was no memory.
+    /// No item could be read: the codec refuses the bytes, the transport failed, or there was no memory.
     #[error("no item could be read")]
     Decoder(ProtocolError),
 }

@@ -1,4 +1,4 @@
-//! A dispatcher over any framed wire.
+//! A dispatcher over any framed transport.
 mod dispatcher;
 mod poll;
 mod queue;

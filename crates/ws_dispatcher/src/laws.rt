@@ -8,7 +8,7 @@ use http_framing::{Decoder, Encoder};
 use ws_frames::ProtocolError;
 
 /// Over every run the service is called with the items that were read, in order and once each; what is taken from the
-/// queue was put there, in order, by answers or from outside; and the wire took what was written, in order.
+/// queue was put there, in order, by answers or from outside; and the transport took what was written, in order.
 pub fn runs_keep_order<U, I: Drop, E: Drop>()
 where
     U: Decoder<Error = ProtocolError> + Encoder<I, Error = ProtocolError>,

@@ -1,9 +1,9 @@
-//! Services over framed wires: what is read goes to a service, and its answers are written.
+//! Services over framed transports: what is read goes to a service, and its answers are written.
 //!
 //! # Example
 //!
 //! ```ignore
-//! let mut dispatcher = ws::over_wire(alloc, wire, service);
+//! let mut dispatcher = ws::over_transport(alloc, transport, service);
 //! dispatcher.send(Ok(inner::Message::Item(Message::Ping(payload))))?;
 //! match dispatcher.poll(cx) {
 //!     Poll::Ready(Ok(())) => {}           // closed, or the input has ended and all is answered and sent

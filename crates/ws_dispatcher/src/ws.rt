@@ -10,23 +10,23 @@ ghost use Rattle.ws_dispatcher.specs.Steps.{Unwritten};
 
 use crate::inner;
 use http_services::Service;
-use http_transport::{Framed, Wire};
+use http_transport::{Framed, Transport};
 use rand_core::Rng;
 use std::alloc::Global;
 use ws_frames::{Codec, Frame, Message, NoWords, ProtocolError};
 
 /// A service over the frames of a WebSocket, as a server (RFC 6455): each frame that is read goes to it, and its answers
-/// are written. The parameters are the service and its call, the wire, and why the service fails.
+/// are written. The parameters are the service and its call, the transport, and why the service fails.
 pub type Dispatcher<S, C, T, E> = inner::Dispatcher<S, C, T, Codec<NoWords>, Frame, Message, E>;
 
-/// A dispatcher over this wire, whose codec takes payloads of at most 65536 bytes. It takes no memory.
-pub fn over_wire<S, T>(
+/// A dispatcher over this transport, whose codec takes payloads of at most 65536 bytes. It takes no memory.
+pub fn over_transport<S, T>(
     alloc: Global,
     io: T,
     service: S,
 ) -> inner::Dispatcher<S, S::Call, T, Codec<NoWords>, Frame, Message, S::Error>
 where
-    T: Wire,
+    T: Transport,
     S: Service<Frame, Response = Message, Lent = ()>,
     ensures view { (codec : Codec NoWords) × (codec_server codec ≡ true) × (codec_limit codec ≡ 65536) × (codec_reading codec ≡ false) × (codec_sending codec ≡ false)
         × (view_of T.wiring S.served result ≡ view_begun T.wiring (record { io = io; codec = codec; unread = []; unsent = [] }) (S.served service) []) }
@@ -47,8 +47,8 @@ pub fn reading_leaves_what_is_written<R: Rng>()
         → Writes R.stream after message text (with_reading (codec_reading after) new) }
 {}
 
-/// A codec of frames that can't write a message never answers that a wire failed.
-pub fn no_message_fails_the_wire<R: Rng>()
+/// A codec of frames that can't write a message never answers that a transport failed.
+pub fn no_message_fails_the_transport<R: Rng>()
     ensures { (error : ProtocolError) (old new : Codec R) (message : Message)
         → Unwritten (Forbids {R = R}) (λ e. e ≡ errors.NoMemory) (λ e before after. after ≡ before) error old message new → ¬ (error ≡ errors.Io) }
 {}

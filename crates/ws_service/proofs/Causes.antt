@@ -17,14 +17,14 @@ use Rattle.ws_service.specs.declared.dispatcher.Ending.TheVariants.{Closed, Aban
 use Rattle.ws_service.specs.View.{View, Upgrading, is_broken, closes}
 use Rattle.ws_service.specs.Steps.{Step, IsStep, IsRun, ticked, drained, written, read, shut, closed, ready, called, answered, pulled, sent, failed, unsent, failed_write, failed_read, asked_to_drain}
 use Rattle.ws_service.specs.Traces.{IsNoted, AllNoted}
-use Rattle.ws_service.specs.Polls.{Continues, AllContinue, EndsWith, FailsWire, FailsService, Ended, Progress, IsReadIdle, Reads, IsIdle, IsHeld, Writes, IsStuck, Ticks, Drains, IsBegun, BeginFails, TurnsSay, PollRuns, PollSays}
+use Rattle.ws_service.specs.Polls.{Continues, AllContinue, EndsWith, FailsTransport, FailsService, Ended, Progress, IsReadIdle, Reads, IsIdle, IsHeld, Writes, IsStuck, Ticks, Drains, IsBegun, BeginFails, TurnsSay, PollRuns, PollSays}
 use Rattle.ws_service.specs.Causes.{HasCause, IsOneRun}
 use Rattle.ws_service.proofs.Runs.{one, run_on}
 
 -- ---- no count of failures falls
 
 record Counts (v w : View) : Type 0 where
-  wire : v.wire.faults ≤ w.wire.faults
+  transport : v.transport.faults ≤ w.transport.faults
   service : v.service.faults ≤ w.service.faults
 
 caused : {A E : Type 0} (before now : ℕ) (answer : Poll (Result A E)) → Caused before now answer → before ≤ now
@@ -35,41 +35,41 @@ caused before now Pending is = is
 same_count : (m n : ℕ) → n ≡ m → m ≤ n
 same_count m n is = omega (arith, is)
 
--- the service stays, or the wire
-wire_counts : (v w : View) → v.wire.faults ≤ w.wire.faults → w.service ≡ v.service → Counts v w
-wire_counts v w is service = record { wire = is; service = same_count v.service.faults w.service.faults (ap (λ (s : Upgrading). s.faults) service) }
+-- the service stays, or the transport
+transport_counts : (v w : View) → v.transport.faults ≤ w.transport.faults → w.service ≡ v.service → Counts v w
+transport_counts v w is service = record { transport = is; service = same_count v.service.faults w.service.faults (ap (λ (s : Upgrading). s.faults) service) }
 
-service_counts : (v w : View) → v.service.faults ≤ w.service.faults → w.wire ≡ v.wire → Counts v w
-service_counts v w is wire = record { wire = same_count v.wire.faults w.wire.faults (ap (λ (t : Wiring). t.faults) wire); service = is }
+service_counts : (v w : View) → v.service.faults ≤ w.service.faults → w.transport ≡ v.transport → Counts v w
+service_counts v w is transport = record { transport = same_count v.transport.faults w.transport.faults (ap (λ (t : Wiring). t.faults) transport); service = is }
 
-stays : (v w : View) → w.wire ≡ v.wire → w.service ≡ v.service → Counts v w
-stays v w wire service = wire_counts v w (same_count v.wire.faults w.wire.faults (ap (λ (t : Wiring). t.faults) wire)) service
+stays : (v w : View) → w.transport ≡ v.transport → w.service ≡ v.service → Counts v w
+stays v w transport service = transport_counts v w (same_count v.transport.faults w.transport.faults (ap (λ (t : Wiring). t.faults) transport)) service
 
 step_counts : (v w : View) (d : Step) → IsStep v d w → Counts v w
-step_counts v w (ticked moment expiry) is = stays v w (ap (λ (x : View). x.wire) is.1) (ap (λ (x : View). x.service) is.1)
-step_counts v w drained is = stays v w (ap (λ (x : View). x.wire) is.1) (ap (λ (x : View). x.service) is.1)
-step_counts v w (written answer) is = wire_counts v w (caused v.wire.faults w.wire.faults answer is.1.2.faults) (ap (λ (x : View). x.service) is.3)
-step_counts v w (read came answer) is = wire_counts v w (caused v.wire.faults w.wire.faults answer is.2.4.faults) (ap (λ (x : View). x.service) is.4)
-step_counts v w (shut answer) is = wire_counts v w (caused v.wire.faults w.wire.faults answer is.1.faults) (ap (λ (x : View). x.service) is.2)
-step_counts v w (closed end) is = stays v w (ap (λ (x : View). x.wire) is.4) (ap (λ (x : View). x.service) is.4)
-step_counts v w (ready answer) is = service_counts v w (caused v.service.faults w.service.faults answer is.3.cause) (ap (λ (x : View). x.wire) is.4)
+step_counts v w (ticked moment expiry) is = stays v w (ap (λ (x : View). x.transport) is.1) (ap (λ (x : View). x.service) is.1)
+step_counts v w drained is = stays v w (ap (λ (x : View). x.transport) is.1) (ap (λ (x : View). x.service) is.1)
+step_counts v w (written answer) is = transport_counts v w (caused v.transport.faults w.transport.faults answer is.1.2.faults) (ap (λ (x : View). x.service) is.3)
+step_counts v w (read came answer) is = transport_counts v w (caused v.transport.faults w.transport.faults answer is.2.4.faults) (ap (λ (x : View). x.service) is.4)
+step_counts v w (shut answer) is = transport_counts v w (caused v.transport.faults w.transport.faults answer is.1.faults) (ap (λ (x : View). x.service) is.2)
+step_counts v w (closed end) is = stays v w (ap (λ (x : View). x.transport) is.4) (ap (λ (x : View). x.service) is.4)
+step_counts v w (ready answer) is = service_counts v w (caused v.service.faults w.service.faults answer is.3.cause) (ap (λ (x : View). x.transport) is.4)
 step_counts v w (called item) is =
     service_counts v w
-    (omega (arith, is.2.is_ready.cause, is.2.begun.faults)) (ap (λ (x : View). x.wire) is.3)
-step_counts v w (answered answer) is = service_counts v w (caused v.service.faults w.service.faults answer is.2.cause) (ap (λ (x : View). x.wire) is.3)
-step_counts v w (pulled given) is = stays v w (ap (λ (x : View). x.wire) is.4) (ap (λ (x : View). x.service) is.4)
-step_counts v w (sent message) is = stays v w (ap (λ (x : View). x.wire) is.4) (ap (λ (x : View). x.service) is.4)
-step_counts v w (failed event) is = stays v w (ap (λ (x : View). x.wire) is.2) (ap (λ (x : View). x.service) is.2)
-step_counts v w (unsent message) is = stays v w (ap (λ (x : View). x.wire) is.4) (ap (λ (x : View). x.service) is.4)
-step_counts v w (failed_write count) is = wire_counts v w is.1.2.faults (ap (λ (x : View). x.service) is.3)
-step_counts v w (failed_read came event) is = wire_counts v w is.2.5.faults (ap (λ (x : View). x.service) is.4)
-step_counts v w asked_to_drain is = stays v w (ap (λ (x : View). x.wire) is) (ap (λ (x : View). x.service) is)
+    (omega (arith, is.2.is_ready.cause, is.2.begun.faults)) (ap (λ (x : View). x.transport) is.3)
+step_counts v w (answered answer) is = service_counts v w (caused v.service.faults w.service.faults answer is.2.cause) (ap (λ (x : View). x.transport) is.3)
+step_counts v w (pulled given) is = stays v w (ap (λ (x : View). x.transport) is.4) (ap (λ (x : View). x.service) is.4)
+step_counts v w (sent message) is = stays v w (ap (λ (x : View). x.transport) is.4) (ap (λ (x : View). x.service) is.4)
+step_counts v w (failed event) is = stays v w (ap (λ (x : View). x.transport) is.2) (ap (λ (x : View). x.service) is.2)
+step_counts v w (unsent message) is = stays v w (ap (λ (x : View). x.transport) is.4) (ap (λ (x : View). x.service) is.4)
+step_counts v w (failed_write count) is = transport_counts v w is.1.2.faults (ap (λ (x : View). x.service) is.3)
+step_counts v w (failed_read came event) is = transport_counts v w is.2.5.faults (ap (λ (x : View). x.service) is.4)
+step_counts v w asked_to_drain is = stays v w (ap (λ (x : View). x.transport) is) (ap (λ (x : View). x.service) is)
 
 more_counts : (v u w : View) → Counts v u → Counts u w → Counts v w
-more_counts v u w first then = record { wire = omega (arith, first.wire, then.wire); service = omega (arith, first.service, then.service) }
+more_counts v u w first then = record { transport = omega (arith, first.transport, then.transport); service = omega (arith, first.service, then.service) }
 
 run_counts : (v w : View) (steps : List Step) → IsRun v steps w → Counts v w
-run_counts v w [] is = stays v w (ap (λ (x : View). x.wire) is) (ap (λ (x : View). x.service) is)
+run_counts v w [] is = stays v w (ap (λ (x : View). x.transport) is) (ap (λ (x : View). x.service) is)
 run_counts v w (d ∷ steps) is = more_counts v is.0 w (step_counts v is.0 d is.1) (run_counts is.0 w steps is.2)
 
 -- ---- the last step
@@ -91,16 +91,16 @@ ends_last v w steps d run ends = last_of v w ends.0 d (subst (λ l. IsRun v l w)
 
 -- ---- causes
 
-wire_has : (v u w : View) (steps : List Step) → Counts v u → IsRun u steps w → FailsWire steps → Rose v.wire.faults w.wire.faults
-wire_has v u w steps before run (failure, inl writes) =
+transport_has : (v u w : View) (steps : List Step) → Counts v u → IsRun u steps w → FailsTransport steps → Rose v.transport.faults w.transport.faults
+transport_has v u w steps before run (failure, inl writes) =
     let l = ends_last u w steps (written (Ready (Err failure))) run writes in
-    rose_since v.wire.faults l.before.wire.faults w.wire.faults (more_counts v u l.before before l.counts).wire l.step.1.2.faults.1
-wire_has v u w steps before run (failure, inr (inl reads)) =
+    rose_since v.transport.faults l.before.transport.faults w.transport.faults (more_counts v u l.before before l.counts).transport l.step.1.2.faults.1
+transport_has v u w steps before run (failure, inr (inl reads)) =
     let l = ends_last u w steps (read reads.0 (Ready (Err failure))) run reads.1 in
-    rose_since v.wire.faults l.before.wire.faults w.wire.faults (more_counts v u l.before before l.counts).wire l.step.2.4.faults.1
-wire_has v u w steps before run (failure, inr (inr shuts)) =
+    rose_since v.transport.faults l.before.transport.faults w.transport.faults (more_counts v u l.before before l.counts).transport l.step.2.4.faults.1
+transport_has v u w steps before run (failure, inr (inr shuts)) =
     let l = ends_last u w steps (shut (Ready (Err failure))) run shuts in
-    rose_since v.wire.faults l.before.wire.faults w.wire.faults (more_counts v u l.before before l.counts).wire l.step.1.faults.1
+    rose_since v.transport.faults l.before.transport.faults w.transport.faults (more_counts v u l.before before l.counts).transport l.step.1.faults.1
 
 service_has : (v u w : View) (e : Error) (steps : List Step) → Counts v u → IsRun u steps w → FailsService e steps → Rose v.service.faults w.service.faults
 service_has v u w e steps before run (inl is) =
@@ -112,7 +112,7 @@ service_has v u w e steps before run (inr is) =
 
 ended_has : (v u w : View) (steps : List Step) (result : Result Unit UpgradeError) → Counts v u → IsRun u steps w → Ended w steps result → HasCause v w result
 ended_has v u w steps (Ok x) before run is = (is.1, (ends_last u w steps (shut (Ready (Ok tt))) run is.0).step.1.shuts_so refl)
-ended_has v u w steps (Err error.Io) before run is = wire_has v u w steps before run is
+ended_has v u w steps (Err error.Io) before run is = transport_has v u w steps before run is
 ended_has v u w steps (Err (error.Upgrade e)) before run is = service_has v u w e steps before run is
 ended_has v u w steps (Err error.DisconnectTimeout) before run is = is.1
 ended_has v u w steps (Err error.NoMemory) before run is = is.0
@@ -224,10 +224,10 @@ goes_noted_run v w n is = record { steps = is.steps; run = is.run; all = go_note
 last_noted : (steps : List Step) (d : Step) → IsNoted d → EndsWith steps d → AllNoted steps
 last_noted steps d noted ends = subst (λ l. AllNoted l) (sym ends.1) (noted_on ends.0 (d ∷ []) (go_noted ends.0 ends.2) (noted, tt))
 
-wire_noted : (steps : List Step) → FailsWire steps → AllNoted steps
-wire_noted steps (failure, inl writes) = last_noted steps _ tt writes
-wire_noted steps (failure, inr (inl reads)) = last_noted steps _ tt reads.1
-wire_noted steps (failure, inr (inr shuts)) = last_noted steps _ tt shuts
+transport_noted : (steps : List Step) → FailsTransport steps → AllNoted steps
+transport_noted steps (failure, inl writes) = last_noted steps _ tt writes
+transport_noted steps (failure, inr (inl reads)) = last_noted steps _ tt reads.1
+transport_noted steps (failure, inr (inr shuts)) = last_noted steps _ tt shuts
 
 service_noted : (e : Error) (steps : List Step) → FailsService e steps → AllNoted steps
 service_noted e steps (inl is) = last_noted steps _ tt is
@@ -235,7 +235,7 @@ service_noted e steps (inr is) = last_noted steps _ tt is
 
 ended_noted : (w : View) (steps : List Step) (result : Result Unit UpgradeError) → Ended w steps result → (Ready result ≡ Ready (Err error.NoMemory)) ⊎ AllNoted steps
 ended_noted w steps (Ok x) is = inr (last_noted steps _ tt is.0)
-ended_noted w steps (Err error.Io) is = inr (wire_noted steps is)
+ended_noted w steps (Err error.Io) is = inr (transport_noted steps is)
 ended_noted w steps (Err (error.Upgrade e)) is = inr (service_noted e steps is)
 ended_noted w steps (Err error.DisconnectTimeout) is = inr (go_noted steps is.0)
 ended_noted w steps (Err error.NoMemory) is = inl refl

@@ -5,14 +5,14 @@ use Rattle.http_bodies.proofs.Histories.{grown-none}
 use Rattle.model_h1.specs.Sums as sums
 use Rattle.h1_connection.specs.Meaning.{setting_of}
 use Rattle.h1_connection.specs.Steps.{Pair}
-use Rattle.h1_traced.specs.Line.{SaysNoted, LineStands}
+use Rattle.h1_traced.specs.Traced.{SaysNoted, TracedStands}
 use Rattle.ws_service.specs.View.{View}
 use Rattle.ws_service.specs.Steps.{Step, IsStep, IsRun, ticked, drained, written, read, shut, closed, ready, called, answered, pulled, sent, failed, unsent, failed_write, failed_read, asked_to_drain}
 use Rattle.ws_service.specs.Traces.{IsNoted, AllNoted, NotesTrace}
 use Rattle.ws_service.proofs.Traces.{run_follows}
 
 -- nothing was noted in the step that lacks memory
-lacks_note : (v w : View) (d : Step) → ¬ IsNoted d → IsStep v d w → Grows v.line.noted w.line.noted []
+lacks_note : (v w : View) (d : Step) → ¬ IsNoted d → IsStep v d w → Grows v.traced.noted w.traced.noted []
 lacks_note v w (failed event) lacks is = is.1.noted
 lacks_note v w (unsent message) lacks is = is.3.noted
 lacks_note v w (failed_write count) lacks is = is.2.noted
@@ -30,12 +30,12 @@ lacks_note v w (pulled given) lacks is = absurd (lacks tt)
 lacks_note v w (sent message) lacks is = absurd (lacks tt)
 lacks_note v w asked_to_drain lacks is = absurd (lacks tt)
 
-pub run_notes : (v u w : View) (steps : List Step) (step : Step) (trace : List sums.Step) → LineStands v.line trace → AllNoted steps → IsRun v steps u → ¬ IsNoted step → IsStep u step w
-    → NotesTrace (setting_of u.line.state.settings) w.line.noted trace
+pub run_notes : (v u w : View) (steps : List Step) (step : Step) (trace : List sums.Step) → TracedStands v.traced trace → AllNoted steps → IsRun v steps u → ¬ IsNoted step → IsStep u step w
+    → NotesTrace (setting_of u.traced.state.settings) w.traced.noted trace
 run_notes v u w steps step trace stands all run lacks is =
     let f = run_follows v u steps all run trace stands in
     record {
       more = f.more;
       traced = f.stands.stands.traced;
-      notes = subst (λ (n : Option (List Pair)). SaysNoted n (f.more ++ trace)) (sym (lacks_note u w step lacks is ∙ sym (grown-none u.line.noted))) f.stands.noted;
+      notes = subst (λ (n : Option (List Pair)). SaysNoted n (f.more ++ trace)) (sym (lacks_note u w step lacks is ∙ sym (grown-none u.traced.noted))) f.stands.noted;
     }

@@ -13,7 +13,7 @@ use Rattle.model_state.specs.Kept.{Kept}
 use Rattle.model_state.specs.Local.{allowed_by}
 use Rattle.h1_connection.specs.Meaning.{setting_of, SaysOutcome}
 use Rattle.h1_connection.specs.declared.event.Outcome.{Outcome}
-use Rattle.h1_traced.specs.Line.{LineSteps, LineFails}
+use Rattle.h1_traced.specs.Traced.{TracedSteps, TracedFails}
 use Rattle.ws_service.specs.declared.item.UpgradeItem.{UpgradeItem}
 use Rattle.ws_service.specs.declared.dispatcher.Ending.TheVariants.{Broken}
 use Rattle.ws_service.specs.declared.dispatcher.serve.Given.{Given}
@@ -42,7 +42,7 @@ now_sending free is = absurd (cc is)
 now_sending (waiting item) is = absurd (cc is)
 now_sending calling is = absurd (cc is)
 
--- ---- the wire
+-- ---- the transport
 
 front_some : (front all : List ℕ) → (length front ≡ 0 → length all ≡ 0) → 0 < length all → 0 < length front
 front_some [] all some waits =
@@ -51,7 +51,7 @@ front_some [] all some waits =
     omega (arith, none, waits))
 front_some (b ∷ front) all some waits = omega arith
 
--- what the wire was given stands first of what waits
+-- what the transport was given stands first of what waits
 pub offered : (v : View) (front : List ℕ) → 0 < length (buffered v) → ((rest : List ℕ) × (front ++ rest ≡ buffered v)) → (length front ≡ 0 → length (buffered v) ≡ 0) → IsFront v front
 offered v front waits first some = record { rest = first.0; first = first.1; some = front_some front (buffered v) some waits }
 
@@ -60,23 +60,23 @@ pub bounded : (v : View) (front : List ℕ) (n : ℕ) → IsFront v front → n 
 bounded v front n is fits = omega (arith, fits, length-append front is.rest, ap length is.first)
 
 pub read_step : (v w : View) (came buf : List ℕ) (answer : Poll (Result ℕ Failed)) → v.ending ≡ None → allows v on.eof ≡ true → 0 < length buf → length buf ≤ room v
-    → came ≡ moved answer buf → ReadSays v.wire w.wire answer buf → Took v.line w.line came answer → w ≡ record v { line = w.line; wire = w.wire }
+    → came ≡ moved answer buf → ReadSays v.transport w.transport answer buf → Took v.traced w.traced came answer → w ≡ record v { traced = w.traced; transport = w.transport }
     → IsStep v (read came answer) w
 read_step v w came buf answer running may some fits moves says took same = (running, may, (buf, some, fits, moves, says), took, same)
 
 pub read_fails : (v w : View) (came buf : List ℕ) (count : ℕ) (event : on.Event) → v.ending ≡ None → allows v on.eof ≡ true → 0 < length buf → length buf ≤ room v
-    → came ≡ take count buf → ReadSays {E = Failed} v.wire w.wire (Ready (Ok count)) buf → IsOfRead count came event → LineFails v.line event w.line
-    → w ≡ record v { line = w.line; wire = w.wire; ending = Some Broken } → IsStep v (failed_read came event) w
+    → came ≡ take count buf → ReadSays {E = Failed} v.transport w.transport (Ready (Ok count)) buf → IsOfRead count came event → TracedFails v.traced event w.traced
+    → w ≡ record v { traced = w.traced; transport = w.transport; ending = Some Broken } → IsStep v (failed_read came event) w
 read_fails v w came buf count event running may some fits moves says is fails same = (running, may, (buf, count, some, fits, moves, says, is), fails, same)
 
 -- ---- the service
 
 -- a frame was asked for
 pub pulled_step : (v w : View) (outcome : Outcome) (given : Given) → v.ending ≡ None → v.stage ≡ free → allows_pull v ≡ true → given ≡ given_of outcome
-    → LineSteps v.line on.pull (SaysOutcome outcome) w.line → w.line.state.settings ≡ v.line.state.settings
-    → w ≡ record v { line = w.line; stage = w.stage } → w.stage ≡ stage_given given → IsStep v (pulled given) w
+    → TracedSteps v.traced on.pull (SaysOutcome outcome) w.traced → w.traced.state.settings ≡ v.traced.state.settings
+    → w ≡ record v { traced = w.traced; stage = w.stage } → w.stage ≡ stage_given given → IsStep v (pulled given) w
 pulled_step v w outcome given running is allowed gives steps settings same now =
-    (running, is, allowed, (outcome, gives, record { steps = steps; settings = settings }), same ∙ ap (λ x. record v { line = w.line; stage = x }) now)
+    (running, is, allowed, (outcome, gives, record { steps = steps; settings = settings }), same ∙ ap (λ x. record v { traced = w.traced; stage = x }) now)
 
 -- ---- what is needed
 
@@ -98,23 +98,23 @@ any_message set k m is = is
 
 -- one was sent, or couldn't be
 pub sent_step : (v w : View) (message : Message) (outcome : Outcome) → v.ending ≡ None → v.stage ≡ sending message → allows_send v ≡ true
-    → LineSteps v.line (on.send (message_says message)) (SaysOutcome outcome) w.line → w.line.state.settings ≡ v.line.state.settings
-    → w ≡ record v { line = w.line; stage = w.stage } → w.stage ≡ free → IsStep v (sent message) w
+    → TracedSteps v.traced (on.send (message_says message)) (SaysOutcome outcome) w.traced → w.traced.state.settings ≡ v.traced.state.settings
+    → w ≡ record v { traced = w.traced; stage = w.stage } → w.stage ≡ free → IsStep v (sent message) w
 sent_step v w message outcome running is allowed steps settings same now = (
   running,
   is,
-  any_message (setting_of v.line.state.settings) v.line.state.kept (message_says message) allowed,
+  any_message (setting_of v.traced.state.settings) v.traced.state.kept (message_says message) allowed,
   (outcome, record { steps = steps; settings = settings }),
-  same ∙ ap (λ x. record v { line = w.line; stage = x }) now,
+  same ∙ ap (λ x. record v { traced = w.traced; stage = x }) now,
 )
 
 pub unsent_step : (v w : View) (message : Message) → v.ending ≡ None → v.stage ≡ sending message → allows_send v ≡ true
-    → LineFails v.line (on.send (message_says message)) w.line → w ≡ record v { line = w.line; stage = w.stage; ending = Some Broken } → w.stage ≡ free
+    → TracedFails v.traced (on.send (message_says message)) w.traced → w ≡ record v { traced = w.traced; stage = w.stage; ending = Some Broken } → w.stage ≡ free
     → IsStep v (unsent message) w
 unsent_step v w message running is allowed fails same now = (
   running,
   is,
-  any_message (setting_of v.line.state.settings) v.line.state.kept (message_says message) allowed,
+  any_message (setting_of v.traced.state.settings) v.traced.state.kept (message_says message) allowed,
   fails,
-  same ∙ ap (λ x. record v { line = w.line; stage = x; ending = Some Broken }) now,
+  same ∙ ap (λ x. record v { traced = w.traced; stage = x; ending = Some Broken }) now,
 )

@@ -9,7 +9,7 @@ use Rattle.http_bodies.proofs.Histories.{grown, grown-none}
 use Rattle.http_services.specs.Serving.{given}
 use Rattle.http_transport.specs.Wiring.{Wiring}
 use Rattle.ws_frames.specs.declared.message.Message.{Message}
-use Rattle.h1_traced.specs.Line.{LineView}
+use Rattle.h1_traced.specs.Traced.{TracedView}
 use Rattle.ws_service.specs.declared.dispatcher.serve.Given.{Given}
 use Rattle.ws_service.specs.declared.dispatcher.serve.Given.TheVariants.{Frame, Nothing, Other}
 use Rattle.ws_service.specs.View.{View, Upgrading, Stage, free, waiting, calling, sending, view_begun}
@@ -119,8 +119,8 @@ run_keeps v w (d ∷ steps) is =
       answered_so = grown (step_answers d) (answers steps) _ _ _ first.answered_so then.answered_so;
     }
 
-pub run_starts : (request : RequestParts Unit Unit) (line : LineView) (wire : Wiring) (service : Upgrading) (w : View) (steps : List Step)
-    → IsRun (view_begun request line wire service) steps w → StartsWith request steps w
-run_starts request line wire service w steps is =
-    let k = run_keeps (view_begun request line wire service) w steps is in
+pub run_starts : (request : RequestParts Unit Unit) (traced : TracedView) (transport : Wiring) (service : Upgrading) (w : View) (steps : List Step)
+    → IsRun (view_begun request traced transport service) steps w → StartsWith request steps w
+run_starts request traced transport service w steps is =
+    let k = run_keeps (view_begun request traced transport service) w steps is in
     record { waits = k.waits; sent_so = k.sent_so }

@@ -6,7 +6,7 @@ use Rattle.ws_service.specs.declared.error.UpgradeError.TheVariants as error
 use Rattle.ws_service.specs.declared.dispatcher.Ending.TheVariants.{Abandoned, Broken}
 use Rattle.ws_service.specs.View.{View}
 use Rattle.ws_service.specs.Steps.{Step, IsStep, IsRun}
-use Rattle.ws_service.specs.Polls.{Continues, AllContinue, EndsWith, FailsWire, FailsService, LacksMemory, Ended, counts, progress, Progress, Ends}
+use Rattle.ws_service.specs.Polls.{Continues, AllContinue, EndsWith, FailsTransport, FailsService, LacksMemory, Ended, counts, progress, Progress, Ends}
 
 -- the run of one step
 pub one : (v w : View) (d : Step) → IsStep v d w → IsRun v (d ∷ []) w
@@ -30,10 +30,10 @@ progress_on (d ∷ s) t = omega (arith, progress_on s t)
 ends_on : (d last : Step) (s : List Step) → Continues d → EndsWith s last → EndsWith (d ∷ s) last
 ends_on d last s goes is = (d ∷ is.0, ap (λ l. d ∷ l) is.1, (goes, is.2))
 
-wire_on : (d : Step) (s : List Step) → Continues d → FailsWire s → FailsWire (d ∷ s)
-wire_on d s goes (failure, inl writes) = (failure, inl (ends_on d _ s goes writes))
-wire_on d s goes (failure, inr (inl reads)) = (failure, inr (inl (reads.0, ends_on d _ s goes reads.1)))
-wire_on d s goes (failure, inr (inr shuts)) = (failure, inr (inr (ends_on d _ s goes shuts)))
+transport_on : (d : Step) (s : List Step) → Continues d → FailsTransport s → FailsTransport (d ∷ s)
+transport_on d s goes (failure, inl writes) = (failure, inl (ends_on d _ s goes writes))
+transport_on d s goes (failure, inr (inl reads)) = (failure, inr (inl (reads.0, ends_on d _ s goes reads.1)))
+transport_on d s goes (failure, inr (inr shuts)) = (failure, inr (inr (ends_on d _ s goes shuts)))
 
 service_on : (e : Error) (d : Step) (s : List Step) → Continues d → FailsService e s → FailsService e (d ∷ s)
 service_on e d s goes (inl is) = inl (ends_on d _ s goes is)
@@ -47,7 +47,7 @@ memory_on d s goes (inr (inr (inr is))) = inr (inr (inr (is.0, is.1, ends_on d _
 
 ended_on : (w : View) (d : Step) (s : List Step) (result : Result Unit UpgradeError) → Continues d → Ended w s result → Ended w (d ∷ s) result
 ended_on w d s (Ok x) goes is = (ends_on d _ s goes is.0, is.1)
-ended_on w d s (Err error.Io) goes is = wire_on d s goes is
+ended_on w d s (Err error.Io) goes is = transport_on d s goes is
 ended_on w d s (Err (error.Upgrade e)) goes is = service_on e d s goes is
 ended_on w d s (Err error.DisconnectTimeout) goes is = ((goes, is.0), is.1)
 ended_on w d s (Err error.NoMemory) goes (broken, inl out) = (broken, inl (memory_on d s goes out))

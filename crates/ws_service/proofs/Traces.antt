@@ -34,7 +34,7 @@ use Rattle.h1_connection.specs.declared.connection.ticks.Expiry.{Expiry}
 use Rattle.h1_connection.specs.declared.connection.ticks.Expiry.TheVariants as expiries
 use Rattle.h1_connection.specs.declared.event.Outcome.{Outcome}
 use Rattle.h1_connection.specs.declared.event.Outcome.TheVariants as out
-use Rattle.h1_traced.specs.Line.{LineView, LineStands}
+use Rattle.h1_traced.specs.Traced.{TracedView, TracedStands}
 use Rattle.ws_service.specs.declared.item.UpgradeItem.{UpgradeItem}
 use Rattle.ws_service.specs.View.{View, buffered, room}
 use Rattle.ws_service.specs.Steps.{Step, Goes, IsFront, Wrote, Took, IsStep, IsRun, given_of, ticked, drained, written as wrote, read, shut, closed, ready, called, answered, pulled, sent, failed, unsent, failed_write, failed_read, asked_to_drain}
@@ -77,33 +77,33 @@ same_grows a b same = same ∙ grown-none a
 
 -- a trace by which these frames come and these messages go
 abbrev By : View → List UpgradeItem → List said.Message → View → Type 0
-By v came gone w = (trace : List sums.Step) → LineStands v.line trace → Follows v w trace came gone
+By v came gone w = (trace : List sums.Step) → TracedStands v.traced trace → Follows v w trace came gone
 
 -- ---- one step
 
--- the line stays
-still : (v w : View) → w.line ≡ v.line → Grows v.wire.received w.wire.received [] → Grows v.wire.sent w.wire.sent [] → By v [] [] w
-still v w line received sent_so = λ trace stands. record {
+-- the traced connection stays
+still : (v w : View) → w.traced ≡ v.traced → Grows v.transport.received w.transport.received [] → Grows v.transport.sent w.transport.sent [] → By v [] [] w
+still v w traced received sent_so = λ trace stands. record {
   more = [];
-  stands = subst (λ (l : LineView). LineStands l trace) (sym line) stands;
-  received = subst (λ l. Grows v.wire.received w.wire.received l) (sym none_taken) received;
-  sent_so = subst (λ l. Grows v.wire.sent w.wire.sent l) (sym none_written) sent_so;
+  stands = subst (λ (l : TracedView). TracedStands l trace) (sym traced) stands;
+  received = subst (λ l. Grows v.transport.received w.transport.received l) (sym none_taken) received;
+  sent_so = subst (λ l. Grows v.transport.sent w.transport.sent l) (sym none_written) sent_so;
   came_so = refl;
   gone_so = refl;
 }
 
-wire_same : (v w : View) → w.line ≡ v.line → w.wire ≡ v.wire → By v [] [] w
-wire_same v w line wire = still v w line (same_grows _ _ (ap (λ (t : Wiring). t.received) wire)) (same_grows _ _ (ap (λ (t : Wiring). t.sent) wire))
+transport_same : (v w : View) → w.traced ≡ v.traced → w.transport ≡ v.transport → By v [] [] w
+transport_same v w traced transport = still v w traced (same_grows _ _ (ap (λ (t : Wiring). t.received) transport)) (same_grows _ _ (ap (λ (t : Wiring). t.sent) transport))
 
 -- what an outcome has to fit
 record Fits (v w : View) (event : on.Event) (came : List UpgradeItem) (out : on.Outcome) : Type 0 where
-  received : Grows v.wire.received w.wire.received (step_taken event out)
-  sent_so : Grows v.wire.sent w.wire.sent (step_written out)
+  received : Grows v.transport.received w.transport.received (step_taken event out)
+  sent_so : Grows v.transport.sent w.transport.sent (step_written out)
   came_so : of_frame out ≡ came
 
 -- an event came
-went : (v w : View) (event : on.Event) (came : List UpgradeItem) (Says : on.Outcome → Type 0) → Goes v.line event Says w.line
-    → ((out : on.Outcome) → Says out → Machine (setting_of v.line.state.settings) v.line.state.kept event out w.line.state.kept → Fits v w event came out)
+went : (v w : View) (event : on.Event) (came : List UpgradeItem) (Says : on.Outcome → Type 0) → Goes v.traced event Says w.traced
+    → ((out : on.Outcome) → Says out → Machine (setting_of v.traced.state.settings) v.traced.state.kept event out w.traced.state.kept → Fits v w event came out)
     → By v came (of_message event) w
 went v w event came Says goes fits = λ trace stands.
     let x = goes.steps trace stands in
@@ -112,25 +112,25 @@ went v w event came Says goes fits = λ trace stands.
     record {
       more = s ∷ [];
       stands = x.2.stands;
-      received = subst (λ l. Grows v.wire.received w.wire.received l) (sym (one_taken s)) f.received;
-      sent_so = subst (λ l. Grows v.wire.sent w.wire.sent l) (sym (one_written s)) f.sent_so;
+      received = subst (λ l. Grows v.transport.received w.transport.received l) (sym (one_taken s)) f.received;
+      sent_so = subst (λ l. Grows v.transport.sent w.transport.sent l) (sym (one_written s)) f.sent_so;
       came_so = f.came_so;
       gone_so = refl;
     }
 
--- by which the wire moved nothing
-quiet : (v w : View) (event : on.Event) (came : List UpgradeItem) (out : on.Outcome) → w.wire ≡ v.wire → step_taken event out ≡ [] → step_written out ≡ [] → of_frame out ≡ came
+-- by which the transport moved nothing
+quiet : (v w : View) (event : on.Event) (came : List UpgradeItem) (out : on.Outcome) → w.transport ≡ v.transport → step_taken event out ≡ [] → step_written out ≡ [] → of_frame out ≡ came
     → Fits v w event came out
-quiet v w event came out wire none_in none_out frame = record {
-  received = subst (λ l. Grows v.wire.received w.wire.received l) (sym none_in) (same_grows _ _ (ap (λ (t : Wiring). t.received) wire));
-  sent_so = subst (λ l. Grows v.wire.sent w.wire.sent l) (sym none_out) (same_grows _ _ (ap (λ (t : Wiring). t.sent) wire));
+quiet v w event came out transport none_in none_out frame = record {
+  received = subst (λ l. Grows v.transport.received w.transport.received l) (sym none_in) (same_grows _ _ (ap (λ (t : Wiring). t.received) transport));
+  sent_so = subst (λ l. Grows v.transport.sent w.transport.sent l) (sym none_out) (same_grows _ _ (ap (λ (t : Wiring). t.sent) transport));
   came_so = frame;
 }
 
 -- and of which the outcome is done
-done : (v w : View) (event : on.Event) → w.wire ≡ v.wire → step_taken event on.done ≡ [] → Goes v.line event (Is on.done) w.line → By v [] (of_message event) w
-done v w event wire none goes =
-    went v w event [] (Is on.done) goes (λ out is machine. quiet v w event [] out wire (ap (λ o. step_taken event o) is ∙ none) (ap step_written is) (ap of_frame is))
+done : (v w : View) (event : on.Event) → w.transport ≡ v.transport → step_taken event on.done ≡ [] → Goes v.traced event (Is on.done) w.traced → By v [] (of_message event) w
+done v w event transport none goes =
+    went v w event [] (Is on.done) goes (λ out is machine. quiet v w event [] out transport (ap (λ o. step_taken event o) is ∙ none) (ap step_written is) (ap of_frame is))
 
 -- a moment
 expiry_writes : (expiry : Expiry) → step_written (expiry_of expiry) ≡ []
@@ -220,15 +220,15 @@ send_frames set k next m out machine =
     message_frames m k None = refl
     message_frames m k (Some error) = refl
 
--- bytes that the wire took
+-- bytes that the transport took
 same_front : (v : View) (front : List ℕ) (n : ℕ) → IsFront v front → n ≤ length front → take n (buffered v) ≡ take n front
 same_front v front n is fits = sym (ap (take n) is.first) ∙ take-append-le n front is.rest fits
 
-gave : (v w : View) (front : List ℕ) (answer : Poll (Result ℕ Failed)) → IsFront v front → WriteSays v.wire w.wire answer front → Wrote v.line w.line answer → By v [] [] w
+gave : (v w : View) (front : List ℕ) (answer : Poll (Result ℕ Failed)) → IsFront v front → WriteSays v.transport w.transport answer front → Wrote v.traced w.traced answer → By v [] [] w
 gave v w front (Ready (Ok n)) is says goes =
     went v w (on.write n) [] (Is (on.gave (take n (buffered v)))) goes.1 (λ out so machine. record {
       received = same_grows _ _ says.received;
-      sent_so = subst (λ l. Grows v.wire.sent w.wire.sent l) (sym (ap step_written so ∙ same_front v front n is says.bound)) says.sent;
+      sent_so = subst (λ l. Grows v.transport.sent w.transport.sent l) (sym (ap step_written so ∙ same_front v front n is says.bound)) says.sent;
       came_so = ap of_frame so;
     })
 gave v w front (Ready (Err e)) is says same = still v w same (same_grows _ _ says.received) says.sent
@@ -246,21 +246,21 @@ all_taken l = take_all (length l) l (omega arith)
 short : (n : ℕ) (buf : List ℕ) (m : ℕ) → length buf ≤ m → length (take n buf) ≤ m
 short n buf m fits = omega (arith, length-take n buf, fits)
 
-took : (v w : View) (came buf : List ℕ) (answer : Poll (Result ℕ Failed)) → length buf ≤ room v → came ≡ moved answer buf → ReadSays v.wire w.wire answer buf
-    → Took v.line w.line came answer → By v [] [] w
+took : (v w : View) (came buf : List ℕ) (answer : Poll (Result ℕ Failed)) → length buf ≤ room v → came ≡ moved answer buf → ReadSays v.transport w.transport answer buf
+    → Took v.traced w.traced came answer → By v [] [] w
 took v w came buf (Ready (Ok n)) fits are says (inl end) =
     went v w on.eof [] (Is on.done) end.1 (λ out is machine. record {
-      received = subst (λ m. Grows v.wire.received w.wire.received (take m buf)) end.0 says.received;
-      sent_so = subst (λ l. Grows v.wire.sent w.wire.sent l) (sym (ap step_written is)) (same_grows _ _ says.sent);
+      received = subst (λ m. Grows v.transport.received w.transport.received (take m buf)) end.0 says.received;
+      sent_so = subst (λ l. Grows v.transport.sent w.transport.sent l) (sym (ap step_written is)) (same_grows _ _ says.sent);
       came_so = ap of_frame is;
     })
 took v w came buf (Ready (Ok n)) fits are says (inr some) =
     went v w (on.read came) [] (Is (on.took some.1.0)) some.1.1 (λ out is machine.
-    let all = took_all (setting_of v.line.state.settings) v.line.state.kept w.line.state.kept came out
+    let all = took_all (setting_of v.traced.state.settings) v.traced.state.kept w.traced.state.kept came out
     (subst (λ l. length l ≤ room v) (sym are) (short n buf (room v) fits)) machine in
     record {
-      received = subst (λ l. Grows v.wire.received w.wire.received l) (sym (ap (λ o. step_taken (on.read came) o) all ∙ all_taken came ∙ are)) says.received;
-      sent_so = subst (λ l. Grows v.wire.sent w.wire.sent l) (sym (ap step_written is)) (same_grows _ _ says.sent);
+      received = subst (λ l. Grows v.transport.received w.transport.received l) (sym (ap (λ o. step_taken (on.read came) o) all ∙ all_taken came ∙ are)) says.received;
+      sent_so = subst (λ l. Grows v.transport.sent w.transport.sent l) (sym (ap step_written is)) (same_grows _ _ says.sent);
       came_so = ap of_frame is;
     })
 took v w came buf (Ready (Err e)) fits are says same = still v w same says.received (same_grows _ _ says.sent)
@@ -268,30 +268,30 @@ took v w came buf Pending fits are says same = still v w same says.received (sam
 
 step_follows : (v w : View) (d : Step) → IsNoted d → IsStep v d w → By v (step_frames d) (map message_says (step_sent d)) w
 step_follows v w (ticked moment expiry) noted is =
-    went v w (on.tick moment) [] (Is (expiry_of expiry)) is.0 (λ out says machine. quiet v w (on.tick moment) [] out (ap (λ (x : View). x.wire) is.1) refl
+    went v w (on.tick moment) [] (Is (expiry_of expiry)) is.0 (λ out says machine. quiet v w (on.tick moment) [] out (ap (λ (x : View). x.transport) is.1) refl
     (ap step_written says ∙ expiry_writes expiry) (ap of_frame says ∙ expiry_frames expiry))
-step_follows v w drained noted is = done v w on.drain (ap (λ (x : View). x.wire) is.1) refl is.0
+step_follows v w drained noted is = done v w on.drain (ap (λ (x : View). x.transport) is.1) refl is.0
 step_follows v w (wrote answer) noted is = gave v w is.1.0 answer is.1.1 is.1.2 is.2
 step_follows v w (read came answer) noted is = took v w came is.2.0 answer is.2.2 is.2.3 is.2.4 is.3
-step_follows v w (shut answer) noted is = still v w (ap (λ (x : View). x.line) is.2) (same_grows _ _ is.1.received) (same_grows _ _ is.1.sent)
+step_follows v w (shut answer) noted is = still v w (ap (λ (x : View). x.traced) is.2) (same_grows _ _ is.1.received) (same_grows _ _ is.1.sent)
 step_follows v w (closed end) noted is =
-    went v w on.next [] (SaysNext is.3.0) is.3.1 (λ out says machine. quiet v w on.next [] out (ap (λ (x : View). x.wire) is.4) refl (next_writes is.3.0 out says) (next_frames is.3.0 out says))
-step_follows v w (ready answer) noted is = wire_same v w (ap (λ (x : View). x.line) is.4) (ap (λ (x : View). x.wire) is.4)
-step_follows v w (called item) noted is = wire_same v w (ap (λ (x : View). x.line) is.3) (ap (λ (x : View). x.wire) is.3)
-step_follows v w (answered answer) noted is = wire_same v w (ap (λ (x : View). x.line) is.3) (ap (λ (x : View). x.wire) is.3)
+    went v w on.next [] (SaysNext is.3.0) is.3.1 (λ out says machine. quiet v w on.next [] out (ap (λ (x : View). x.transport) is.4) refl (next_writes is.3.0 out says) (next_frames is.3.0 out says))
+step_follows v w (ready answer) noted is = transport_same v w (ap (λ (x : View). x.traced) is.4) (ap (λ (x : View). x.transport) is.4)
+step_follows v w (called item) noted is = transport_same v w (ap (λ (x : View). x.traced) is.3) (ap (λ (x : View). x.transport) is.3)
+step_follows v w (answered answer) noted is = transport_same v w (ap (λ (x : View). x.traced) is.3) (ap (λ (x : View). x.transport) is.3)
 step_follows v w (pulled got) noted is =
-    went v w on.pull (frames_given got) (SaysOutcome is.3.0) is.3.2 (λ out says machine. quiet v w on.pull (frames_given got) out (ap (λ (x : View). x.wire) is.4) refl
-    (frame_writes (setting_of v.line.state.settings) v.line.state.kept w.line.state.kept out is.2 machine) (says_frame is.3.0 out says ∙ ap frames_given (sym is.3.1)))
+    went v w on.pull (frames_given got) (SaysOutcome is.3.0) is.3.2 (λ out says machine. quiet v w on.pull (frames_given got) out (ap (λ (x : View). x.transport) is.4) refl
+    (frame_writes (setting_of v.traced.state.settings) v.traced.state.kept w.traced.state.kept out is.2 machine) (says_frame is.3.0 out says ∙ ap frames_given (sym is.3.1)))
 step_follows v w (sent message) noted is =
     let event = on.send (message_says message) in
-    went v w event [] (SaysOutcome is.3.0) is.3.1 (λ out says machine. quiet v w event [] out (ap (λ (x : View). x.wire) is.4) refl
-    (send_writes (setting_of v.line.state.settings) v.line.state.kept w.line.state.kept (message_says message) out machine)
-    (send_frames (setting_of v.line.state.settings) v.line.state.kept w.line.state.kept (message_says message) out machine))
+    went v w event [] (SaysOutcome is.3.0) is.3.1 (λ out says machine. quiet v w event [] out (ap (λ (x : View). x.transport) is.4) refl
+    (send_writes (setting_of v.traced.state.settings) v.traced.state.kept w.traced.state.kept (message_says message) out machine)
+    (send_frames (setting_of v.traced.state.settings) v.traced.state.kept w.traced.state.kept (message_says message) out machine))
 step_follows v w (failed event) noted is = absurd noted
 step_follows v w (unsent message) noted is = absurd noted
 step_follows v w (failed_write count) noted is = absurd noted
 step_follows v w (failed_read came event) noted is = absurd noted
-step_follows v w asked_to_drain noted is = wire_same v w (ap (λ (x : View). x.line) is) (ap (λ (x : View). x.wire) is)
+step_follows v w asked_to_drain noted is = transport_same v w (ap (λ (x : View). x.traced) is) (ap (λ (x : View). x.transport) is)
 
 follows_on : (v u w : View) (came_first came_then : List UpgradeItem) (gone_first gone_then : List said.Message) → By v came_first gone_first u → By u came_then gone_then w
     → By v (came_first ++ came_then) (gone_first ++ gone_then) w
@@ -300,17 +300,17 @@ follows_on v u w came_first came_then gone_first gone_then a b = λ trace stands
     let y = b (x.more ++ trace) x.stands in
     record {
       more = y.more ++ x.more;
-      stands = subst (λ (l : List sums.Step). LineStands w.line l) (sym (append_assoc y.more x.more trace)) y.stands;
-      received = subst (λ l. Grows v.wire.received w.wire.received l) (sym (more_sum taken (λ s. step_taken s.event s.outcome) none_taken step_taken_more y.more x.more))
+      stands = subst (λ (l : List sums.Step). TracedStands w.traced l) (sym (append_assoc y.more x.more trace)) y.stands;
+      received = subst (λ l. Grows v.transport.received w.transport.received l) (sym (more_sum taken (λ s. step_taken s.event s.outcome) none_taken step_taken_more y.more x.more))
           (grown (taken x.more) (taken y.more) _ _ _ x.received y.received);
-      sent_so = subst (λ l. Grows v.wire.sent w.wire.sent l) (sym (more_sum written (λ s. step_written s.outcome) none_written step_written_more y.more x.more))
+      sent_so = subst (λ l. Grows v.transport.sent w.transport.sent l) (sym (more_sum written (λ s. step_written s.outcome) none_written step_written_more y.more x.more))
           (grown (written x.more) (written y.more) _ _ _ x.sent_so y.sent_so);
       came_so = more_sum frames_in (λ s. of_frame s.outcome) refl (λ s b. refl) y.more x.more ∙ ap (λ l. l ++ frames_in y.more) x.came_so ∙ ap (λ l. came_first ++ l) y.came_so;
       gone_so = more_sum messages_in (λ s. of_message s.event) refl (λ s b. refl) y.more x.more ∙ ap (λ l. l ++ messages_in y.more) x.gone_so ∙ ap (λ l. gone_first ++ l) y.gone_so;
     }
 
 pub run_follows : (v w : View) (steps : List Step) → AllNoted steps → IsRun v steps w → AreTraces v steps w
-run_follows v w [] noted is = wire_same v w (ap (λ (x : View). x.line) is) (ap (λ (x : View). x.wire) is)
+run_follows v w [] noted is = transport_same v w (ap (λ (x : View). x.traced) is) (ap (λ (x : View). x.transport) is)
 run_follows v w (d ∷ steps) noted is =
     subst (λ l. By v (frames (d ∷ steps)) l w) (sym (map-append message_says (step_sent d) (sends steps)))
     (follows_on v is.0 w (step_frames d) (frames steps) (map message_says (step_sent d)) (map message_says (sends steps)) (step_follows v is.0 d noted.0 is.1)

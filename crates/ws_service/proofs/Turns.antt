@@ -90,7 +90,7 @@ written_then v u w Idle running is says =
     inl (record { running = running; writing = written Pending ∷ []; after = u; writes = one v u (written Pending) is; no_output = inl refl; waits = says })
 written_then v u w (Over result) running is says = ends_after v u w 0 result (goes_by v u (written Pending) 0 is tt (omega arith)) says
 
-pub not_closing : (v : View) (r : Option End) → r ≡ None → option_map end_of r ≡ closing_by (setting_of v.line.state.settings) v.line.state.kept → closes v ≡ false
+pub not_closing : (v : View) (r : Option End) → r ≡ None → option_map end_of r ≡ closing_by (setting_of v.traced.state.settings) v.traced.state.kept → closes v ≡ false
 not_closing v r none says = ap is_some (sym says) ∙ ap (λ x. is_some (option_map end_of x)) none
 
 -- ---- the turns

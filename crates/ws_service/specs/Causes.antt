@@ -11,12 +11,12 @@ use Rattle.ws_service.specs.View.{View}
 use Rattle.ws_service.specs.Steps.{Step, IsRun}
 use Rattle.ws_service.specs.Traces.{AllNoted}
 
--- Ok: the connection told an end, and the wire shows that it was shut down. A failure of the service, or of the wire, is a rise
+-- Ok: the connection told an end, and the transport shows that it was shut down. A failure of the service, or of the transport, is a rise
 -- of its count in this poll.
 abbrev pub HasCause : View → View → Result Unit UpgradeError → Type 0
-HasCause v w (Ok x) = ((end : End) × (w.ending ≡ Some (Closed end))) × IsTrue w.wire.shut
+HasCause v w (Ok x) = ((end : End) × (w.ending ≡ Some (Closed end))) × IsTrue w.transport.shut
 HasCause v w (Err (error.Upgrade e)) = Rose v.service.faults w.service.faults
-HasCause v w (Err error.Io) = Rose v.wire.faults w.wire.faults
+HasCause v w (Err error.Io) = Rose v.transport.faults w.transport.faults
 HasCause v w (Err error.DisconnectTimeout) = w.ending ≡ Some Abandoned
 HasCause v w (Err error.NoMemory) = w.ending ≡ Some Broken
 

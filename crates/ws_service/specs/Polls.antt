@@ -31,7 +31,7 @@ abbrev pub IsPending : {A : Type 0} → Poll A → Type 0
 IsPending (Ready x) = ⊥
 IsPending Pending = ⊤
 
--- A turn goes on after this step. A poll ends with a failure of the wire or of the service, with the wire's shutdown, or where
+-- A turn goes on after this step. A poll ends with a failure of the transport or of the service, with the transport's shutdown, or where
 -- memory ran out; a moment and a drain come before its turns alone.
 abbrev pub Continues : Step → Type 0
 Continues (ticked moment expiry) = ⊥
@@ -58,9 +58,9 @@ AllContinue steps = AllByRecursion Continues steps
 abbrev pub EndsWith : List Step → Step → Type 0
 EndsWith steps last = (before : List Step) × (steps ≡ before ++ last ∷ []) × AllContinue before
 
--- a call of the wire failed
-abbrev pub FailsWire : List Step → Type 0
-FailsWire steps =
+-- a call of the transport failed
+abbrev pub FailsTransport : List Step → Type 0
+FailsTransport steps =
     (failure : Failed) × (EndsWith steps (written (Ready (Err failure)))
     ⊎ (((came : List ℕ) × EndsWith steps (read came (Ready (Err failure)))) ⊎ EndsWith steps (shut (Ready (Err failure)))))
 
@@ -84,7 +84,7 @@ LacksMemory steps =
 -- Why a poll ended: each result has its cause.
 abbrev pub Ended : View → List Step → Result Unit UpgradeError → Type 0
 Ended w steps (Ok x) = EndsWith steps (shut (Ready (Ok tt))) × ((end : End) × (w.ending ≡ Some (Closed end)))
-Ended w steps (Err error.Io) = FailsWire steps
+Ended w steps (Err error.Io) = FailsTransport steps
 Ended w steps (Err (error.Upgrade e)) = FailsService e steps
 Ended w steps (Err error.DisconnectTimeout) = AllContinue steps × (w.ending ≡ Some Abandoned)
 Ended w steps (Err error.NoMemory) = (w.ending ≡ Some Broken) × (LacksMemory steps ⊎ AllContinue steps)
@@ -126,11 +126,11 @@ Needs w (waiting item) served = IsLast (ready Pending) served
 Needs w calling served = IsLast (answered Pending) served
 Needs w (sending message) served = allows_send w ≡ false
 
--- the wire had no bytes, or none may be read
+-- the transport had no bytes, or none may be read
 abbrev pub Reads : View → List Step → Type 0
 Reads v reading = (reading ≡ read [] Pending ∷ []) ⊎ ((reading ≡ []) × HasNoInput v)
 
--- the wire took none of what waits to be written, or nothing waits that may be
+-- the transport took none of what waits to be written, or nothing waits that may be
 abbrev pub Writes : View → List Step → Type 0
 Writes v writing = (writing ≡ written Pending ∷ []) ⊎ ((writing ≡ []) × HasNoOutput v)
 
@@ -164,7 +164,7 @@ pub record IsStuckRunning (v w : View) : Type 0 where
   pub no_output : Writes v writing
   pub waits : IsHeld after w ⊎ ((closes after ≡ false) × IsIdle after w)
 
--- the connection has ended, and the wire isn't shut down yet
+-- the connection has ended, and the transport isn't shut down yet
 pub record IsStuckShutting (v w : View) : Type 0 where
   pub end : End
   pub ended : v.ending ≡ Some (Closed end)

@@ -20,7 +20,7 @@ use Rattle.h1_connection.specs.declared.connection.ticks.Expiry.TheVariants as e
 use Rattle.h1_connection.specs.declared.event.End.{End}
 use Rattle.h1_connection.specs.declared.event.Outcome.{Outcome}
 use Rattle.h1_connection.specs.declared.event.Outcome.TheVariants as out
-use Rattle.h1_traced.specs.Line.{LineView, LineSteps, LineFails}
+use Rattle.h1_traced.specs.Traced.{TracedView, TracedSteps, TracedFails}
 use Rattle.ws_service.specs.declared.item.UpgradeItem.{UpgradeItem}
 use Rattle.ws_service.specs.declared.item.UpgradeItem.TheVariants as items
 use Rattle.ws_service.specs.declared.dispatcher.Ending.{Ending}
@@ -29,10 +29,10 @@ use Rattle.ws_service.specs.declared.dispatcher.serve.Given.{Given}
 use Rattle.ws_service.specs.declared.dispatcher.serve.Given.TheVariants.{Frame, Nothing, Other}
 use Rattle.ws_service.specs.View.{View, Upgrading, Stage, free, waiting, calling, sending, with_drain, closes, allows, allows_next, allows_pull, buffered, room}
 
--- A step. A moment came; the drain came; the wire was given what waits to be written; it was asked for bytes, and these came;
+-- A step. A moment came; the drain came; the transport was given what waits to be written; it was asked for bytes, and these came;
 -- it was shut down; the connection closes, and told its end; the service was asked whether it takes a call, and takes none; it
 -- takes one, and was called with this; its call was polled; the next frame was asked for; an answer was sent. Or memory ran
--- out: for an event; for a message that was to be sent; for that of bytes which the wire took, or gave. Or it was asked to
+-- out: for an event; for a message that was to be sent; for that of bytes which the transport took, or gave. Or it was asked to
 -- drain, which no poll does.
 pub data Step : Type 0 where
   ticked : (moment : ℕ) → (expiry : Expiry) → Step
@@ -55,8 +55,8 @@ pub data Step : Type 0 where
 -- ---- of the connection
 
 -- the event came to the connection, was noted, and had such an outcome; its settings stay
-pub record Goes (old : LineView) (event : on.Event) (Says : on.Outcome → Type 0) (new : LineView) : Type 0 where
-  pub steps : LineSteps old event Says new
+pub record Goes (old : TracedView) (event : on.Event) (Says : on.Outcome → Type 0) (new : TracedView) : Type 0 where
+  pub steps : TracedSteps old event Says new
   pub settings : new.state.settings ≡ old.state.settings
 
 -- how it has ended after a tick
@@ -65,21 +65,21 @@ ending_at expiries.None ending = ending
 ending_at (expiries.Expired end) ending = ending
 ending_at expiries.Abandoned ending = Some Abandoned
 
--- the wire is given the first bytes that wait: some
+-- the transport is given the first bytes that wait: some
 pub record IsFront (v : View) (front : List ℕ) : Type 0 where
   pub rest : List ℕ
   pub first : front ++ rest ≡ buffered v
   pub some : 0 < length front
 
--- bytes that the wire took were written
-abbrev pub Wrote : LineView → LineView → Poll (Result ℕ Failed) → Type 0
+-- bytes that the transport took were written
+abbrev pub Wrote : TracedView → TracedView → Poll (Result ℕ Failed) → Type 0
 Wrote old new (Ready (Ok n)) =
     (n ≤ length old.state.kept.buffered) × Goes old (on.write n) (Is (on.gave (take n old.state.kept.buffered))) new
 Wrote old new (Ready (Err e)) = new ≡ old
 Wrote old new Pending = new ≡ old
 
 -- bytes that came were read; of none, the input has ended
-abbrev pub Took : LineView → LineView → List ℕ → Poll (Result ℕ Failed) → Type 0
+abbrev pub Took : TracedView → TracedView → List ℕ → Poll (Result ℕ Failed) → Type 0
 Took old new came (Ready (Ok n)) =
     ((n ≡ 0) × Goes old on.eof (Is on.done) new) ⊎ ((0 < n) × ((count : ℕ) × Goes old (on.read came) (Is (on.took count)) new))
 Took old new came (Ready (Err e)) = new ≡ old
@@ -153,21 +153,21 @@ MayFail v event = ⊥
 -- What a step takes, and what it leaves: all but what is named stays.
 abbrev pub IsStep : View → Step → View → Type 0
 IsStep v (ticked moment expiry) w =
-    Goes v.line (on.tick moment) (Is (expiry_of expiry)) w.line × (w ≡ record v { line = w.line; ending = ending_at expiry v.ending })
-IsStep v drained w = Goes v.line on.drain (Is on.done) w.line × (w ≡ record v { line = w.line })
+    Goes v.traced (on.tick moment) (Is (expiry_of expiry)) w.traced × (w ≡ record v { traced = w.traced; ending = ending_at expiry v.ending })
+IsStep v drained w = Goes v.traced on.drain (Is on.done) w.traced × (w ≡ record v { traced = w.traced })
 IsStep v (written answer) w =
-    (v.ending ≡ None) × ((front : List ℕ) × IsFront v front × WriteSays v.wire w.wire answer front) × Wrote v.line w.line answer
-    × (w ≡ record v { line = w.line; wire = w.wire })
+    (v.ending ≡ None) × ((front : List ℕ) × IsFront v front × WriteSays v.transport w.transport answer front) × Wrote v.traced w.traced answer
+    × (w ≡ record v { traced = w.traced; transport = w.transport })
 IsStep v (read came answer) w =
     (v.ending ≡ None) × (allows v on.eof ≡ true)
-    × ((buf : List ℕ) × (0 < length buf) × (length buf ≤ room v) × (came ≡ moved answer buf) × ReadSays v.wire w.wire answer buf)
-    × Took v.line w.line came answer × (w ≡ record v { line = w.line; wire = w.wire })
+    × ((buf : List ℕ) × (0 < length buf) × (length buf ≤ room v) × (came ≡ moved answer buf) × ReadSays v.transport w.transport answer buf)
+    × Took v.traced w.traced came answer × (w ≡ record v { traced = w.traced; transport = w.transport })
 IsStep v (shut answer) w =
-    ((end : End) × (v.ending ≡ Some (Closed end))) × ShutSays v.wire w.wire answer × (w ≡ record v { wire = w.wire })
+    ((end : End) × (v.ending ≡ Some (Closed end))) × ShutSays v.transport w.transport answer × (w ≡ record v { transport = w.transport })
 IsStep v (closed end) w =
-    (v.ending ≡ None) × (closing_by (setting_of v.line.state.settings) v.line.state.kept ≡ Some (end_of end))
-    × (allows_next v ≡ true) × ((head : NextHead) × Goes v.line on.next (SaysNext head) w.line)
-    × (w ≡ record v { line = w.line; ending = Some (Closed end) })
+    (v.ending ≡ None) × (closing_by (setting_of v.traced.state.settings) v.traced.state.kept ≡ Some (end_of end))
+    × (allows_next v ≡ true) × ((head : NextHead) × Goes v.traced on.next (SaysNext head) w.traced)
+    × (w ≡ record v { traced = w.traced; ending = Some (Closed end) })
 IsStep v (ready answer) w =
     GoesOn v × ((item : UpgradeItem) × (v.stage ≡ waiting item)) × TakesNone answer × ReadySays v.service w.service answer
     × (w ≡ record v { service = w.service })
@@ -178,27 +178,27 @@ IsStep v (answered answer) w =
     × (w ≡ record v { service = w.service; stage = stage_answered answer })
 IsStep v (pulled given) w =
     (v.ending ≡ None) × (v.stage ≡ free) × (allows_pull v ≡ true)
-    × ((outcome : Outcome) × (given ≡ given_of outcome) × Goes v.line on.pull (SaysOutcome outcome) w.line)
-    × (w ≡ record v { line = w.line; stage = stage_given given })
+    × ((outcome : Outcome) × (given ≡ given_of outcome) × Goes v.traced on.pull (SaysOutcome outcome) w.traced)
+    × (w ≡ record v { traced = w.traced; stage = stage_given given })
 IsStep v (sent message) w =
     (v.ending ≡ None) × (v.stage ≡ sending message) × (allows v (on.send (message_says message)) ≡ true)
-    × ((outcome : Outcome) × Goes v.line (on.send (message_says message)) (SaysOutcome outcome) w.line)
-    × (w ≡ record v { line = w.line; stage = free })
-IsStep v (failed event) w = MayFail v event × LineFails v.line event w.line × (w ≡ record v { line = w.line; ending = Some Broken })
+    × ((outcome : Outcome) × Goes v.traced (on.send (message_says message)) (SaysOutcome outcome) w.traced)
+    × (w ≡ record v { traced = w.traced; stage = free })
+IsStep v (failed event) w = MayFail v event × TracedFails v.traced event w.traced × (w ≡ record v { traced = w.traced; ending = Some Broken })
 IsStep v (unsent message) w =
     (v.ending ≡ None) × (v.stage ≡ sending message) × (allows v (on.send (message_says message)) ≡ true)
-    × LineFails v.line (on.send (message_says message)) w.line
-    × (w ≡ record v { line = w.line; stage = free; ending = Some Broken })
+    × TracedFails v.traced (on.send (message_says message)) w.traced
+    × (w ≡ record v { traced = w.traced; stage = free; ending = Some Broken })
 IsStep v (failed_write count) w =
-    (v.ending ≡ None) × ((front : List ℕ) × IsFront v front × WriteSays {E = Failed} v.wire w.wire (Ready (Ok count)) front)
-    × LineFails v.line (on.write count) w.line
-    × (w ≡ record v { line = w.line; wire = w.wire; ending = Some Broken })
+    (v.ending ≡ None) × ((front : List ℕ) × IsFront v front × WriteSays {E = Failed} v.transport w.transport (Ready (Ok count)) front)
+    × TracedFails v.traced (on.write count) w.traced
+    × (w ≡ record v { traced = w.traced; transport = w.transport; ending = Some Broken })
 IsStep v (failed_read came event) w =
     (v.ending ≡ None) × (allows v on.eof ≡ true)
     × ((buf : List ℕ) × (count : ℕ) × (0 < length buf) × (length buf ≤ room v) × (came ≡ take count buf)
-    × ReadSays {E = Failed} v.wire w.wire (Ready (Ok count)) buf × IsOfRead count came event)
-    × LineFails v.line event w.line
-    × (w ≡ record v { line = w.line; wire = w.wire; ending = Some Broken })
+    × ReadSays {E = Failed} v.transport w.transport (Ready (Ok count)) buf × IsOfRead count came event)
+    × TracedFails v.traced event w.traced
+    × (w ≡ record v { traced = w.traced; transport = w.transport; ending = Some Broken })
 IsStep v asked_to_drain w = w ≡ with_drain v
 
 -- one step after another

@@ -1,4 +1,4 @@
--- What the steps of a run are together: a trace of the connection, with the bytes that the wire moved, the frames that came and
+-- What the steps of a run are together: a trace of the connection, with the bytes that the transport moved, the frames that came and
 -- the messages that were sent.
 use Rattle.std.specs.Prelude.{◌≡◌, List, [], ◌∷◌, ◌++◌, map, ⊤, Option}
 use Rattle.std.specs.List.{AllByRecursion}
@@ -11,7 +11,7 @@ use Rattle.model_h1.specs.Sums as sums
 use Rattle.model_h1.specs.Sums.{taken, written}
 use Rattle.model_h1.specs.Trace.{IsTrace}
 use Rattle.h1_connection.specs.Steps.{Pair}
-use Rattle.h1_traced.specs.Line.{SaysNoted, LineStands}
+use Rattle.h1_traced.specs.Traced.{SaysNoted, TracedStands}
 use Rattle.ws_service.specs.declared.item.UpgradeItem.{UpgradeItem}
 use Rattle.ws_service.specs.declared.item.UpgradeItem.TheVariants as items
 use Rattle.ws_service.specs.View.{View}
@@ -51,19 +51,19 @@ abbrev pub messages_in : List sums.Step → List said.Message
 messages_in trace = gathered (λ s. of_message s.event) trace
 
 -- After this trace these steps of the connection came, the newest first, and the connection and what was noted stand for all
--- of them. What the wire received is what their reads took, and what it sent is what was written. The frames that they hand
+-- of them. What the transport received is what their reads took, and what it sent is what was written. The frames that they hand
 -- out came to the dispatcher, and the messages that they send are those that it sent.
 pub record Follows (v w : View) (trace : List sums.Step) (came : List UpgradeItem) (gone : List said.Message) : Type 0 where
   pub more : List sums.Step
-  pub stands : LineStands w.line (more ++ trace)
-  pub received : Grows v.wire.received w.wire.received (taken more)
-  pub sent_so : Grows v.wire.sent w.wire.sent (written more)
+  pub stands : TracedStands w.traced (more ++ trace)
+  pub received : Grows v.transport.received w.transport.received (taken more)
+  pub sent_so : Grows v.transport.sent w.transport.sent (written more)
   pub came_so : frames_in more ≡ came
   pub gone_so : messages_in more ≡ gone
 
 -- this holds after each trace that the connection stood for
 abbrev pub AreTraces : View → List Step → View → Type 0
-AreTraces v steps w = (trace : List sums.Step) → LineStands v.line trace → Follows v w trace (frames steps) (map message_says (sends steps))
+AreTraces v steps w = (trace : List sums.Step) → TracedStands v.traced trace → Follows v w trace (frames steps) (map message_says (sends steps))
 
 -- What was noted is a trace of a connection with these settings, which has this one at its end, as the newest step comes first.
 pub record NotesTrace (setting : Setting) (noted : Option (List Pair)) (trace : List sums.Step) : Type 0 where

@@ -11,7 +11,7 @@ use Rattle.model_h1.specs.Frame as said
 use Rattle.h1_connection.specs.Given.{next_allowed, frame_allowed}
 use Rattle.h1_connection.specs.Meaning.{setting_of}
 use Rattle.h1_connection.specs.Steps.{Pair}
-use Rattle.h1_traced.specs.Line.{LineView, line_of}
+use Rattle.h1_traced.specs.Traced.{TracedView, traced_of}
 use Rattle.ws_service.specs.declared.item.UpgradeItem.{UpgradeItem}
 use Rattle.ws_service.specs.declared.item.UpgradeItem.TheVariants as items
 use Rattle.ws_service.specs.declared.dispatcher.UpgradeDispatcher.{UpgradeDispatcher}
@@ -49,11 +49,11 @@ stage_of (Waiting item) = waiting item
 stage_of (Called call) = calling
 stage_of (Sending message) = sending message
 
--- The connection with the steps that were noted; the wire; the service, and how far it is; how the connection has ended; and
+-- The connection with the steps that were noted; the transport; the service, and how far it is; how the connection has ended; and
 -- that it is to be drained.
 pub record View : Type 0 where
-  pub line : LineView
-  pub wire : Wiring
+  pub traced : TracedView
+  pub transport : Wiring
   pub service : Upgrading
   pub stage : Stage
   pub ending : Option Ending
@@ -62,8 +62,8 @@ pub record View : Type 0 where
 abbrev pub view_of : {T U C L : Type 0} → (T → Wiring) → (U → Upgrading) → (L → Option (List Pair)) → UpgradeDispatcher T U C L → View
 view_of wiring served noted d =
     record {
-      line = line_of noted d.line;
-      wire = wiring d.wire;
+      traced = traced_of noted d.traced;
+      transport = wiring d.transport;
       service = served d.service;
       stage = stage_of d.work;
       ending = d.ending;
@@ -71,17 +71,17 @@ view_of wiring served noted d =
     }
 
 -- a new one, which has this request to give to the service
-abbrev pub view_begun : RequestParts Unit Unit → LineView → Wiring → Upgrading → View
-view_begun request line wire service =
-    record { line = line; wire = wire; service = service; stage = waiting (items.Open request); ending = None; draining = false }
+abbrev pub view_begun : RequestParts Unit Unit → TracedView → Wiring → Upgrading → View
+view_begun request traced transport service =
+    record { traced = traced; transport = transport; service = service; stage = waiting (items.Open request); ending = None; draining = false }
 
 -- the same, to be drained
 abbrev pub with_drain : View → View
 with_drain v = record v { draining = true }
 
--- the wire, the service and the recorder
+-- the transport, the service and the recorder
 abbrev pub parts_of : {T U C L : Type 0} → UpgradeDispatcher T U C L → T × U × L
-parts_of d = (d.wire, d.service, d.line.recorder)
+parts_of d = (d.transport, d.service, d.traced.recorder)
 
 -- memory ran out
 abbrev pub is_broken : Option Ending → Bool
@@ -104,19 +104,19 @@ MayBePolled calls d = IsCallOpen calls d.work
 
 -- it closes
 abbrev pub closes : View → Bool
-closes v = is_some (closing_by (setting_of v.line.state.settings) v.line.state.kept)
+closes v = is_some (closing_by (setting_of v.traced.state.settings) v.traced.state.kept)
 
 -- the event may come
 abbrev pub allows : View → on.Event → Bool
-allows v event = allowed_by (setting_of v.line.state.settings) v.line.state.kept event
+allows v event = allowed_by (setting_of v.traced.state.settings) v.traced.state.kept event
 
 -- a connection that closes may be asked for its end: all is written
 abbrev pub allows_next : View → Bool
-allows_next v = next_allowed (setting_of v.line.state.settings) v.line.state.kept
+allows_next v = next_allowed (setting_of v.traced.state.settings) v.traced.state.kept
 
 -- the next frame may be asked for
 abbrev pub allows_pull : View → Bool
-allows_pull v = frame_allowed (setting_of v.line.state.settings) v.line.state.kept
+allows_pull v = frame_allowed (setting_of v.traced.state.settings) v.traced.state.kept
 
 -- a message may be sent, whichever it is: there is room
 abbrev pub allows_send : View → Bool
@@ -124,11 +124,11 @@ allows_send v = allows v (on.send said.nop)
 
 -- the bytes that wait to be written
 abbrev pub buffered : View → List ℕ
-buffered v = v.line.state.kept.buffered
+buffered v = v.traced.state.kept.buffered
 
 -- how many more bytes may be held
 abbrev pub room : View → ℕ
-room v = v.line.state.settings.h1_hold_size - length v.line.state.kept.unread
+room v = v.traced.state.settings.h1_hold_size - length v.traced.state.kept.unread
 
 -- nothing waits to be written, or nothing may be written any more
 abbrev pub HasNoOutput : View → Type 0

@@ -2,15 +2,15 @@
 ghost use Rattle.std.specs.Prelude.{◌≡◌};
 ghost use Rattle.model_state.specs.Deadline.{deadline_by};
 ghost use Rattle.h1_connection.specs.Meaning.{setting_of};
-ghost use Rattle.h1_traced.specs.Line.{line_of};
+ghost use Rattle.h1_traced.specs.Traced.{traced_of};
 ghost use Rattle.ws_service.specs.View.{view_of, view_begun, with_drain, parts_of, MayBePolled};
 
 use crate::error::UpgradeError;
 use crate::item::UpgradeItem;
 use h1_connection::{End, Message};
-use h1_traced::{Line, Recorder};
+use h1_traced::{Recorder, Traced};
 use http_services::Service;
-use http_transport::Wire;
+use http_transport::Transport;
 use http_types::{Error, Request};
 
 mod begin;
@@ -23,13 +23,13 @@ mod write;
 /// How an upgraded connection has ended: nothing more is asked of it.
 #[derive(Clone, Copy, Debug, PartialEq, Eq)]
 pub enum Ending {
-    /// It told its end, and the wire is to be shut down.
+    /// It told its end, and the transport is to be shut down.
     Closed(End),
 
-    /// The peer took too long to take what was left. The wire isn't shut down.
+    /// The peer took too long to take what was left. The transport isn't shut down.
     Abandoned,
 
-    /// Memory ran out. The wire isn't shut down: bytes that it took or gave may be lost.
+    /// Memory ran out. The transport isn't shut down: bytes that it took or gave may be lost.
     Broken,
 }
 
@@ -49,7 +49,7 @@ enum Work<C> {
     Sending(Message),
 }
 
-/// A service over an upgraded connection. The parameters are the wire, the service and its call, and who notes the steps of
+/// A service over an upgraded connection. The parameters are the transport, the service and its call, and who notes the steps of
 /// the connection.
 ///
 /// The service is called with the request that asked for the upgrade, and then with each frame, one after another: the next
@@ -57,8 +57,8 @@ enum Work<C> {
 /// answer that waits for room is sent once fewer bytes wait to be written than the settings' write buffer size.
 #[derive(Drop)]
 pub struct UpgradeDispatcher<T, U, C, L> {
-    line: Line<L>,
-    wire: T,
+    traced: Traced<L>,
+    transport: T,
     service: U,
     work: Work<C>,
     ending: Option<Ending>,
@@ -67,7 +67,7 @@ pub struct UpgradeDispatcher<T, U, C, L> {
 
 impl<T, U, L> UpgradeDispatcher<T, U, U::Call, L>
 where
-    T: Wire,
+    T: Transport,
     U: Service<UpgradeItem, Response = Message, Error = Error, Lent = ()>,
     L: Recorder,
 {
@@ -75,16 +75,16 @@ where
     /// wait to be written still, and so may bytes that came behind the request wait to be read as frames. It takes no memory.
     pub fn new(
         request: Request<(), ()>,
-        line: Line<L>,
-        wire: T,
+        traced: Traced<L>,
+        transport: T,
         service: U,
     ) -> UpgradeDispatcher<T, U, U::Call, L>
-        ensures view { view_of T.wiring U.served L.noted result ≡ view_begun request (line_of L.noted line) (T.wiring wire) (U.served service) }
+        ensures view { view_of T.wiring U.served L.noted result ≡ view_begun request (traced_of L.noted traced) (T.wiring transport) (U.served service) }
         ensures open { MayBePolled U.calling result }
     {
         UpgradeDispatcher {
-            line,
-            wire,
+            traced,
+            transport,
             service,
             work: Work::Waiting(UpgradeItem::Open(request)),
             ending: None,
@@ -104,9 +104,9 @@ where
     /// The least moment at which a poll would tell that a time has run out, in milliseconds after the start of 1970; none
     /// where none would. Who polls it does so then, if the task isn't woken before.
     pub fn deadline(&self) -> Option<u64>
-        ensures { result ≡ deadline_by (setting_of (view_of T.wiring U.served L.noted self.now).line.state.settings) (view_of T.wiring U.served L.noted self.now).line.state.kept }
+        ensures { result ≡ deadline_by (setting_of (view_of T.wiring U.served L.noted self.now).traced.state.settings) (view_of T.wiring U.served L.noted self.now).traced.state.kept }
     {
-        self.line.connection().deadline()
+        self.traced.connection().deadline()
     }
 
     /// How the connection has ended, where it has.
@@ -123,12 +123,12 @@ where
         &self.service
     }
 
-    /// The wire, the service, and who noted the steps. What waits, or a call in progress, is dropped.
+    /// The transport, the service, and who noted the steps. What waits, or a call in progress, is dropped.
     pub fn into_parts(self) -> (T, U, L)
         ensures { result ≡ parts_of self }
     {
-        let (_connection, recorder) = self.line.into_parts();
-        (self.wire, self.service, recorder)
+        let (_connection, recorder) = self.traced.into_parts();
+        (self.transport, self.service, recorder)
     }
 }
 

@@ -8,7 +8,7 @@ ghost use Rattle.http_types.specs.Request.{RequestParts};
 ghost use Rattle.http_transport.specs.Wiring.{Wiring};
 ghost use Rattle.model_h1.specs.Sums as sums;
 ghost use Rattle.h1_connection.specs.Meaning.{setting_of};
-ghost use Rattle.h1_traced.specs.Line.{LineView, LineStands};
+ghost use Rattle.h1_traced.specs.Traced.{TracedView, TracedStands};
 ghost use Rattle.ws_service.specs.declared.error.UpgradeError.{UpgradeError};
 ghost use Rattle.ws_service.specs.View.{View, Upgrading, closes, view_begun};
 ghost use Rattle.ws_service.specs.Steps.{Step, IsStep, IsRun, read};
@@ -22,12 +22,12 @@ ghost use Rattle.ws_service.specs.Causes.{HasCause, IsOneRun};
 /// the upgrade comes before all frames.
 pub fn frames_go_in_order()
     ensures runs { (v w : View) (steps : List Step) → IsRun v steps w → KeepsOrder v steps w }
-    ensures starts { (request : RequestParts Unit Unit) (line : LineView) (wire : Wiring) (service : Upgrading) (w : View) (steps : List Step)
-        → IsRun (view_begun request line wire service) steps w → StartsWith request steps w }
+    ensures starts { (request : RequestParts Unit Unit) (traced : TracedView) (transport : Wiring) (service : Upgrading) (w : View) (steps : List Step)
+        → IsRun (view_begun request traced transport service) steps w → StartsWith request steps w }
 {}
 
 /// Over every run in which memory doesn't run out, the steps of the connection that were noted are a trace of it, whatever came
-/// before: its reads took what the wire gave, all of it and in order, and what the wire took is what was written. The frames
+/// before: its reads took what the transport gave, all of it and in order, and what the transport took is what was written. The frames
 /// that the trace hands out came to the dispatcher, and the messages that it sends are those that the dispatcher sent, each in
 /// order, and no other.
 pub fn runs_are_traces()
@@ -37,7 +37,7 @@ pub fn runs_are_traces()
 /// After the first step of a run in which memory runs out, what was noted is a trace of the connection still, whatever came
 /// before.
 pub fn runs_note_traces()
-    ensures { (v u w : View) (steps : List Step) (step : Step) (trace : List sums.Step) → LineStands v.line trace → AllNoted steps → IsRun v steps u → ¬ IsNoted step → IsStep u step w → NotesTrace (setting_of u.line.state.settings) w.line.noted trace }
+    ensures { (v u w : View) (steps : List Step) (step : Step) (trace : List sums.Step) → TracedStands v.traced trace → AllNoted steps → IsRun v steps u → ¬ IsNoted step → IsStep u step w → NotesTrace (setting_of u.traced.state.settings) w.traced.noted trace }
 {}
 
 /// A poll is one run of steps: the moment, the drain and the turns. Memory runs out in none of them, unless the poll answered
@@ -46,8 +46,8 @@ pub fn polls_are_runs()
     ensures { (v w : View) (cx : Context) (moment : ℕ) (result : Poll (Result Unit UpgradeError)) → PollSays v w cx moment result → IsOneRun v w result }
 {}
 
-/// Each result of a poll has its cause. Ok comes only where the connection told its end, and the wire shows that it was shut
-/// down; `Upgrade` only where the service's count of failures rose in this poll, and `Io` only where the wire's did;
+/// Each result of a poll has its cause. Ok comes only where the connection told its end, and the transport shows that it was shut
+/// down; `Upgrade` only where the service's count of failures rose in this poll, and `Io` only where the transport's did;
 /// `DisconnectTimeout` only where a moment abandoned the connection; `NoMemory` only where memory ran out in it or before.
 pub fn polls_end_by_their_cause()
     ensures { (v w : View) (cx : Context) (moment : ℕ) (result : Result Unit UpgradeError) → PollSays v w cx moment (Ready result) → HasCause v w result }

@@ -4,9 +4,9 @@
 //!
 //! ```ignore
 //! // A connection of which an upgrade was accepted, with the request that asked for it.
-//! let mut upgraded = UpgradeDispatcher::new(request, line, wire, service);
+//! let mut upgraded = UpgradeDispatcher::new(request, traced, transport, service);
 //! match upgraded.poll(now_ms, cx) {
-//!     Poll::Ready(Ok(())) => {}        // the connection has ended, and the wire is shut down
+//!     Poll::Ready(Ok(())) => {}        // the connection has ended, and the transport is shut down
 //!     Poll::Ready(Err(error)) => {}    // why it broke off
 //!     Poll::Pending => {}              // the task is woken once it is worth another poll
 //! }
@@ -15,7 +15,7 @@
 //! # Contract
 //!
 //! A poll says by which steps it came from one view to another, as `h1_dispatcher` does for requests: a moment that came, bytes
-//! that the wire took or gave, a frame that was asked for, a call that was begun or polled, a message that was sent. Over every
+//! that the transport took or gave, a frame that was asked for, a call that was begun or polled, a message that was sent. Over every
 //! run of steps the service is called with the request and then with the frames that came, in order and once each, and what is
 //! sent are its answers, in order and once each ([`frames_go_in_order`]).
 #![tactic(auto)]

@@ -3,7 +3,7 @@ ghost use Rattle.std.specs.Prelude.{◌≡◌, List, None, true, false};
 ghost use Rattle.futures.specs.Task.{IsArmed, Keeps};
 ghost use Rattle.model_h1.specs.Event as on;
 ghost use Rattle.model_h1.specs.Sums as sums;
-ghost use Rattle.h1_traced.specs.Line.{LineStands};
+ghost use Rattle.h1_traced.specs.Traced.{TracedStands};
 ghost use Rattle.h1_dispatcher.specs.View.{view_of, stage_of, is_calling, is_replying, MayBePolled, allows, allows_answer};
 ghost use Rattle.h1_dispatcher.specs.Polls.{OnIdle, ServeSays, EndSays, StepSays, Handed};
 
@@ -13,13 +13,13 @@ use h1_traced::Recorder;
 use http_bodies::MessageBody;
 use http_services::Service;
 use http_services::h1::Payload;
-use http_transport::Wire;
+use http_transport::Transport;
 use http_types::{DispatchError, Request, Response};
 use std::mem;
 
 impl<T, S, L, B> Dispatcher<T, S, S::Call, L, B>
 where
-    T: Wire,
+    T: Transport,
     S: Service<Request<(), ()>, Response = Response<B>, Error = Response<B>, Lent = Payload>,
     B: MessageBody,
     L: Recorder,
@@ -58,13 +58,13 @@ where
         requires allowed { allows_answer (view_of T.wiring S.served S.calling B.gives L.noted self.old) ≡ true }
         requires answered { is_replying (stage_of S.calling B.gives self.old.work) ≡ true }
         ensures says { EndSays 2 (view_of T.wiring S.served S.calling B.gives L.noted self.old) (view_of T.wiring S.served S.calling B.gives L.noted self.new) result }
-        ensures handed { (trace : List sums.Step) → LineStands (view_of T.wiring S.served S.calling B.gives L.noted self.old).line trace → Handed (view_of T.wiring S.served S.calling B.gives L.noted self.new) result }
+        ensures handed { (trace : List sums.Step) → TracedStands (view_of T.wiring S.served S.calling B.gives L.noted self.old).traced trace → Handed (view_of T.wiring S.served S.calling B.gives L.noted self.new) result }
         ensures open { MayBePolled S.calling self.new }
     {
-        if !self.line.connection().can_pull() {
+        if !self.traced.connection().can_pull() {
             return self.put_reply();
         }
-        match self.line.drop_body() {
+        match self.traced.drop_body() {
             Ok(()) => self.put_reply_if_allowed(),
             Err(_) => {
                 self.ending = Some(Ending::Broken);
@@ -82,10 +82,10 @@ where
         ensures handed { allows (view_of T.wiring S.served S.calling B.gives L.noted self.old) on.drop_body ≡ false → allows_answer (view_of T.wiring S.served S.calling B.gives L.noted self.old) ≡ true → Handed (view_of T.wiring S.served S.calling B.gives L.noted self.new) result }
         ensures open { MayBePolled S.calling self.new }
     {
-        if self.line.connection().can_pull() {
+        if self.traced.connection().can_pull() {
             return Turn::Counted;
         }
-        if !self.line.connection().can_answer() {
+        if !self.traced.connection().can_answer() {
             return Turn::Counted;
         }
         self.put_reply()
@@ -107,7 +107,7 @@ where
             unreachable!()
         };
         let size = response.body().size();
-        match self.line.answer(response.head(), size) {
+        match self.traced.answer(response.head(), size) {
             Ok(()) => {
                 self.queue = Payload::create(self.alloc, true);
                 if size.is_eof() {

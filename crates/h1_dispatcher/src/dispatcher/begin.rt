@@ -8,12 +8,12 @@ use h1_traced::Recorder;
 use http_bodies::MessageBody;
 use http_services::Service;
 use http_services::h1::Payload;
-use http_transport::Wire;
+use http_transport::Transport;
 use http_types::{Request, Response};
 
 impl<T, S, L, B> Dispatcher<T, S, S::Call, L, B>
 where
-    T: Wire,
+    T: Transport,
     S: Service<Request<(), ()>, Response = Response<B>, Error = Response<B>, Lent = Payload>,
     B: MessageBody,
     L: Recorder,
@@ -35,10 +35,10 @@ where
         ensures says { TickSays (view_of T.wiring S.served S.calling B.gives L.noted self.old) moment (view_of T.wiring S.served S.calling B.gives L.noted self.new) result }
         ensures open { MayBePolled S.calling self.new }
     {
-        if !self.line.connection().can_tick(moment) {
+        if !self.traced.connection().can_tick(moment) {
             return Ok(());
         }
-        match self.line.tick(moment) {
+        match self.traced.tick(moment) {
             Ok(Expiry::Abandoned) => {
                 self.ending = Some(Ending::Abandoned);
                 Ok(())
@@ -60,10 +60,10 @@ where
         if !self.is_draining {
             return Ok(());
         }
-        if !self.line.connection().can_drain() {
+        if !self.traced.connection().can_drain() {
             return Ok(());
         }
-        match self.line.drain() {
+        match self.traced.drain() {
             Ok(()) => Ok(()),
             Err(error) => {
                 self.ending = Some(Ending::Broken);

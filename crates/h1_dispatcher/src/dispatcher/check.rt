@@ -11,12 +11,12 @@ use h1_traced::Recorder;
 use http_bodies::MessageBody;
 use http_services::Service;
 use http_services::h1::Payload;
-use http_transport::Wire;
+use http_transport::Transport;
 use http_types::{Request, Response};
 
 impl<T, S, L, B> Dispatcher<T, S, S::Call, L, B>
 where
-    T: Wire,
+    T: Transport,
     S: Service<Request<(), ()>, Response = Response<B>, Error = Response<B>, Lent = Payload>,
     B: MessageBody,
     L: Recorder,
@@ -82,7 +82,7 @@ where
         if !self.is_held() {
             return false;
         }
-        if !self.line.connection().can_answer() {
+        if !self.traced.connection().can_answer() {
             return false;
         }
         self.has_room()
@@ -104,6 +104,6 @@ where
         if !self.is_checking {
             return false;
         }
-        self.line.connection().can_continue()
+        self.traced.connection().can_continue()
     }
 }

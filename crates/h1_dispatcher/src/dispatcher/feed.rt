@@ -15,12 +15,12 @@ use h1_traced::Recorder;
 use http_bodies::MessageBody;
 use http_services::h1::Payload;
 use http_services::{PayloadStatus, Service};
-use http_transport::Wire;
+use http_transport::Transport;
 use http_types::{DispatchError, PayloadError, Request, Response};
 
 impl<T, S, L, B> Dispatcher<T, S, S::Call, L, B>
 where
-    T: Wire,
+    T: Transport,
     S: Service<Request<(), ()>, Response = Response<B>, Error = Response<B>, Lent = Payload>,
     B: MessageBody,
     L: Recorder,
@@ -38,7 +38,7 @@ where
         ensures registered { OnIdle result (IsArmed cx.new) }
         ensures kept { Keeps cx.old cx.new }
     {
-        if !self.line.connection().can_pull() {
+        if !self.traced.connection().can_pull() {
             return self.read_on(cx);
         }
         match self.wish(cx) {
@@ -62,10 +62,10 @@ where
         ensures registered { OnIdle result (IsArmed cx.new) }
         ensures kept { Keeps cx.old cx.new }
     {
-        if self.line.connection().buffered() == 0 {
+        if self.traced.connection().buffered() == 0 {
             return self.feed_woken(cx);
         }
-        if !self.line.connection().can_write() {
+        if !self.traced.connection().can_write() {
             return self.feed_woken(cx);
         }
         self.feed(cx)
@@ -109,7 +109,7 @@ where
         ensures registered { OnIdle result (IsArmed cx.new) }
         ensures kept { Keeps cx.old cx.new }
     {
-        match self.line.pull() {
+        match self.traced.pull() {
             Ok(Pulled::Pending) => self.read_on(cx),
             Ok(Pulled::Bytes(bytes)) => match self.queue.sender().feed_data(bytes) {
                 Ok(()) => Turn::Counted,

@@ -11,12 +11,12 @@ use h1_traced::Recorder;
 use http_bodies::MessageBody;
 use http_services::Service;
 use http_services::h1::Payload;
-use http_transport::Wire;
+use http_transport::Transport;
 use http_types::{DispatchError, Request, Response};
 
 impl<T, S, L, B> Dispatcher<T, S, S::Call, L, B>
 where
-    T: Wire,
+    T: Transport,
     S: Service<Request<(), ()>, Response = Response<B>, Error = Response<B>, Lent = Payload>,
     B: MessageBody,
     L: Recorder,
@@ -25,7 +25,7 @@ where
     ///
     /// The moment is told to the connection, and then the drain, where it was asked for and is allowed. Then come at most
     /// 64 turns, of at most five steps each, each the first of these that is possible: what is buffered is written; a
-    /// connection that closes tells its end, and the wire is shut down; the body of an answer is polled, where there is room
+    /// connection that closes tells its end, and the transport is shut down; the body of an answer is polled, where there is room
     /// for a piece of it, and what comes is handed on; the answer of the call in progress is handed on, once what is left of
     /// the request's body was dropped; a client that waits to be told to go on is told so, and then its request goes to the
     /// service, where there is room for the answer; more of the body is fed to its queue, where the queue wants it; the next
@@ -41,9 +41,9 @@ where
     ///
     /// # Errors
     ///
-    /// `Parse`, `SlowRequestTimeout` and `Body` where the connection ended by such an end, and the wire is shut down: `Body`
+    /// `Parse`, `SlowRequestTimeout` and `Body` where the connection ended by such an end, and the transport is shut down: `Body`
     /// where an answer's body failed, or ended before the length that its answer had stated. `DisconnectTimeout` where the
-    /// peer took too long to take what was left. `Io` where the wire failed. `NoMemory` where memory ran out, in a body too:
+    /// peer took too long to take what was left. `Io` where the transport failed. `NoMemory` where memory ran out, in a body too:
     /// what was noted stays a trace, and the last step may not have been noted. From then on each poll answers `NoMemory`
     /// and does nothing. No other.
     pub fn poll(&mut self, moment: u64, cx: &mut Context<'_>) -> Poll<Result<(), DispatchError>>

@@ -14,7 +14,7 @@ use http_bodies::MessageBody;
 use http_config::Failed;
 use http_services::Service;
 use http_services::h1::Payload;
-use http_transport::Wire;
+use http_transport::Transport;
 use http_types::{DispatchError, Request, Response};
 
 // How much room a read is lent until one fills it: a browser's head mostly has no more bytes.
@@ -22,7 +22,7 @@ const FEW_BYTES: usize = 1024;
 
 impl<T, S, L, B> Dispatcher<T, S, S::Call, L, B>
 where
-    T: Wire,
+    T: Transport,
     S: Service<Request<(), ()>, Response = Response<B>, Error = Response<B>, Lent = Payload>,
     B: MessageBody,
     L: Recorder,
@@ -36,11 +36,11 @@ where
         ensures registered { OnIdle result (IsArmed cx.new) }
         ensures kept { Keeps cx.old cx.new }
     {
-        let room = self.line.connection().read_room();
+        let room = self.traced.connection().read_room();
         if room == 0 {
             return wake(cx);
         }
-        if !self.line.connection().can_read() {
+        if !self.traced.connection().can_read() {
             return wake(cx);
         }
         self.read_up_to(room, cx)
@@ -56,11 +56,11 @@ where
         ensures registered { OnIdle result (IsArmed cx.new) }
         ensures kept { Keeps cx.old cx.new }
     {
-        let room = self.line.connection().read_room();
+        let room = self.traced.connection().read_room();
         if room == 0 {
             return Turn::Idle;
         }
-        if !self.line.connection().can_read() {
+        if !self.traced.connection().can_read() {
             return Turn::Idle;
         }
         self.read_up_to(room, cx)
@@ -77,10 +77,10 @@ where
         ensures registered { OnIdle result (IsArmed cx.new) }
         ensures kept { Keeps cx.old cx.new }
     {
-        if self.line.connection().buffered() == 0 {
+        if self.traced.connection().buffered() == 0 {
             return self.read_alone(cx);
         }
-        if !self.line.connection().can_write() {
+        if !self.traced.connection().can_write() {
             return self.read_alone(cx);
         }
         self.read_on(cx)
@@ -137,10 +137,10 @@ where
         ensures registered { OnIdle result (IsArmed cx.new) }
         ensures kept { Keeps cx.old cx.new }
     {
-        match self.wire.poll_read(buf, cx) {
+        match self.transport.poll_read(buf, cx) {
             Poll::Pending => Turn::Idle,
             Poll::Ready(Err(Failed)) => Turn::Over(Err(DispatchError::Io)),
-            Poll::Ready(Ok(0)) => match self.line.eof() {
+            Poll::Ready(Ok(0)) => match self.traced.eof() {
                 Ok(()) => Turn::Counted,
                 Err(_) => {
                     self.ending = Some(Ending::Broken);
@@ -149,7 +149,7 @@ where
             },
             Poll::Ready(Ok(count)) => {
                 self.has_filled_read = count == buf.len();
-                match self.line.read(&buf[..count]) {
+                match self.traced.read(&buf[..count]) {
                     Ok(_) => Turn::Counted,
                     Err(_) => {
                         self.ending = Some(Ending::Broken);

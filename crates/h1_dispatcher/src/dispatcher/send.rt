@@ -14,14 +14,14 @@ use h1_traced::Recorder;
 use http_bodies::{BodyFault, MessageBody};
 use http_services::Service;
 use http_services::h1::Payload;
-use http_transport::Wire;
+use http_transport::Transport;
 use http_types::{DispatchError, Request, Response};
 use std::alloc::AllocError;
 use std::mem;
 
 impl<T, S, L, B> Dispatcher<T, S, S::Call, L, B>
 where
-    T: Wire,
+    T: Transport,
     S: Service<Request<(), ()>, Response = Response<B>, Error = Response<B>, Lent = Payload>,
     B: MessageBody,
     L: Recorder,
@@ -37,7 +37,7 @@ where
         ensures registered { OnIdle result (IsArmed cx.new) }
         ensures kept { Keeps cx.old cx.new }
     {
-        if self.line.connection().can_chunk() {
+        if self.traced.connection().can_chunk() {
             return self.poll_body(cx);
         }
         self.read_beside(cx)
@@ -62,7 +62,7 @@ where
                 self.work = Work::Sending(body);
                 self.read_on(cx)
             }
-            Poll::Ready(None) => match self.line.end_answer() {
+            Poll::Ready(None) => match self.traced.end_answer() {
                 Ok(()) => Turn::Counted,
                 Err(_) => {
                     self.work = Work::Sending(body);
@@ -86,13 +86,13 @@ where
     /// Hands on what came of the body: a chunk, or that it failed, and then the connection closes.
     fn put_piece(&mut self, piece: Result<Bytes, BodyFault>) -> Result<(), NoMemory>
         requires allowed { allows_chunk (view_of T.wiring S.served S.calling B.gives L.noted self.old) ≡ true }
-        ensures ok { OnOk result (Sent (view_of T.wiring S.served S.calling B.gives L.noted self.old).line (view_of T.wiring S.served S.calling B.gives L.noted self.new).line (Ready (Some piece))) }
-        ensures err { OnErr result (Lacked (view_of T.wiring S.served S.calling B.gives L.noted self.old).line (view_of T.wiring S.served S.calling B.gives L.noted self.new).line (Ready (Some piece))) }
-        ensures stays { self.new ≡ record self.old { line = self.new.line } }
+        ensures ok { OnOk result (Sent (view_of T.wiring S.served S.calling B.gives L.noted self.old).traced (view_of T.wiring S.served S.calling B.gives L.noted self.new).traced (Ready (Some piece))) }
+        ensures err { OnErr result (Lacked (view_of T.wiring S.served S.calling B.gives L.noted self.old).traced (view_of T.wiring S.served S.calling B.gives L.noted self.new).traced (Ready (Some piece))) }
+        ensures stays { self.new ≡ record self.old { traced = self.new.traced } }
     {
         match piece {
-            Ok(bytes) => self.line.chunk(bytes),
-            Err(BodyFault::Body(_)) => self.line.fail_answer(),
+            Ok(bytes) => self.traced.chunk(bytes),
+            Err(BodyFault::Body(_)) => self.traced.fail_answer(),
             Err(BodyFault::NoMemory) => Err(AllocError),
         }
     }

@@ -13,13 +13,13 @@ use h1_traced::Recorder;
 use http_bodies::MessageBody;
 use http_services::Service;
 use http_services::h1::Payload;
-use http_transport::Wire;
+use http_transport::Transport;
 use http_types::{DispatchError, Request, Response};
 use std::mem;
 
 impl<T, S, L, B> Dispatcher<T, S, S::Call, L, B>
 where
-    T: Wire,
+    T: Transport,
     S: Service<Request<(), ()>, Response = Response<B>, Error = Response<B>, Lent = Payload>,
     B: MessageBody,
     L: Recorder,
@@ -38,22 +38,22 @@ where
         if self.work.is_sending() {
             return self.send(cx);
         }
-        if self.line.connection().can_answer() {
+        if self.traced.connection().can_answer() {
             return self.respond(cx);
         }
         if self.work.is_busy() {
             return self.read_alone(cx);
         }
-        if !self.line.connection().can_next() {
+        if !self.traced.connection().can_next() {
             return self.read_alone(cx);
         }
         if !self.has_room() {
             return self.read_beside(cx);
         }
-        if self.line.connection().held() != 0 {
+        if self.traced.connection().held() != 0 {
             return self.next(cx);
         }
-        if self.line.connection().read_room() == 0 {
+        if self.traced.connection().read_room() == 0 {
             return self.next(cx);
         }
         self.read_alone(cx)
@@ -63,7 +63,7 @@ where
     pub(super) fn has_room(&self) -> bool
         ensures { result ≡ has_write_room (view_of T.wiring S.served S.calling B.gives L.noted self.now) }
     {
-        0 < self.line.connection().write_room()
+        0 < self.traced.connection().write_room()
     }
 
     /// Goes on with the open request: its answer, its call, or the service.
@@ -107,7 +107,7 @@ where
         if !has_room {
             return self.feed_beside(cx);
         }
-        let waits = self.line.connection().can_continue();
+        let waits = self.traced.connection().can_continue();
         if waits {
             return self.tell_on();
         }
@@ -125,7 +125,7 @@ where
         ensures says { EndSays 1 (view_of T.wiring S.served S.calling B.gives L.noted self.old) (view_of T.wiring S.served S.calling B.gives L.noted self.new) result }
         ensures open { MayBePolled S.calling self.new }
     {
-        match self.line.send_continue() {
+        match self.traced.send_continue() {
             Ok(()) => Turn::Counted,
             Err(_) => {
                 self.ending = Some(Ending::Broken);
@@ -147,7 +147,7 @@ where
         ensures registered { OnIdle result (IsArmed cx.new) }
         ensures kept { Keeps cx.old cx.new }
     {
-        match self.line.next() {
+        match self.traced.next() {
             Ok(NextHead::Head(item)) => {
                 let has_ended = is_bodyless(item.body);
                 self.queue = Payload::create(self.alloc, has_ended);

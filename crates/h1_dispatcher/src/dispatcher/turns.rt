@@ -13,12 +13,12 @@ use http_bodies::MessageBody;
 use http_config::Failed;
 use http_services::Service;
 use http_services::h1::Payload;
-use http_transport::Wire;
+use http_transport::Transport;
 use http_types::{DispatchError, ParseError, Request, Response};
 
 impl<T, S, L, B> Dispatcher<T, S, S::Call, L, B>
 where
-    T: Wire,
+    T: Transport,
     S: Service<Request<(), ()>, Response = Response<B>, Error = Response<B>, Lent = Payload>,
     B: MessageBody,
     L: Recorder,
@@ -40,7 +40,7 @@ where
         }
     }
 
-    /// Shuts the wire down.
+    /// Shuts the transport down.
     fn shut(&mut self, end: End, cx: &mut Context<'_>) -> Turn
         requires open { MayBePolled S.calling self.old }
         requires ended { self.old.ending ≡ Some (Closed end) }
@@ -49,7 +49,7 @@ where
         ensures registered { OnIdle result (IsArmed cx.new) }
         ensures kept { Keeps cx.old cx.new }
     {
-        match self.wire.poll_shutdown(cx) {
+        match self.transport.poll_shutdown(cx) {
             Poll::Pending => Turn::Idle,
             Poll::Ready(Err(Failed)) => Turn::Over(Err(DispatchError::Io)),
             Poll::Ready(Ok(())) => Turn::Over(result_of_end(end)),

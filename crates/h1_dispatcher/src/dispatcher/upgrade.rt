@@ -11,20 +11,20 @@ ghost use Rattle.h1_dispatcher.specs.Polls.{OnIdle, ServeSays};
 use crate::dispatcher::{Dispatcher, Turn, Work};
 use futures::task::Context;
 use h1_connection::{Event, HandshakeError, NoMemory, Outcome};
-use h1_traced::{Line, Recorder};
+use h1_traced::{Recorder, Traced};
 use http_bodies::MessageBody;
 use http_services::Service;
 use http_services::h1::Payload;
-use http_transport::Wire;
+use http_transport::Transport;
 use http_types::{Request, Response};
 
-/// A connection that was upgraded, with its wire: what the peer sent behind the request is held by the connection, and the
+/// A connection that was upgraded, with its transport: what the peer sent behind the request is held by the connection, and the
 /// answer that upgrades it is to be written.
 #[derive(Drop)]
 pub struct Upgraded<T, S, L> {
     request: Request<(), ()>,
-    line: Line<L>,
-    wire: T,
+    traced: Traced<L>,
+    transport: T,
     service: S,
 }
 
@@ -36,11 +36,11 @@ impl<T, S, L> Upgraded<T, S, L> {
         &self.request
     }
 
-    /// The request, the connection with who notes its steps, the wire, and the service.
-    pub fn into_parts(self) -> (Request<(), ()>, Line<L>, T, S)
-        ensures { result ≡ (self.request, self.line, self.wire, self.service) }
+    /// The request, the connection with who notes its steps, the transport, and the service.
+    pub fn into_parts(self) -> (Request<(), ()>, Traced<L>, T, S)
+        ensures { result ≡ (self.request, self.traced, self.transport, self.service) }
     {
-        (self.request, self.line, self.wire, self.service)
+        (self.request, self.traced, self.transport, self.service)
     }
 }
 
@@ -56,7 +56,7 @@ pub enum Accepting<T, S, C, L, B> {
 
 impl<T, S, L, B> Dispatcher<T, S, S::Call, L, B>
 where
-    T: Wire,
+    T: Transport,
     S: Service<Request<(), ()>, Response = Response<B>, Error = Response<B>, Lent = Payload>,
     B: MessageBody,
     L: Recorder,
@@ -107,7 +107,7 @@ where
         if !self.is_offered() {
             return false;
         }
-        self.line.connection().can_accept(limit)
+        self.traced.connection().can_accept(limit)
     }
 
     // Whether a request is held back, and its client doesn't wait to be told to go on.
@@ -123,11 +123,11 @@ where
         if !self.asks_upgrade() {
             return false;
         }
-        !self.line.connection().can_continue()
+        !self.traced.connection().can_continue()
     }
 
     /// Accepts that the request that is held back upgrades the connection to WebSocket (RFC 6455, section 4.2), of whose
-    /// frames none has a payload of more than `limit` bytes, and hands the connection and its wire over. What waits to be
+    /// frames none has a payload of more than `limit` bytes, and hands the connection and its transport over. What waits to be
     /// written stands in the connection, with the answer that upgrades it at its end, and so does what the peer sent behind
     /// the request. A drain that was asked for since the last poll isn't told to the connection. A request that fails a check
     /// of the upgrade is held back still. On an error all is dropped.
@@ -151,23 +151,23 @@ where
         ensures says { IfOk result (λ refusal. Accepts (view_of T.wiring S.served S.calling B.gives L.noted self.old) limit (view_of T.wiring S.served S.calling B.gives L.noted self.new) (option_map failing_of refusal)) }
         ensures open { MayBePolled S.calling self.new }
     {
-        match self.line.step(&Event::Accept(limit)) {
+        match self.traced.step(&Event::Accept(limit)) {
             Ok(outcome) => Ok(refusal_in(&outcome)),
             Err(error) => Err(error),
         }
     }
 
-    // The request that waits, with the connection, the wire and the service.
+    // The request that waits, with the connection, the transport and the service.
     fn hand_over(self) -> Upgraded<T, S, L>
         requires waits { is_waiting (stage_of S.calling B.gives self.work) ≡ true }
         ensures request { stage_of S.calling B.gives self.work ≡ waiting result.request }
-        ensures line { result.line ≡ self.line }
-        ensures wire { result.wire ≡ self.wire }
+        ensures traced { result.traced ≡ self.traced }
+        ensures transport { result.transport ≡ self.transport }
         ensures service { result.service ≡ self.service }
     {
         let Dispatcher {
-            line,
-            wire,
+            traced,
+            transport,
             service,
             work,
             ..
@@ -177,8 +177,8 @@ where
         };
         Upgraded {
             request,
-            line,
-            wire,
+            traced,
+            transport,
             service,
         }
     }
@@ -200,7 +200,7 @@ where
         if !self.is_holding {
             return false;
         }
-        self.line.connection().can_accept(0)
+        self.traced.connection().can_accept(0)
     }
 
     /// Tells the client of a request that is held back to go on, if it waits for that, isn't held back itself, and there is
@@ -223,7 +223,7 @@ where
         if !has_room {
             return self.wait_held(cx);
         }
-        let waits = self.line.connection().can_continue();
+        let waits = self.traced.connection().can_continue();
         if waits {
             return self.tell_on();
         }

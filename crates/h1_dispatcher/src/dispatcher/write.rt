@@ -16,17 +16,17 @@ use http_bodies::MessageBody;
 use http_config::Failed;
 use http_services::Service;
 use http_services::h1::Payload;
-use http_transport::Wire;
+use http_transport::Transport;
 use http_types::{DispatchError, Request, Response};
 
 impl<T, S, L, B> Dispatcher<T, S, S::Call, L, B>
 where
-    T: Wire,
+    T: Transport,
     S: Service<Request<(), ()>, Response = Response<B>, Error = Response<B>, Lent = Payload>,
     B: MessageBody,
     L: Recorder,
 {
-    /// Writes what waits, and goes on where nothing does or the wire takes none of it.
+    /// Writes what waits, and goes on where nothing does or the transport takes none of it.
     pub(super) fn write(&mut self, cx: &mut Context<'_>) -> Turn
         requires open { MayBePolled S.calling self.old }
         requires running { self.old.ending ≡ None }
@@ -35,16 +35,16 @@ where
         ensures registered { OnIdle result (IsArmed cx.new) }
         ensures kept { Keeps cx.old cx.new }
     {
-        if self.line.connection().buffered() == 0 {
+        if self.traced.connection().buffered() == 0 {
             return self.go_on(cx);
         }
-        if !self.line.connection().can_write() {
+        if !self.traced.connection().can_write() {
             return self.go_on(cx);
         }
         self.give(cx)
     }
 
-    /// Gives the wire what waits.
+    /// Gives the transport what waits.
     fn give(&mut self, cx: &mut Context<'_>) -> Turn
         requires open { MayBePolled S.calling self.old }
         requires running { self.old.ending ≡ None }
@@ -55,10 +55,13 @@ where
         ensures registered { OnIdle result (IsArmed cx.new) }
         ensures kept { Keeps cx.old cx.new }
     {
-        match self.wire.poll_write(self.line.connection().stretch(), cx) {
+        match self
+            .transport
+            .poll_write(self.traced.connection().stretch(), cx)
+        {
             Poll::Pending => self.go_on(cx),
             Poll::Ready(Err(Failed)) => Turn::Over(Err(DispatchError::Io)),
-            Poll::Ready(Ok(count)) => match self.line.advance(count) {
+            Poll::Ready(Ok(count)) => match self.traced.advance(count) {
                 Ok(()) => Turn::Counted,
                 Err(_) => {
                     self.ending = Some(Ending::Broken);
@@ -78,7 +81,7 @@ where
         ensures registered { OnIdle result (IsArmed cx.new) }
         ensures kept { Keeps cx.old cx.new }
     {
-        match self.line.connection().closing() {
+        match self.traced.connection().closing() {
             None => self.serve(cx),
             Some(end) => self.close(end, cx),
         }
@@ -88,17 +91,17 @@ where
     fn close(&mut self, end: End, cx: &mut Context<'_>) -> Turn
         requires open { MayBePolled S.calling self.old }
         requires running { self.old.ending ≡ None }
-        requires closing { closing_by (setting_of (view_of T.wiring S.served S.calling B.gives L.noted self.old).line.state.settings) (view_of T.wiring S.served S.calling B.gives L.noted self.old).line.state.kept ≡ Some (end_of end) }
+        requires closing { closing_by (setting_of (view_of T.wiring S.served S.calling B.gives L.noted self.old).traced.state.settings) (view_of T.wiring S.served S.calling B.gives L.noted self.old).traced.state.kept ≡ Some (end_of end) }
         requires armed { HasNoOutput (view_of T.wiring S.served S.calling B.gives L.noted self.old) ⊎ IsArmed cx.old }
         ensures says { AfterSays (view_of T.wiring S.served S.calling B.gives L.noted self.old) (view_of T.wiring S.served S.calling B.gives L.noted self.new) result }
         ensures open { MayBePolled S.calling self.new }
         ensures registered { OnIdle result (IsArmed cx.new) }
         ensures kept { Keeps cx.old cx.new }
     {
-        if self.line.connection().can_next() {
+        if self.traced.connection().can_next() {
             return self.tell_end(end);
         }
-        if self.line.connection().can_write() {
+        if self.traced.connection().can_write() {
             return Turn::Idle;
         }
         wake(cx)
@@ -108,12 +111,12 @@ where
     fn tell_end(&mut self, end: End) -> Turn
         requires open { MayBePolled S.calling self.old }
         requires running { self.old.ending ≡ None }
-        requires closing { closing_by (setting_of (view_of T.wiring S.served S.calling B.gives L.noted self.old).line.state.settings) (view_of T.wiring S.served S.calling B.gives L.noted self.old).line.state.kept ≡ Some (end_of end) }
+        requires closing { closing_by (setting_of (view_of T.wiring S.served S.calling B.gives L.noted self.old).traced.state.settings) (view_of T.wiring S.served S.calling B.gives L.noted self.old).traced.state.kept ≡ Some (end_of end) }
         requires allowed { allows_next (view_of T.wiring S.served S.calling B.gives L.noted self.old) ≡ true }
         ensures says { EndSays 1 (view_of T.wiring S.served S.calling B.gives L.noted self.old) (view_of T.wiring S.served S.calling B.gives L.noted self.new) result }
         ensures open { MayBePolled S.calling self.new }
     {
-        match self.line.next() {
+        match self.traced.next() {
             Ok(_) => {
                 self.ending = Some(Ending::Closed(end));
                 Turn::Counted

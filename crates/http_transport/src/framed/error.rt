@@ -8,8 +8,8 @@ pub enum FramedError<E> {
     #[error("the bytes are refused")]
     Codec(E),
 
-    /// The wire failed.
-    #[error("the wire failed")]
+    /// The transport failed.
+    #[error("the transport failed")]
     Io,
 
     /// There was no memory to read on. Nothing is lost.

@@ -4,13 +4,13 @@ ghost use Rattle.futures.specs.Task.{IsArmed, Keeps};
 ghost use Rattle.futures.specs.Poll.{OnPending};
 ghost use Rattle.http_transport.specs.Flushes.{Flushes};
 
-use crate::Wire;
+use crate::Transport;
 use bytes::BytesMut;
 use futures::task::{Context, Poll};
 use http_config::Failed;
 
-/// Gives the wire what is buffered, by at most 64 writes.
-pub(crate) fn flush<T: Wire>(
+/// Gives the transport what is buffered, by at most 64 writes.
+pub(crate) fn flush<T: Transport>(
     io: &mut T,
     unsent: &mut BytesMut,
     cx: &mut Context<'_>,

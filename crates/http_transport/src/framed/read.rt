@@ -4,7 +4,7 @@ ghost use Rattle.futures.specs.Task.{IsArmed, Keeps};
 ghost use Rattle.futures.specs.Poll.{IfReady, OnPending};
 ghost use Rattle.http_transport.specs.Items.{Reads, ItemSays};
 
-use crate::{FramedError, Wire};
+use crate::{FramedError, Transport};
 use bytes::BytesMut;
 use futures::task::{Context, Poll};
 use http_config::Failed;
@@ -14,7 +14,7 @@ use http_framing::Decoder;
 const PIECE: usize = 4096;
 
 /// The next item. Each of at most 64 turns decodes what is there, and reads a piece where that holds no item.
-pub(crate) fn next_item<T: Wire, U: Decoder>(
+pub(crate) fn next_item<T: Transport, U: Decoder>(
     io: &mut T,
     codec: &mut U,
     unread: &mut BytesMut,
@@ -47,7 +47,7 @@ pub(crate) fn next_item<T: Wire, U: Decoder>(
 }
 
 /// Reads a piece behind what is unread, and answers its length. Where there is no room for it, nothing is read.
-fn read_piece<T: Wire, E: Drop>(
+fn read_piece<T: Transport, E: Drop>(
     io: &mut T,
     unread: &mut BytesMut,
     cx: &mut Context<'_>,

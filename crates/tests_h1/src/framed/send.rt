@@ -1,5 +1,5 @@
-//! An answer that is sent over a wire in memory.
-use crate::framed::{has_sent, over_wire};
+//! An answer that is sent over a transport in memory.
+use crate::framed::{has_sent, over_transport};
 use futures::task::Poll;
 use futures::test::MockTask;
 use h1_encoder::send_response;
@@ -10,11 +10,11 @@ use std::test::Fail;
 const ANSWER: &[u8] =
     b"HTTP/1.1 200 OK\r\ncontent-length: 2\r\nconnection: close\r\ndate: Thu, 01 Jan 1970 00:00:00 GMT\r\n\r\nhi";
 
-// The wire takes 5 bytes, then it is pending, then it takes 40 and the rest.
+// The transport takes 5 bytes, then it is pending, then it takes 40 and the rest.
 #[test]
 fn an_answer_leaves_by_short_writes(rt: HostRuntime) -> Result<(), Fail> {
     let task = MockTask::new(&rt)?;
-    let framed = over_wire(rt.alloc(), Vec::new(rt.alloc()), &[5, 0, 40])?;
+    let framed = over_transport(rt.alloc(), Vec::new(rt.alloc()), &[5, 0, 40])?;
     let answer = Response::ok(rt.alloc()).set_body("hi");
     let mut sending = send_response(rt.alloc(), framed, answer);
     let first = task.enter(|cx| sending.poll(cx));

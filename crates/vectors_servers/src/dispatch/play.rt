@@ -9,7 +9,7 @@ use crate::dispatch::report::{
 use crate::dispatch::service::{Coming, Scripted, refusal};
 use crate::dispatch::setup::{Cut, Setup};
 use crate::dispatch::step::Step;
-use crate::dispatch::wire::Lingering;
+use crate::dispatch::transport::Lingering;
 use futures::task::{Doorbell, Poll, Solo};
 use h1_dispatcher::{Accepting, Dispatcher, Upgraded};
 use h1_traced::Recorder;
@@ -44,9 +44,9 @@ pub fn play<R: RandomSource + AllocGlobal, L: Recorder>(
     recorder: L,
     report: &mut Report,
 ) -> io::Result<()> {
-    let wire = setup.wire(rt.alloc(), cut)?;
+    let transport = setup.transport(rt.alloc(), cut)?;
     let service = setup.service(rt.alloc())?;
-    let served = Dispatcher::new(rt.alloc(), wire, service, setup.config(), recorder);
+    let served = Dispatcher::new(rt.alloc(), transport, service, setup.config(), recorder);
     play_on(rt, served, steps, report)
 }
 
@@ -132,21 +132,21 @@ fn put_handed<L: Recorder>(
     upgraded: Upgraded<Lingering, CountedService<Scripted>, L>,
     report: &mut Report,
 ) {
-    let (request, line, wire, service) = upgraded.into_parts();
+    let (request, line, transport, service) = upgraded.into_parts();
     let connection = line.connection();
     put_upgraded(report, &request, connection.stretch(), connection.held());
-    put_end(&wire, service.inner(), report);
+    put_end(&transport, service.inner(), report);
 }
 
 fn put_left<L: Recorder>(served: Served<L>, report: &mut Report) {
-    let (wire, service, _recorder) = served.into_parts();
-    put_end(&wire, service.inner(), report);
+    let (transport, service, _recorder) = served.into_parts();
+    put_end(&transport, service.inner(), report);
 }
 
-// Puts what the wire took, and whether the service had memory to note all.
-fn put_end(wire: &Lingering, service: &Scripted, report: &mut Report) {
+// Puts what the transport took, and whether the service had memory to note all.
+fn put_end(transport: &Lingering, service: &Scripted, report: &mut Report) {
     service.tell(report);
-    put_sent(report, wire.sent(), wire.is_shut());
+    put_sent(report, transport.sent(), transport.is_shut());
 }
 
 // Takes all steps.

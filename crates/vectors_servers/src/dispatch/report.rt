@@ -95,7 +95,7 @@ pub fn put_refused(report: &mut Report, error: HandshakeError) {
     })
 }
 
-/// Puts all that was sent, and whether the wire was shut down.
+/// Puts all that was sent, and whether the transport was shut down.
 pub fn put_sent(report: &mut Report, sent: &[u8], is_shut: bool) {
     report.put_text("sent ");
     report.put_quoted(sent);

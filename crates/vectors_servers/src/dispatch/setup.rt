@@ -1,13 +1,13 @@
-//! What a connection begins with: its settings, how its wire gives and takes, and what its service answers.
+//! What a connection begins with: its settings, how its transport gives and takes, and what its service answers.
 use crate::dispatch::body::Script;
 use crate::dispatch::reply::{Kind, Reply};
 use crate::dispatch::service::Scripted;
 use crate::dispatch::silence::Silence;
-use crate::dispatch::wire::Lingering;
+use crate::dispatch::transport::Lingering;
 use bytes::Bytes;
 use http_config::{KeepAlive, ServiceConfig, ServiceConfigBuilder};
 use http_services::CountedService;
-use http_transport::MemWire;
+use http_transport::MemTransport;
 use http_types::{NoMemory, StatusCode};
 use std::alloc::Global;
 use vectors::{CaseError, Cursor, Report, read_joined};
@@ -33,7 +33,7 @@ struct Part {
     bytes: Vec<u8>,
 }
 
-/// How the wire cuts what it gives and takes.
+/// How the transport cuts what it gives and takes.
 #[derive(Clone, Copy, Debug)]
 pub enum Cut {
     /// As the set-up says.
@@ -49,14 +49,14 @@ pub enum Cut {
 /// The most bytes of the pieces and writes that are tried.
 const MOST: usize = 128;
 
-/// The bytes that a wire has room for beside its input: more than one read asks for, and than are written.
+/// The bytes that a transport has room for beside its input: more than one read asks for, and than are written.
 const ROOM: usize = 65_536;
 
-/// How many writes of one size a wire has; after these it takes all.
+/// How many writes of one size a transport has; after these it takes all.
 const WRITES: usize = 1024;
 
 impl Setup {
-    /// The usual settings, no input, a wire that takes all, and answers of status 200.
+    /// The usual settings, no input, a transport that takes all, and answers of status 200.
     pub fn new(alloc: Global) -> Setup {
         Setup {
             config: ServiceConfigBuilder::new().build(),
@@ -85,7 +85,7 @@ impl Setup {
         }
     }
 
-    /// How the wire cuts what it gives and takes when the connection is played for the time of this number, from 0.
+    /// How the transport cuts what it gives and takes when the connection is played for the time of this number, from 0.
     pub fn cut(&self, number: usize) -> Cut {
         if self.in_any_pieces {
             Cut::Reads(number.saturating_add(1))
@@ -174,14 +174,14 @@ impl Setup {
         Ok(Script::new(pieces, breaks))
     }
 
-    /// The wire. It has room from the start for what it gives and takes, so that it never fails for want of memory.
-    pub fn wire(&self, alloc: Global, cut: Cut) -> Result<Lingering, NoMemory> {
+    /// The transport. It has room from the start for what it gives and takes, so that it never fails for want of memory.
+    pub fn transport(&self, alloc: Global, cut: Cut) -> Result<Lingering, NoMemory> {
         let pieces = self.pieces_of(alloc, cut)?;
         let rooms = self.rooms_of(alloc, cut)?;
         let faults = copied(alloc, self.faults.as_slice())?;
-        let mut wire = MemWire::new(alloc, pieces, rooms, faults);
-        wire.reserve(self.input_len().saturating_add(ROOM), ROOM)?;
-        Ok(Lingering::new(wire, self.shut_waits))
+        let mut transport = MemTransport::new(alloc, pieces, rooms, faults);
+        transport.reserve(self.input_len().saturating_add(ROOM), ROOM)?;
+        Ok(Lingering::new(transport, self.shut_waits))
     }
 
     /// The service.

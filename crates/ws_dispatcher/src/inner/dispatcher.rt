@@ -8,7 +8,7 @@ use super::queue::{Message, Queue};
 use crate::error::DispatcherError;
 use http_framing::Decoder;
 use http_services::Service;
-use http_transport::{Framed, Wire};
+use http_transport::{Framed, Transport};
 use std::alloc::{AllocError, Global};
 
 /// Whether a dispatcher goes on.
@@ -37,10 +37,10 @@ pub(crate) enum Turn<E> {
     Over(Result<(), DispatcherError<E>>),
 }
 
-/// A service over a framed wire: items that are read go to it, one at a time, and its answers are written, in order,
+/// A service over a framed transport: items that are read go to it, one at a time, and its answers are written, in order,
 /// beside what is queued.
 ///
-/// The parameters are the service and its call, the wire, the codec and the items that it decodes, and what is written
+/// The parameters are the service and its call, the transport, the codec and the items that it decodes, and what is written
 /// and why a service fails.
 #[derive(Drop)]
 pub struct Dispatcher<S, C, T, U, Q, I, E> {
@@ -57,7 +57,7 @@ pub struct Dispatcher<S, C, T, U, Q, I, E> {
 
 impl<S, T, U, I> Dispatcher<S, S::Call, T, U, U::Item, I, S::Error>
 where
-    T: Wire,
+    T: Transport,
     U: Decoder,
     S: Service<U::Item, Response = I, Lent = ()>,
     I: Drop,
@@ -112,7 +112,7 @@ where
         self.queue.len()
     }
 
-    /// The framed wire and the service. What is queued, and the call in progress, are dropped.
+    /// The framed transport and the service. What is queued, and the call in progress, are dropped.
     pub fn into_parts(self) -> (Framed<T, U>, S)
         ensures { result ≡ parts_of self }
     {

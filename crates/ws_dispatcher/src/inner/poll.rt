@@ -12,12 +12,12 @@ use futures::future::Future;
 use futures::task::{Context, Poll};
 use http_framing::{Decoder, Encoder};
 use http_services::Service;
-use http_transport::Wire;
+use http_transport::Transport;
 use ws_frames::ProtocolError;
 
 impl<S, T, U, I> Dispatcher<S, S::Call, T, U, U::Item, I, S::Error>
 where
-    T: Wire,
+    T: Transport,
     U: Decoder<Error = ProtocolError> + Encoder<I, Error = ProtocolError>,
     S: Service<U::Item, Response = I, Lent = ()>,
     I: Drop,
@@ -47,7 +47,7 @@ where
 
 impl<S, T, U, I> Future for Dispatcher<S, S::Call, T, U, U::Item, I, S::Error>
 where
-    T: Wire,
+    T: Transport,
     U: Decoder<Error = ProtocolError> + Encoder<I, Error = ProtocolError> + Drop,
     S: Service<U::Item, Response = I, Lent = ()>,
     I: Drop,

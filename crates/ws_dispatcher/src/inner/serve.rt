@@ -11,12 +11,12 @@ use crate::error::DispatcherError;
 use futures::task::{Context, Poll};
 use http_framing::{Decoder, Encoder};
 use http_services::Service;
-use http_transport::{FramedError, Wire};
+use http_transport::{FramedError, Transport};
 use ws_frames::ProtocolError;
 
 impl<S, T, U, I> Dispatcher<S, S::Call, T, U, U::Item, I, S::Error>
 where
-    T: Wire,
+    T: Transport,
     U: Decoder<Error = ProtocolError> + Encoder<I, Error = ProtocolError>,
     S: Service<U::Item, Response = I, Lent = ()>,
     I: Drop,

@@ -12,12 +12,12 @@ use futures::task::{Context, Poll};
 use http_config::Failed;
 use http_framing::{Decoder, Encoder};
 use http_services::Service;
-use http_transport::Wire;
+use http_transport::Transport;
 use ws_frames::ProtocolError;
 
 impl<S, T, U, I> Dispatcher<S, S::Call, T, U, U::Item, I, S::Error>
 where
-    T: Wire,
+    T: Transport,
     U: Decoder<Error = ProtocolError> + Encoder<I, Error = ProtocolError>,
     S: Service<U::Item, Response = I, Lent = ()>,
     I: Drop,
@@ -51,7 +51,7 @@ where
         }
     }
 
-    /// Sends what is buffered, and goes on with the service where all is sent or the wire isn't ready.
+    /// Sends what is buffered, and goes on with the service where all is sent or the transport isn't ready.
     fn send_on(&mut self, cx: &mut Context<'_>) -> Turn<S::Error>
         requires open { MayBePolled S.calling self.old }
         requires is_open { IsOpen (view_of T.wiring S.served self.old) }

@@ -7,12 +7,12 @@ use crate::item::UpgradeItem;
 use h1_connection::{Expiry, Message, NoMemory};
 use h1_traced::Recorder;
 use http_services::Service;
-use http_transport::Wire;
+use http_transport::Transport;
 use http_types::Error;
 
 impl<T, U, L> UpgradeDispatcher<T, U, U::Call, L>
 where
-    T: Wire,
+    T: Transport,
     U: Service<UpgradeItem, Response = Message, Error = Error, Lent = ()>,
     L: Recorder,
 {
@@ -33,10 +33,10 @@ where
         ensures says { TickSays (view_of T.wiring U.served L.noted self.old) moment (view_of T.wiring U.served L.noted self.new) result }
         ensures open { MayBePolled U.calling self.new }
     {
-        if !self.line.connection().can_tick(moment) {
+        if !self.traced.connection().can_tick(moment) {
             return Ok(());
         }
-        match self.line.tick(moment) {
+        match self.traced.tick(moment) {
             Ok(Expiry::Abandoned) => {
                 self.ending = Some(Ending::Abandoned);
                 Ok(())
@@ -58,10 +58,10 @@ where
         if !self.is_draining {
             return Ok(());
         }
-        if !self.line.connection().can_drain() {
+        if !self.traced.connection().can_drain() {
             return Ok(());
         }
-        match self.line.drain() {
+        match self.traced.drain() {
             Ok(()) => Ok(()),
             Err(error) => {
                 self.ending = Some(Ending::Broken);

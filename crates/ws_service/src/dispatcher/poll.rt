@@ -12,12 +12,12 @@ use futures::task::{Context, Poll};
 use h1_connection::Message;
 use h1_traced::Recorder;
 use http_services::Service;
-use http_transport::Wire;
+use http_transport::Transport;
 use http_types::Error;
 
 impl<T, U, L> UpgradeDispatcher<T, U, U::Call, L>
 where
-    T: Wire,
+    T: Transport,
     U: Service<UpgradeItem, Response = Message, Error = Error, Lent = ()>,
     L: Recorder,
 {
@@ -26,7 +26,7 @@ where
     ///
     /// The moment is told to the connection, and then the drain, where it was asked for and is allowed. Then come at most 64
     /// turns, each of which does the first of these that is possible: what waits is written; a connection that closes tells its
-    /// end, and the wire is shut down; an answer that waits is sent, where there is room; the call in progress is polled; the
+    /// end, and the transport is shut down; an answer that waits is sent, where there is room; the call in progress is polled; the
     /// service is called with what waits for it; the next frame is asked for; the input is read. While it closes nothing is
     /// read, asked for or sent, and the service isn't called or polled.
     ///
@@ -35,7 +35,7 @@ where
     /// # Errors
     ///
     /// `Upgrade` where the service failed: an item that it wasn't ready for waits still, and after a call that failed the next
-    /// frame is asked for where it is polled again. `Io` where the wire failed. `DisconnectTimeout` where the peer took too long
+    /// frame is asked for where it is polled again. `Io` where the transport failed. `DisconnectTimeout` where the peer took too long
     /// to take what was left. `NoMemory` where memory ran out: what was noted is a trace still, and the last step may not have
     /// been noted. From then on each poll answers `NoMemory` and does nothing.
     pub fn poll(&mut self, moment: u64, cx: &mut Context<'_>) -> Poll<Result<(), UpgradeError>>

@@ -14,12 +14,12 @@ use h1_connection::{Message, READ_SIZE};
 use h1_traced::Recorder;
 use http_config::Failed;
 use http_services::Service;
-use http_transport::Wire;
+use http_transport::Transport;
 use http_types::Error;
 
 impl<T, U, L> UpgradeDispatcher<T, U, U::Call, L>
 where
-    T: Wire,
+    T: Transport,
     U: Service<UpgradeItem, Response = Message, Error = Error, Lent = ()>,
     L: Recorder,
 {
@@ -33,11 +33,11 @@ where
         ensures registered { OnIdle result (IsArmed cx.new) }
         ensures kept { Keeps cx.old cx.new }
     {
-        let room = self.line.connection().read_room();
+        let room = self.traced.connection().read_room();
         if room == 0 {
             return wait(is_armed, cx);
         }
-        if !self.line.connection().can_read() {
+        if !self.traced.connection().can_read() {
             return wait(is_armed, cx);
         }
         let mut buf = [0; READ_SIZE];
@@ -56,17 +56,17 @@ where
         ensures registered { OnIdle result (IsArmed cx.new) }
         ensures kept { Keeps cx.old cx.new }
     {
-        match self.wire.poll_read(buf, cx) {
+        match self.transport.poll_read(buf, cx) {
             Poll::Pending => Turn::Idle,
             Poll::Ready(Err(Failed)) => Turn::Over(Err(UpgradeError::Io)),
-            Poll::Ready(Ok(0)) => match self.line.eof() {
+            Poll::Ready(Ok(0)) => match self.traced.eof() {
                 Ok(()) => Turn::Counted,
                 Err(_) => {
                     self.ending = Some(Ending::Broken);
                     Turn::Over(Err(UpgradeError::NoMemory))
                 }
             },
-            Poll::Ready(Ok(count)) => match self.line.read(&buf[..count]) {
+            Poll::Ready(Ok(count)) => match self.traced.read(&buf[..count]) {
                 Ok(_) => Turn::Counted,
                 Err(_) => {
                     self.ending = Some(Ending::Broken);

@@ -12,7 +12,7 @@ use futures::task::{Context, Poll};
 use h1_connection::{Event, Message, Outcome, ReceivedFrame, SentMessage};
 use h1_traced::Recorder;
 use http_services::Service;
-use http_transport::Wire;
+use http_transport::Transport;
 use http_types::Error;
 use std::mem;
 
@@ -31,7 +31,7 @@ enum Given {
 
 impl<T, U, L> UpgradeDispatcher<T, U, U::Call, L>
 where
-    T: Wire,
+    T: Transport,
     U: Service<UpgradeItem, Response = Message, Error = Error, Lent = ()>,
     L: Recorder,
 {
@@ -65,7 +65,7 @@ where
         ensures registered { OnIdle result (IsArmed cx.new) }
         ensures kept { Keeps cx.old cx.new }
     {
-        if !self.line.connection().can_pull_frame() {
+        if !self.traced.connection().can_pull_frame() {
             return self.read(is_armed, cx);
         }
         self.pull_frame(is_armed, cx)
@@ -82,7 +82,7 @@ where
         ensures registered { OnIdle result (IsArmed cx.new) }
         ensures kept { Keeps cx.old cx.new }
     {
-        match self.line.step(&Event::Pull) {
+        match self.traced.step(&Event::Pull) {
             Ok(outcome) => match given_by(outcome) {
                 Given::Frame(frame) => {
                     self.work = Work::Waiting(UpgradeItem::Frame(frame));
@@ -162,7 +162,7 @@ where
         ensures registered { OnIdle result (IsArmed cx.new) }
         ensures kept { Keeps cx.old cx.new }
     {
-        if !self.line.connection().can_send() {
+        if !self.traced.connection().can_send() {
             return self.read(is_armed, cx);
         }
         self.send_message()
@@ -180,7 +180,7 @@ where
             unreachable!()
         };
         let event = Event::Send(SentMessage::new(message));
-        match self.line.step(&event) {
+        match self.traced.step(&event) {
             Ok(_) => Turn::Counted,
             Err(_) => {
                 self.ending = Some(Ending::Broken);

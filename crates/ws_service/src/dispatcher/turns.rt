@@ -1,4 +1,4 @@
-// One turn, and the wire's shutdown.
+// One turn, and the transport's shutdown.
 ghost use Rattle.std.specs.Prelude.{◌≡◌, Some, None};
 ghost use Rattle.futures.specs.Task.{IsArmed, Keeps};
 ghost use Rattle.ws_service.specs.View.{view_of, MayBePolled};
@@ -13,12 +13,12 @@ use h1_connection::{End, Message};
 use h1_traced::Recorder;
 use http_config::Failed;
 use http_services::Service;
-use http_transport::Wire;
+use http_transport::Transport;
 use http_types::Error;
 
 impl<T, U, L> UpgradeDispatcher<T, U, U::Call, L>
 where
-    T: Wire,
+    T: Transport,
     U: Service<UpgradeItem, Response = Message, Error = Error, Lent = ()>,
     L: Recorder,
 {
@@ -38,7 +38,7 @@ where
         }
     }
 
-    /// Shuts the wire down.
+    /// Shuts the transport down.
     fn shut(&mut self, end: End, cx: &mut Context<'_>) -> Turn
         requires open { MayBePolled U.calling self.old }
         requires ended { self.old.ending ≡ Some (Closed end) }
@@ -48,7 +48,7 @@ where
         ensures kept { Keeps cx.old cx.new }
     {
         let _ = end;
-        match self.wire.poll_shutdown(cx) {
+        match self.transport.poll_shutdown(cx) {
             Poll::Pending => Turn::Idle,
             Poll::Ready(Err(Failed)) => Turn::Over(Err(UpgradeError::Io)),
             Poll::Ready(Ok(())) => Turn::Over(Ok(())),

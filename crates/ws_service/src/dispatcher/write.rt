@@ -16,12 +16,12 @@ use h1_connection::{End, Message};
 use h1_traced::Recorder;
 use http_config::Failed;
 use http_services::Service;
-use http_transport::Wire;
+use http_transport::Transport;
 use http_types::Error;
 
 impl<T, U, L> UpgradeDispatcher<T, U, U::Call, L>
 where
-    T: Wire,
+    T: Transport,
     U: Service<UpgradeItem, Response = Message, Error = Error, Lent = ()>,
     L: Recorder,
 {
@@ -34,16 +34,16 @@ where
         ensures registered { OnIdle result (IsArmed cx.new) }
         ensures kept { Keeps cx.old cx.new }
     {
-        if self.line.connection().buffered() == 0 {
+        if self.traced.connection().buffered() == 0 {
             return self.go_on(false, cx);
         }
-        if !self.line.connection().can_write() {
+        if !self.traced.connection().can_write() {
             return self.go_on(false, cx);
         }
         self.give(cx)
     }
 
-    /// Gives the wire what waits. What it doesn't take waits on.
+    /// Gives the transport what waits. What it doesn't take waits on.
     fn give(&mut self, cx: &mut Context<'_>) -> Turn
         requires open { MayBePolled U.calling self.old }
         requires running { self.old.ending ≡ None }
@@ -54,10 +54,13 @@ where
         ensures registered { OnIdle result (IsArmed cx.new) }
         ensures kept { Keeps cx.old cx.new }
     {
-        match self.wire.poll_write(self.line.connection().stretch(), cx) {
+        match self
+            .transport
+            .poll_write(self.traced.connection().stretch(), cx)
+        {
             Poll::Pending => self.go_on(true, cx),
             Poll::Ready(Err(Failed)) => Turn::Over(Err(UpgradeError::Io)),
-            Poll::Ready(Ok(count)) => match self.line.advance(count) {
+            Poll::Ready(Ok(count)) => match self.traced.advance(count) {
                 Ok(()) => Turn::Counted,
                 Err(_) => {
                     self.ending = Some(Ending::Broken);
@@ -67,7 +70,7 @@ where
         }
     }
 
-    /// Goes on with what is needed besides writing. Where the write was pending, the task hears of the wire already.
+    /// Goes on with what is needed besides writing. Where the write was pending, the task hears of the transport already.
     fn go_on(&mut self, is_armed: bool, cx: &mut Context<'_>) -> Turn
         requires open { MayBePolled U.calling self.old }
         requires running { self.old.ending ≡ None }
@@ -77,7 +80,7 @@ where
         ensures registered { OnIdle result (IsArmed cx.new) }
         ensures kept { Keeps cx.old cx.new }
     {
-        match self.line.connection().closing() {
+        match self.traced.connection().closing() {
             None => self.serve(is_armed, cx),
             Some(end) => self.close(end, is_armed, cx),
         }
@@ -87,14 +90,14 @@ where
     fn close(&mut self, end: End, is_armed: bool, cx: &mut Context<'_>) -> Turn
         requires open { MayBePolled U.calling self.old }
         requires running { self.old.ending ≡ None }
-        requires closing { closing_by (setting_of (view_of T.wiring U.served L.noted self.old).line.state.settings) (view_of T.wiring U.served L.noted self.old).line.state.kept ≡ Some (end_of end) }
+        requires closing { closing_by (setting_of (view_of T.wiring U.served L.noted self.old).traced.state.settings) (view_of T.wiring U.served L.noted self.old).traced.state.kept ≡ Some (end_of end) }
         requires armed { is_armed ≡ true → IsArmed cx.old }
         ensures says { AfterSays (view_of T.wiring U.served L.noted self.old) (view_of T.wiring U.served L.noted self.new) result }
         ensures open { MayBePolled U.calling self.new }
         ensures registered { OnIdle result (IsArmed cx.new) }
         ensures kept { Keeps cx.old cx.new }
     {
-        if self.line.connection().can_next() {
+        if self.traced.connection().can_next() {
             return self.tell_end(end);
         }
         wait(is_armed, cx)
@@ -103,12 +106,12 @@ where
     fn tell_end(&mut self, end: End) -> Turn
         requires open { MayBePolled U.calling self.old }
         requires running { self.old.ending ≡ None }
-        requires closing { closing_by (setting_of (view_of T.wiring U.served L.noted self.old).line.state.settings) (view_of T.wiring U.served L.noted self.old).line.state.kept ≡ Some (end_of end) }
+        requires closing { closing_by (setting_of (view_of T.wiring U.served L.noted self.old).traced.state.settings) (view_of T.wiring U.served L.noted self.old).traced.state.kept ≡ Some (end_of end) }
         requires allowed { allows_next (view_of T.wiring U.served L.noted self.old) ≡ true }
         ensures says { EndSays (view_of T.wiring U.served L.noted self.old) (view_of T.wiring U.served L.noted self.new) result }
         ensures open { MayBePolled U.calling self.new }
     {
-        match self.line.next() {
+        match self.traced.next() {
             Ok(_) => {
                 self.ending = Some(Ending::Closed(end));
                 Turn::Counted

@@ -11,9 +11,9 @@ invariant-loop-pass g l = record {
   room_for_handles : vec_len l.initial.passes ≤ vec_capacity l.handles;
   room_for_served : vec_len l.initial.passes ≤ vec_capacity l.served;
   promises : AllByRecursion (λ h. h.promise ≡ l.serving) l.handles.items;
-  kept : AllByRecursion (λ s. WasServed l.serving.config l.serving.polls (g.K.Clock.may_give l.serving.clock) (g.W.Wire.wiring s.wire) (g.L.Recorder.noted s.recorder) s.pass.pass s.end) l.served.items;
-  given : (g.D.Door.opening l.door).given ≡ counted_on l.conn (g.D.Door.opening l.initial.door).given;
-  never_falls : (g.D.Door.opening l.initial.door).faults ≤ (g.D.Door.opening l.door).faults;
+  kept : AllByRecursion (λ s. WasServed l.serving.config l.serving.polls (g.K.Clock.may_give l.serving.clock) (g.W.Transport.wiring s.transport) (g.L.Recorder.noted s.recorder) s.pass.pass s.end) l.served.items;
+  given : (g.D.Acceptor.opening l.acceptor).given ≡ counted_on l.conn (g.D.Acceptor.opening l.initial.acceptor).given;
+  never_falls : (g.D.Acceptor.opening l.initial.acceptor).faults ≤ (g.D.Acceptor.opening l.acceptor).faults;
   not_failed : l.has_failed ≡ false;
 }
 

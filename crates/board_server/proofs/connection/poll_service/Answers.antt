@@ -1,7 +1,7 @@
 use Rattle.std.proofs.Common.{[], refl, sym, ap, ◌∙◌, subst}
 use Rattle.http_bodies.specs.Values.{holds}
 use Rattle.http_services.specs.Serving.{unknown_call}
-use Rattle.h1_traced.specs.Line.{LineStands}
+use Rattle.h1_traced.specs.Traced.{TracedStands}
 use Rattle.h1_dispatcher.specs.View.{View, view_of, view_begun, told_service}
 use Rattle.board.specs.Work.{Worked, serving_of}
 use Rattle.board_server.specs.Serves.{Ends}
@@ -9,27 +9,27 @@ use Rattle.board_server.proofs.connection.poll_service.Goals as goal
 
 pub returns-clause-served : goal.returns-clause-served
 returns-clause-served g c =
-    let wire = g.W.Wire.wiring c.args.wire in
+    let transport = g.W.Transport.wiring c.args.transport in
     let noted = g.L.Recorder.noted c.args.recorder in
-    let begun = c.new-dispatcher.ensures.view ∙ ap (λ (w : Worked). view_begun wire (told_service (λ (x : Unit). holds []) (serving_of w)) c.args.config noted) c.new-service.ensures in
+    let begun = c.new-dispatcher.ensures.view ∙ ap (λ (w : Worked). view_begun transport (told_service (λ (x : Unit). holds []) (serving_of w)) c.args.config noted) c.new-service.ensures in
     record {
-      last = view_of g.W.Wire.wiring (λ s. serving_of s.work) (λ x. unknown_call) (λ x. holds []) g.L.Recorder.noted c.poll_as_task-end.new.dispatcher;
+      last = view_of g.W.Transport.wiring (λ s. serving_of s.work) (λ x. unknown_call) (λ x. holds []) g.L.Recorder.noted c.poll_as_task-end.new.dispatcher;
       ends =
           subst
-          (λ (v : View). Ends c.args.polls (g.K.Clock.may_give c.args.clock) v (view_of g.W.Wire.wiring (λ s. serving_of s.work) (λ x. unknown_call) (λ x. holds []) g.L.Recorder.noted c.poll_as_task-end.new.dispatcher)
+          (λ (v : View). Ends c.args.polls (g.K.Clock.may_give c.args.clock) v (view_of g.W.Transport.wiring (λ s. serving_of s.work) (λ x. unknown_call) (λ x. holds []) g.L.Recorder.noted c.poll_as_task-end.new.dispatcher)
           c.poll_as_task-end.result)
           begun c.poll_as_task-end.ensures.ends;
-      wire_is = rw c.into_parts-wire.ensures refl;
-      noted_is = rw c.into_parts-wire.ensures refl;
-      work = c.into_parts-wire.result.1.work;
-      service_is = rw c.into_parts-wire.ensures refl;
+      transport_is = rw c.into_parts-transport.ensures refl;
+      noted_is = rw c.into_parts-transport.ensures refl;
+      work = c.into_parts-transport.result.1.work;
+      service_is = rw c.into_parts-transport.ensures refl;
       pass_is = sym c.into_pass.ensures.pass;
       kept = c.into_pass.ensures.kept;
     }
 
 pub returns-clause-stands : goal.returns-clause-stands
 returns-clause-stands g c = λ unnoted.
-    let wire = g.W.Wire.wiring c.args.wire in
+    let transport = g.W.Transport.wiring c.args.transport in
     let noted = g.L.Recorder.noted c.args.recorder in
-    let begun = c.new-dispatcher.ensures.view ∙ ap (λ (w : Worked). view_begun wire (told_service (λ (x : Unit). holds []) (serving_of w)) c.args.config noted) c.new-service.ensures in
-    subst (λ (v : View). LineStands v.line []) begun (c.new-dispatcher.ensures.stands unnoted)
+    let begun = c.new-dispatcher.ensures.view ∙ ap (λ (w : Worked). view_begun transport (told_service (λ (x : Unit). holds []) (serving_of w)) c.args.config noted) c.new-service.ensures in
+    subst (λ (v : View). TracedStands v.traced []) begun (c.new-dispatcher.ensures.stands unnoted)

@@ -9,11 +9,11 @@ loop-one-preserved g c =
     let serving = c.args.serving.now in
     record {
       served =
-          all_fewer (λ s. WasServed serving.config serving.polls (g.K.Clock.may_give serving.clock) (g.W.Wire.wiring s.wire) (g.L.Recorder.noted s.recorder) s.pass.pass s.end) c.pop.new.self.items c.in-Some.one
+          all_fewer (λ s. WasServed serving.config serving.polls (g.K.Clock.may_give serving.clock) (g.W.Transport.wiring s.transport) (g.L.Recorder.noted s.recorder) s.pass.pass s.end) c.pop.new.self.items c.in-Some.one
           (rw c.in-Some.ensures.items at c.loop-one.invariant.served);
       matched =
           rw (c.push_reserved.ensures.items, c.push_reserved-in-Some.ensures.items)
-          (matched_more serving.config serving.polls (g.K.Clock.may_give serving.clock) g.W.Wire.wiring g.L.Recorder.noted _ _ _ _ c.loop-one.invariant.matched c.visit_of-visit.ensures);
+          (matched_more serving.config serving.polls (g.K.Clock.may_give serving.clock) g.W.Transport.wiring g.L.Recorder.noted _ _ _ _ c.loop-one.invariant.matched c.visit_of-visit.ensures);
       count_visits = search (rules, arith);
       count_passes = search (rules, arith);
       room_for_visits = search (rules, arith);

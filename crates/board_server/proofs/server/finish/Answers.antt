@@ -12,7 +12,7 @@ returns-in-Err g c = λ was taken. c.in-Err.ensures.unlike
 
 pub returns-then-has_failed : goal.returns-then-has_failed
 returns-then-has_failed g c = λ was taken. (
-  report_is c.args.serving.config c.args.serving.polls (g.K.Clock.may_give c.args.serving.clock) g.W.Wire.wiring g.L.Recorder.noted c.in-Ok.board.journal c.visits_of-visits.result.0.items
+  report_is c.args.serving.config c.args.serving.polls (g.K.Clock.may_give c.args.serving.clock) g.W.Transport.wiring g.L.Recorder.noted c.in-Ok.board.journal c.visits_of-visits.result.0.items
       c.visits_of-visits.result.1.items c.add_spare-back.ensures.rest.0 c.add_spare-back.result.items c.add_spare-back.ensures.rest.1 c.add_spare-back.ensures.rest.2 c.visits_of-visits.ensures.matched
       c.in-Ok.ensures.agrees c.in-Ok.ensures.right (c.in-Ok.ensures.whole ∙ ap (λ (n : ℕ). n + entries_held c.add_spare-back.result.items) c.requires.none_retired),
   (taken.given ∙ ap (λ (n : ℕ). counted_on n was.given) (sym (many c.visits_of-visits.ensures.visits c.requires.no_visits))),
@@ -22,7 +22,7 @@ returns-then-has_failed g c = λ was taken. (
 
 pub returns-else-has_failed : goal.returns-else-has_failed
 returns-else-has_failed g c = λ was taken. (
-  report_is c.args.serving.config c.args.serving.polls (g.K.Clock.may_give c.args.serving.clock) g.W.Wire.wiring g.L.Recorder.noted c.in-Ok.board.journal c.visits_of-visits.result.0.items
+  report_is c.args.serving.config c.args.serving.polls (g.K.Clock.may_give c.args.serving.clock) g.W.Transport.wiring g.L.Recorder.noted c.in-Ok.board.journal c.visits_of-visits.result.0.items
       c.visits_of-visits.result.1.items c.add_spare-back.ensures.rest.0 c.add_spare-back.result.items c.add_spare-back.ensures.rest.1 c.add_spare-back.ensures.rest.2 c.visits_of-visits.ensures.matched
       c.in-Ok.ensures.agrees c.in-Ok.ensures.right (c.in-Ok.ensures.whole ∙ ap (λ (n : ℕ). n + entries_held c.add_spare-back.result.items) c.requires.none_retired),
   (taken.given ∙ ap (λ (n : ℕ). counted_on n was.given) (sym (many c.visits_of-visits.ensures.visits c.requires.no_visits))),

@@ -6,5 +6,5 @@ pub returns-in-Ok-serve_all : goal.returns-in-Ok-serve_all
 returns-in-Ok-serve_all g c =
     let made : c.from_board-shared.result.made ≡ c.args.most = search rules in
     subst
-    (λ (n : ℕ). SaysRan c.args.config c.args.polls (g.K.Clock.may_give c.args.clock) g.W.Wire.wiring g.L.Recorder.noted n (g.D.Door.opening c.args.door) (g.D.Door.opening c.finish.result.door) c.finish.result.end)
-    made (c.finish.ensures (g.D.Door.opening c.args.door) c.in-Ok-serve_all.ensures.taken)
+    (λ (n : ℕ). SaysRan c.args.config c.args.polls (g.K.Clock.may_give c.args.clock) g.W.Transport.wiring g.L.Recorder.noted n (g.D.Acceptor.opening c.args.acceptor) (g.D.Acceptor.opening c.finish.result.acceptor) c.finish.result.end)
+    made (c.finish.ensures (g.D.Acceptor.opening c.args.acceptor) c.in-Ok-serve_all.ensures.taken)

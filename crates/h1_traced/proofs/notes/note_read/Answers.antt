@@ -1,6 +1,6 @@
 use Rattle.std.proofs.Common.{sym}
 use Rattle.http_bodies.proofs.Histories.{grown-none}
-use Rattle.h1_traced.proofs.Lines.{any_err, grows_unheard}
+use Rattle.h1_traced.proofs.TracedLaws.{any_err, grows_unheard}
 use Rattle.h1_traced.proofs.notes.note_read.Goals as goal
 
 pub returns-then-not-listens-clause-ok : goal.returns-then-not-listens-clause-ok

@@ -1,4 +1,4 @@
-use Rattle.h1_traced.proofs.Lines.{heard, grows_unheard}
+use Rattle.h1_traced.proofs.TracedLaws.{heard, grows_unheard}
 use Rattle.h1_traced.proofs.notes.note_step.Goals as goal
 
 pub returns-then-not-listens-clause-ok : goal.returns-then-not-listens-clause-ok

@@ -1,5 +1,5 @@
 use Rattle.std.proofs.Common.{sym}
-use Rattle.h1_traced.proofs.Lines.{heard, grows_unheard}
+use Rattle.h1_traced.proofs.TracedLaws.{heard, grows_unheard}
 use Rattle.h1_traced.proofs.notes.note_tick.Goals as goal
 
 pub returns-then-not-listens-clause-ok : goal.returns-then-not-listens-clause-ok

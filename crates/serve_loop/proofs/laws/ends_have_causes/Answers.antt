@@ -4,4 +4,4 @@ use Rattle.serve_loop.proofs.Jobs.{cause}
 use Rattle.serve_loop.proofs.laws.ends_have_causes.Goals as goal
 
 pub returns : goal.returns
-returns g c = λ a b moment output ends. cause (λ j. view_of g.T.Wire.wiring g.S.Service.served g.S.Service.calling g.B.MessageBody.gives (λ _. None) j.dispatcher) a b moment output ends
+returns g c = λ a b moment output ends. cause (λ j. view_of g.T.Transport.wiring g.S.Service.served g.S.Service.calling g.B.MessageBody.gives (λ _. None) j.dispatcher) a b moment output ends

@@ -7,7 +7,7 @@ use Rattle.h1_encoder.proofs.sending.Sending.go_on.Given as goal
 
 abbrev pub invariant-loop-turn : goal.invariant-loop-turn
 invariant-loop-turn g l = record {
-  sent : (sends : Sends g.U.Encoder.writes (view_of g.T.Wire.wiring g.B.MessageBody.gives l.fn.self) (view_of g.T.Wire.wiring g.B.MessageBody.gives l.self))
+  sent : (sends : Sends g.U.Encoder.writes (view_of g.T.Transport.wiring g.B.MessageBody.gives l.fn.self) (view_of g.T.Transport.wiring g.B.MessageBody.gives l.self))
       × (l.turn ≤ moved sends.given sends.gave l.fn.self.is_ended l.self.is_ended)
       × (given_count sends.given l.fn.self.is_ended l.self.is_ended ≤ l.turn);
   kept : Keeps l.fn.cx l.cx;

@@ -6,16 +6,16 @@ use Rattle.h1_encoder.proofs.sending.Sending.rest.Goals as goal
 
 pub returns-in-Pending-clause-says : goal.returns-in-Pending-clause-says
 returns-in-Pending-clause-says g c =
-    let v = view_of g.T.Wire.wiring g.B.MessageBody.gives c.args.self.now in
-    let w = view_of g.T.Wire.wiring g.B.MessageBody.gives (record c.args.self.now { framed = c.flush.new.self }) in
+    let v = view_of g.T.Transport.wiring g.B.MessageBody.gives c.args.self.now in
+    let w = view_of g.T.Transport.wiring g.B.MessageBody.gives (record c.args.self.now { framed = c.flush.new.self }) in
     let both = flush_waits g.U.Encoder.writes v w c.flush.new.cx.is_woken c.in-Pending.ensures.says c.requires.begun refl refl c.flush.ensures.codec c.flush.ensures.unread refl in
     asks_again g.U.Encoder.writes v w c.yield_now.new.self.is_woken c.yield_now.result c.yield_now.ensures.pending c.yield_now.ensures.woken both.0
-    (inr (wakes v.wire w.wire both.0.gave c.flush.new.cx.is_woken c.yield_now.new.self.is_woken c.yield_now.ensures.woken both.1)) both.2
+    (inr (wakes v.transport w.transport both.0.gave c.flush.new.cx.is_woken c.yield_now.new.self.is_woken c.yield_now.ensures.woken both.1)) both.2
 
 pub returns-in-Ready-Ok-clause-says : goal.returns-in-Ready-Ok-clause-says
 returns-in-Ready-Ok-clause-says g c =
-    let v = view_of g.T.Wire.wiring g.B.MessageBody.gives c.args.self.now in
-    let w = view_of g.T.Wire.wiring g.B.MessageBody.gives (record c.args.self.now { framed = c.flush.new.self }) in
+    let v = view_of g.T.Transport.wiring g.B.MessageBody.gives c.args.self.now in
+    let w = view_of g.T.Transport.wiring g.B.MessageBody.gives (record c.args.self.now { framed = c.flush.new.self }) in
     let both = flush_done g.U.Encoder.writes v w c.flush.new.cx.is_woken c.in-Ready-Ok.field-0-0 (rw c.in-Ready-Ok.field-0-is at c.in-Ready-Ok.ensures.says) c.requires.begun refl refl
     c.flush.ensures.codec c.flush.ensures.unread refl in
     asks_again g.U.Encoder.writes v w c.yield_now-in-Ready-Ok.new.self.is_woken c.yield_now-in-Ready-Ok.result c.yield_now-in-Ready-Ok.ensures.pending
@@ -23,7 +23,7 @@ returns-in-Ready-Ok-clause-says g c =
 
 pub returns-in-Ready-Err-clause-says : goal.returns-in-Ready-Err-clause-says
 returns-in-Ready-Err-clause-says g c =
-    let v = view_of g.T.Wire.wiring g.B.MessageBody.gives c.args.self.now in
-    let w = view_of g.T.Wire.wiring g.B.MessageBody.gives (record c.args.self.now { framed = c.flush.new.self }) in
+    let v = view_of g.T.Transport.wiring g.B.MessageBody.gives c.args.self.now in
+    let w = view_of g.T.Transport.wiring g.B.MessageBody.gives (record c.args.self.now { framed = c.flush.new.self }) in
     flush_failed g.U.Encoder.writes v w c.flush.new.cx.is_woken 0 c.in-Ready-Err.field-0-0 (rw c.in-Ready-Err.field-0-is at c.in-Ready-Err.ensures.says) c.requires.begun refl refl
     c.flush.ensures.codec c.flush.ensures.unread refl

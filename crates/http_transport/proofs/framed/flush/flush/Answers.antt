@@ -10,11 +10,11 @@ loop-turn-preserved g c =
     let count = c.in-Ready-Ok.count in
     let left = c.loop-turn.unsent.items in
     let says = rw c.in-Ready-Ok.field-0-is at c.in-Ready-Ok.ensures.says in
-    let wrote = subst (λ (l : List ℕ). WriteSays (g.T.Wire.wiring c.loop-turn.io) (g.T.Wire.wiring c.poll_write.new.self) (Ready (Ok count)) l) c.as_slice.ensures says in
+    let wrote = subst (λ (l : List ℕ). WriteSays (g.T.Transport.wiring c.loop-turn.io) (g.T.Transport.wiring c.poll_write.new.self) (Ready (Ok count)) l) c.as_slice.ensures says in
     record {
       sent = (
         inv.sent.0 ++ take count left,
-        more_sent (g.T.Wire.wiring c.args.io.now) (g.T.Wire.wiring c.loop-turn.io) (g.T.Wire.wiring c.poll_write.new.self) c.args.unsent.now.items
+        more_sent (g.T.Transport.wiring c.args.io.now) (g.T.Transport.wiring c.loop-turn.io) (g.T.Transport.wiring c.poll_write.new.self) c.args.unsent.now.items
             c.loop-turn.turn inv.sent.0 left inv.sent.1 count c.advance.new.self.items wrote (search rules) c.advance.ensures.items,
       );
       kept = search rules;

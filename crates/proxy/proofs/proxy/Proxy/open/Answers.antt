@@ -17,7 +17,7 @@ returns-clause-goes c =
     let q = record c.args.self.now { unsent = Some c.new.result } in
     from_then c.args.item c.args.self.now q _
     (waits_from c.args.item c.args.self.now c.new.result c.requires.idle (λ h says. sym (c.is_forwardable.ensures h says) ∙ c.if-not-is_forwardable.false) c.new.ensures.unsent)
-    (client_done q c.tell_to_go_on.new.client c.in_ok-tell_to_go_on.ensures.brings)
+    (client_done q c.tell_to_continue.new.client c.in_ok-tell_to_continue.ensures.brings)
 
 pub returns-then-not-is_forwardable-clause-works : goal.returns-then-not-is_forwardable-clause-works
 returns-then-not-is_forwardable-clause-works c =
@@ -27,7 +27,7 @@ returns-then-not-is_forwardable-clause-works c =
 pub returns-clause-works : goal.returns-clause-works
 returns-clause-works c =
     let q = record c.args.self.now { unsent = Some c.new.result } in
-    more_then 3 c.args.self.now q _ (waits_more c.args.self.now c.new.result) (client_less on.done q c.tell_to_go_on.new.client c.in_ok-tell_to_go_on.ensures.brings)
+    more_then 3 c.args.self.now q _ (waits_more c.args.self.now c.new.result) (client_less on.done q c.tell_to_continue.new.client c.in_ok-tell_to_continue.ensures.brings)
 
 pub returns-then-not-is_forwardable-clause-serves : goal.returns-then-not-is_forwardable-clause-serves
 returns-then-not-is_forwardable-clause-serves c = λ h says x.
@@ -38,8 +38,8 @@ returns-then-not-is_forwardable-clause-serves c = λ h says x.
 
 pub returns-clause-serves : goal.returns-clause-serves
 returns-clause-serves c = λ h says x.
-    waits_serves _ c.args.self.now c.tell_to_go_on.new.client c.new.result c.new.ensures.unanswered (c.new.ensures.asked h says)
-    c.in_ok-tell_to_go_on.ensures.brings c.in_ok-tell_to_go_on.ensures.wants c.in_ok-tell_to_go_on.ensures.told x
+    waits_serves _ c.args.self.now c.tell_to_continue.new.client c.new.result c.new.ensures.unanswered (c.new.ensures.asked h says)
+    c.in_ok-tell_to_continue.ensures.brings c.in_ok-tell_to_continue.ensures.wants c.in_ok-tell_to_continue.ensures.told x
 
 pub returns-then-not-is_forwardable-clause-replies : goal.returns-then-not-is_forwardable-clause-replies
 returns-then-not-is_forwardable-clause-replies c =
@@ -53,7 +53,7 @@ returns-then-not-is_forwardable-clause-replies c =
     )
 
 pub returns-clause-replies : goal.returns-clause-replies
-returns-clause-replies c = inl c.in_ok-tell_to_go_on.ensures.puts
+returns-clause-replies c = inl c.in_ok-tell_to_continue.ensures.puts
 
 pub returns-then-not-is_forwardable-clause-keeps : goal.returns-then-not-is_forwardable-clause-keeps
 returns-then-not-is_forwardable-clause-keeps c =

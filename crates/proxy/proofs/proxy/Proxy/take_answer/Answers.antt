@@ -1,7 +1,7 @@
 use Rattle.std.proofs.Common.{Some, None, refl}
 use Rattle.proxy.proofs.Moves.{goes_same, goes_then, closes}
 use Rattle.proxy.proofs.Work.{less_same, less_then, weaker, closed_less, drop_sent}
-use Rattle.proxy.proofs.Served.{serves_of_sent, with_server, no_reply_to, told_to_go_on}
+use Rattle.proxy.proofs.Served.{serves_of_sent, with_server, no_reply_to, told_to_continue}
 use Rattle.std.proofs.Common.{subst, inl, inr, ◌≡◌, []}
 use Rattle.proxy.proofs.Replies.{is_refused_so, is_passed_over, is_passed_on, goes_as}
 use Rattle.proxy.proofs.Puts.{puts_none, hands_same}
@@ -40,7 +40,7 @@ returns-in-PassOver-clause-serves c = λ _. with_server c.args.self.now (Some c.
 pub returns-in_ok-pass_noted-in-PassOn-clause-serves : goal.returns-in_ok-pass_noted-in-PassOn-clause-serves
 returns-in_ok-pass_noted-in-PassOn-clause-serves c = λ unanswered s.
     c.in_ok-pass_noted-in-PassOn.ensures.serves (no_reply_to c.args.self.now c.args.sent c.requires.runs unanswered s)
-    (told_to_go_on c.args.self.now c.args.sent c.requires.runs s)
+    (told_to_continue c.args.self.now c.args.sent c.requires.runs s)
 
 pub returns-in_ok-fail-in-Refuse-clause-replies : goal.returns-in_ok-fail-in-Refuse-clause-replies
 returns-in_ok-fail-in-Refuse-clause-replies c = λ unanswered a read says.

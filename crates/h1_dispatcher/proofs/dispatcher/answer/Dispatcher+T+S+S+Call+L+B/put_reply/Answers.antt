@@ -15,8 +15,8 @@ answer-requires g c = record { can_answer = any_allowed _ _ _ _ c.requires.allow
 
 pub returns-then-is_eof-clause-says : goal.returns-then-is_eof-clause-says
 returns-then-is_eof-clause-says g c =
-    let v = view_of g.T.Wire.wiring g.S.Service.served g.S.Service.calling g.B.MessageBody.gives g.L.Recorder.noted c.args.self.now in
-    let w = view_of g.T.Wire.wiring g.S.Service.served g.S.Service.calling g.B.MessageBody.gives g.L.Recorder.noted (record c.args.self.now { line = c.answer.new.self; queue = c.create.result; work = Free }) in
+    let v = view_of g.T.Transport.wiring g.S.Service.served g.S.Service.calling g.B.MessageBody.gives g.L.Recorder.noted c.args.self.now in
+    let w = view_of g.T.Transport.wiring g.S.Service.served g.S.Service.calling g.B.MessageBody.gives g.L.Recorder.noted (record c.args.self.now { traced = c.answer.new.self; queue = c.create.result; work = Free }) in
     let answer = told_response g.B.MessageBody.gives c.in-Replying.response in
     let was = ap (λ x. stage_of g.S.Service.calling g.B.MessageBody.gives x) c.in-Replying.is in
     let stated = rw c.body.ensures at c.size-size.ensures in
@@ -27,8 +27,8 @@ returns-then-is_eof-clause-says g c =
 
 pub returns-in-Replying-replace-clause-says : goal.returns-in-Replying-replace-clause-says
 returns-in-Replying-replace-clause-says g c =
-    let v = view_of g.T.Wire.wiring g.S.Service.served g.S.Service.calling g.B.MessageBody.gives g.L.Recorder.noted c.args.self.now in
-    let w = view_of g.T.Wire.wiring g.S.Service.served g.S.Service.calling g.B.MessageBody.gives g.L.Recorder.noted (record c.args.self.now { line = c.answer.new.self; queue = c.create.result; work = Sending c.into_body.result }) in
+    let v = view_of g.T.Transport.wiring g.S.Service.served g.S.Service.calling g.B.MessageBody.gives g.L.Recorder.noted c.args.self.now in
+    let w = view_of g.T.Transport.wiring g.S.Service.served g.S.Service.calling g.B.MessageBody.gives g.L.Recorder.noted (record c.args.self.now { traced = c.answer.new.self; queue = c.create.result; work = Sending c.into_body.result }) in
     let answer = told_response g.B.MessageBody.gives c.in-Replying.response in
     let was = ap (λ x. stage_of g.S.Service.calling g.B.MessageBody.gives x) c.in-Replying.is in
     let stated = rw c.body.ensures at c.size-size.ensures in
@@ -40,8 +40,8 @@ returns-in-Replying-replace-clause-says g c =
 
 pub returns-in-Err-clause-says : goal.returns-in-Err-clause-says
 returns-in-Err-clause-says g c =
-    let v = view_of g.T.Wire.wiring g.S.Service.served g.S.Service.calling g.B.MessageBody.gives g.L.Recorder.noted c.args.self.now in
-    let w = view_of g.T.Wire.wiring g.S.Service.served g.S.Service.calling g.B.MessageBody.gives g.L.Recorder.noted (record c.args.self.now { line = c.answer.new.self; ending = Some Broken }) in
+    let v = view_of g.T.Transport.wiring g.S.Service.served g.S.Service.calling g.B.MessageBody.gives g.L.Recorder.noted c.args.self.now in
+    let w = view_of g.T.Transport.wiring g.S.Service.served g.S.Service.calling g.B.MessageBody.gives g.L.Recorder.noted (record c.args.self.now { traced = c.answer.new.self; ending = Some Broken }) in
     let answer = told_response g.B.MessageBody.gives c.in-Replying.response in
     let was = ap (λ x. stage_of g.S.Service.calling g.B.MessageBody.gives x) c.in-Replying.is in
     let stated = rw c.body.ensures at c.size-size.ensures in

@@ -5,7 +5,7 @@ use Rattle.h1_dispatcher.proofs.dispatcher.upgrade.Dispatcher+T+S+S+Call+L+B.acc
 
 pub hand_over-requires : goal.hand_over-requires
 hand_over-requires g c =
-    let v = view_of g.T.Wire.wiring g.S.Service.served g.S.Service.calling g.B.MessageBody.gives g.L.Recorder.noted c.args.self in
+    let v = view_of g.T.Transport.wiring g.S.Service.served g.S.Service.calling g.B.MessageBody.gives g.L.Recorder.noted c.args.self in
     let says = rw c.in-Ok-None.field-0-is at c.in-Ok-None.ensures.says in
     record { waits = ap (λ (x : View). is_waiting x.stage) says.1 ∙ accepts_waits v c.args.limit c.requires.can_accept }
 
@@ -15,8 +15,8 @@ returns-in-Ok-None g c =
     record {
       says = record {
         request = sym (ap (λ (x : View). x.stage) says.1) ∙ c.hand_over.ensures.request;
-        line = rw c.hand_over.ensures.line says.0;
-        wire = ap g.T.Wire.wiring c.hand_over.ensures.wire ∙ ap (λ (x : View). x.wire) says.1;
+        traced = rw c.hand_over.ensures.traced says.0;
+        transport = ap g.T.Transport.wiring c.hand_over.ensures.transport ∙ ap (λ (x : View). x.transport) says.1;
         service = ap (λ s. told_service g.B.MessageBody.gives (g.S.Service.served s)) c.hand_over.ensures.service ∙ ap (λ (x : View). x.service) says.1;
       };
     }

@@ -6,25 +6,25 @@ use Rattle.ws_dispatcher.proofs.inner.poll.Dispatcher+S+S+Call+T+U+U+Item+I+S+Er
 
 pub returns-in-Idle-clause-says : goal.returns-in-Idle-clause-says
 returns-in-Idle-clause-says g c =
-    let v = view_of g.T.Wire.wiring g.S.Service.served c.args.self.now in
-    let u = view_of g.T.Wire.wiring g.S.Service.served c.loop-turn.self in
-    let w = view_of g.T.Wire.wiring g.S.Service.served c.turn.new.self in
+    let v = view_of g.T.Transport.wiring g.S.Service.served c.args.self.now in
+    let u = view_of g.T.Transport.wiring g.S.Service.served c.loop-turn.self in
+    let w = view_of g.T.Transport.wiring g.S.Service.served c.turn.new.self in
     let run = c.loop-turn.invariant.run in
     poll_idle g.U.Decoder.reads g.U.Decoder.given g.U.Decoder.nothing g.U.Decoder.breaks g.U.Decoder.lacks g.U.Decoder.seen g.U.Decoder.leaves g.U.Encoder.writes (Unwritten g.U.Encoder.refuses g.U.Encoder.lacks g.U.Encoder.leaves) v u w run.0 run.1 run.2 c.turn.new.cx c.in-Idle.ensures.says
 
 pub returns-in-Over-clause-says : goal.returns-in-Over-clause-says
 returns-in-Over-clause-says g c =
-    let v = view_of g.T.Wire.wiring g.S.Service.served c.args.self.now in
-    let u = view_of g.T.Wire.wiring g.S.Service.served c.loop-turn.self in
-    let w = view_of g.T.Wire.wiring g.S.Service.served c.turn.new.self in
+    let v = view_of g.T.Transport.wiring g.S.Service.served c.args.self.now in
+    let u = view_of g.T.Transport.wiring g.S.Service.served c.loop-turn.self in
+    let w = view_of g.T.Transport.wiring g.S.Service.served c.turn.new.self in
     let run = c.loop-turn.invariant.run in
     poll_over g.U.Decoder.reads g.U.Decoder.given g.U.Decoder.nothing g.U.Decoder.breaks g.U.Decoder.lacks g.U.Decoder.seen g.U.Decoder.leaves g.U.Encoder.writes (Unwritten g.U.Encoder.refuses g.U.Encoder.lacks g.U.Encoder.leaves) v u w run.0 run.1 run.2 c.turn.new.cx c.in-Over.result c.in-Over.ensures.says
 
 pub loop-turn-preserved : goal.loop-turn-preserved
 loop-turn-preserved g c =
-    let v = view_of g.T.Wire.wiring g.S.Service.served c.args.self.now in
-    let u = view_of g.T.Wire.wiring g.S.Service.served c.loop-turn.self in
-    let w = view_of g.T.Wire.wiring g.S.Service.served c.turn.new.self in
+    let v = view_of g.T.Transport.wiring g.S.Service.served c.args.self.now in
+    let u = view_of g.T.Transport.wiring g.S.Service.served c.loop-turn.self in
+    let w = view_of g.T.Transport.wiring g.S.Service.served c.turn.new.self in
     let run = c.loop-turn.invariant.run in
     record {
       run = poll_counted g.U.Decoder.reads g.U.Decoder.given g.U.Decoder.nothing g.U.Decoder.breaks g.U.Decoder.lacks g.U.Decoder.seen g.U.Decoder.leaves g.U.Encoder.writes (Unwritten g.U.Encoder.refuses g.U.Encoder.lacks g.U.Encoder.leaves) v u w run.0 run.1 run.2 c.turn.new.cx c.loop-turn.turn run.3 c.in-Counted.ensures.says;

@@ -10,7 +10,7 @@ abbrev pub invariant-loop-turn : goal.invariant-loop-turn
 invariant-loop-turn g l = record {
   run : (steps : List (Step g.row.U-Item.Denot g.row.I.Denot g.row.S-Error.Denot))
       × IsRun g.U.Decoder.reads g.U.Decoder.given g.U.Decoder.nothing g.U.Decoder.breaks g.U.Decoder.lacks g.U.Decoder.seen g.U.Decoder.leaves g.U.Encoder.writes (Unwritten g.U.Encoder.refuses g.U.Encoder.lacks g.U.Encoder.leaves)
-      (view_of g.T.Wire.wiring g.S.Service.served l.fn.self) steps (view_of g.T.Wire.wiring g.S.Service.served l.self)
+      (view_of g.T.Transport.wiring g.S.Service.served l.fn.self) steps (view_of g.T.Transport.wiring g.S.Service.served l.self)
       × AllContinue steps
       × (l.turn ≤ length steps);
   open_call : MayBePolled g.S.Service.calling l.self;

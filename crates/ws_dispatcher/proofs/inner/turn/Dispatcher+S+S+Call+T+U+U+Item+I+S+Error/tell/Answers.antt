@@ -8,8 +8,8 @@ use Rattle.ws_dispatcher.proofs.inner.turn.Dispatcher+S+S+Call+T+U+U+Item+I+S+Er
 
 pub returns-in-Failed-clause-says : goal.returns-in-Failed-clause-says
 returns-in-Failed-clause-says g c =
-    let v = view_of g.T.Wire.wiring g.S.Service.served c.args.self.now in
-    let w = view_of g.T.Wire.wiring g.S.Service.served (record c.args.self.now { end = c.replace.new.dest }) in
+    let v = view_of g.T.Transport.wiring g.S.Service.served c.args.self.now in
+    let w = view_of g.T.Transport.wiring g.S.Service.served (record c.args.self.now { end = c.replace.new.dest }) in
     let was = sym c.replace.ensures.value ∙ c.in-Failed.is in
     told_sent g.U.Decoder.reads g.U.Decoder.given g.U.Decoder.nothing g.U.Decoder.breaks g.U.Decoder.lacks g.U.Decoder.seen g.U.Decoder.leaves g.U.Encoder.writes (Unwritten g.U.Encoder.refuses g.U.Encoder.lacks g.U.Encoder.leaves) v w
     c.in-Failed.error (ap error_kept was) c.requires.sent

@@ -13,17 +13,17 @@ use Rattle.ws_service.proofs.dispatcher.serve.UpgradeDispatcher+T+U+U+Call+L.pul
 
 pub returns-in-Frame-clause-says : goal.returns-in-Frame-clause-says
 returns-in-Frame-clause-says g c =
-    let v = view_of g.T.Wire.wiring g.U.Service.served g.L.Recorder.noted c.args.self.now in
-    let w = view_of g.T.Wire.wiring g.U.Service.served g.L.Recorder.noted (record c.args.self.now { line = c.step.new.self; work = Waiting (items.Frame c.in-Frame.frame) }) in
+    let v = view_of g.T.Transport.wiring g.U.Service.served g.L.Recorder.noted c.args.self.now in
+    let w = view_of g.T.Transport.wiring g.U.Service.served g.L.Recorder.noted (record c.args.self.now { traced = c.step.new.self; work = Waiting (items.Frame c.in-Frame.frame) }) in
     goes_by v w (pulled (Frame c.in-Frame.frame)) 1
     (pulled_step v w c.in-Ok.outcome (Frame c.in-Frame.frame) c.requires.running c.requires.unasked c.requires.allowed (sym c.in-Frame.is ∙ c.given_by.ensures)
     c.in-Ok.ensures.stands c.step.ensures.settings refl refl) tt (omega arith)
 
 pub returns-in-Nothing-clause-says : goal.returns-in-Nothing-clause-says
 returns-in-Nothing-clause-says g c =
-    let v = view_of g.T.Wire.wiring g.U.Service.served g.L.Recorder.noted c.args.self.now in
-    let u = view_of g.T.Wire.wiring g.U.Service.served g.L.Recorder.noted (record c.args.self.now { line = c.step.new.self }) in
-    let w = view_of g.T.Wire.wiring g.U.Service.served g.L.Recorder.noted c.read.new.self in
+    let v = view_of g.T.Transport.wiring g.U.Service.served g.L.Recorder.noted c.args.self.now in
+    let u = view_of g.T.Transport.wiring g.U.Service.served g.L.Recorder.noted (record c.args.self.now { traced = c.step.new.self }) in
+    let w = view_of g.T.Transport.wiring g.U.Service.served g.L.Recorder.noted c.read.new.self in
     pending_then v u w (pulled Nothing) c.read.result
     (pulled_step v u c.in-Ok.outcome Nothing c.requires.running c.requires.unasked c.requires.allowed (sym c.in-Nothing.is ∙ c.given_by.ensures)
     c.in-Ok.ensures.stands c.step.ensures.settings refl c.requires.unasked) tt
@@ -31,14 +31,14 @@ returns-in-Nothing-clause-says g c =
 
 pub returns-in-Other-clause-says : goal.returns-in-Other-clause-says
 returns-in-Other-clause-says g c =
-    let v = view_of g.T.Wire.wiring g.U.Service.served g.L.Recorder.noted c.args.self.now in
-    let w = view_of g.T.Wire.wiring g.U.Service.served g.L.Recorder.noted (record c.args.self.now { line = c.step.new.self }) in
+    let v = view_of g.T.Transport.wiring g.U.Service.served g.L.Recorder.noted c.args.self.now in
+    let w = view_of g.T.Transport.wiring g.U.Service.served g.L.Recorder.noted (record c.args.self.now { traced = c.step.new.self }) in
     goes_by v w (pulled Other) 1
     (pulled_step v w c.in-Ok.outcome Other c.requires.running c.requires.unasked c.requires.allowed (sym c.in-Other.is ∙ c.given_by.ensures)
     c.in-Ok.ensures.stands c.step.ensures.settings refl c.requires.unasked) tt (omega arith)
 
 pub returns-in-Err-clause-says : goal.returns-in-Err-clause-says
 returns-in-Err-clause-says g c =
-    let v = view_of g.T.Wire.wiring g.U.Service.served g.L.Recorder.noted c.args.self.now in
-    let w = view_of g.T.Wire.wiring g.U.Service.served g.L.Recorder.noted (record c.args.self.now { line = c.step.new.self; ending = Some Broken }) in
+    let v = view_of g.T.Transport.wiring g.U.Service.served g.L.Recorder.noted c.args.self.now in
+    let w = view_of g.T.Transport.wiring g.U.Service.served g.L.Recorder.noted (record c.args.self.now { traced = c.step.new.self; ending = Some Broken }) in
     lacks v w (failed on.pull) refl ((c.requires.running, c.requires.unasked, c.requires.allowed), c.in-Err.ensures.err, refl) (inl (on.pull, tt, ([], refl, tt)))

@@ -11,16 +11,16 @@ use Rattle.ws_service.proofs.dispatcher.write.UpgradeDispatcher+T+U+U+Call+L.giv
 
 pub returns-in-Pending-clause-says : goal.returns-in-Pending-clause-says
 returns-in-Pending-clause-says g c =
-    let v = view_of g.T.Wire.wiring g.U.Service.served g.L.Recorder.noted c.args.self.now in
-    let u = view_of g.T.Wire.wiring g.U.Service.served g.L.Recorder.noted (record c.args.self.now { wire = c.poll_write.new.self }) in
-    let w = view_of g.T.Wire.wiring g.U.Service.served g.L.Recorder.noted c.go_on.new.self in
+    let v = view_of g.T.Transport.wiring g.U.Service.served g.L.Recorder.noted c.args.self.now in
+    let u = view_of g.T.Transport.wiring g.U.Service.served g.L.Recorder.noted (record c.args.self.now { transport = c.poll_write.new.self }) in
+    let w = view_of g.T.Transport.wiring g.U.Service.served g.L.Recorder.noted c.go_on.new.self in
     let front = offered v _ c.requires.some (rw c.connection.ensures at c.stretch.ensures.first) (rw c.connection.ensures at c.stretch.ensures.some) in
     written_then v u w c.go_on.result c.requires.running (c.requires.running, (_, front, c.in-Pending.ensures.says), refl, refl) c.go_on.ensures.says
 
 pub returns-in-Ready-Err-clause-says : goal.returns-in-Ready-Err-clause-says
 returns-in-Ready-Err-clause-says g c =
-    let v = view_of g.T.Wire.wiring g.U.Service.served g.L.Recorder.noted c.args.self.now in
-    let w = view_of g.T.Wire.wiring g.U.Service.served g.L.Recorder.noted (record c.args.self.now { wire = c.poll_write.new.self }) in
+    let v = view_of g.T.Transport.wiring g.U.Service.served g.L.Recorder.noted c.args.self.now in
+    let w = view_of g.T.Transport.wiring g.U.Service.served g.L.Recorder.noted (record c.args.self.now { transport = c.poll_write.new.self }) in
     let front = offered v _ c.requires.some (rw c.connection.ensures at c.stretch.ensures.first) (rw c.connection.ensures at c.stretch.ensures.some) in
     ends_by v w (written (Ready (Err c.in-Ready-Err.field-0-0))) (Err Io)
     (c.requires.running, (_, front, rw c.in-Ready-Err.field-0-is at c.in-Ready-Err.ensures.says), refl, refl)
@@ -28,8 +28,8 @@ returns-in-Ready-Err-clause-says g c =
 
 pub returns-in-Ok-clause-says : goal.returns-in-Ok-clause-says
 returns-in-Ok-clause-says g c =
-    let v = view_of g.T.Wire.wiring g.U.Service.served g.L.Recorder.noted c.args.self.now in
-    let w = view_of g.T.Wire.wiring g.U.Service.served g.L.Recorder.noted (record c.args.self.now { wire = c.poll_write.new.self; line = c.advance.new.self }) in
+    let v = view_of g.T.Transport.wiring g.U.Service.served g.L.Recorder.noted c.args.self.now in
+    let w = view_of g.T.Transport.wiring g.U.Service.served g.L.Recorder.noted (record c.args.self.now { transport = c.poll_write.new.self; traced = c.advance.new.self }) in
     let front = offered v _ c.requires.some (rw c.connection.ensures at c.stretch.ensures.first) (rw c.connection.ensures at c.stretch.ensures.some) in
     let says = rw c.in-Ready-Ok.field-0-is at c.in-Ready-Ok.ensures.says in
     goes_by v w (written (Ready (Ok c.in-Ready-Ok.count))) 1
@@ -37,8 +37,8 @@ returns-in-Ok-clause-says g c =
 
 pub returns-in-Err-clause-says : goal.returns-in-Err-clause-says
 returns-in-Err-clause-says g c =
-    let v = view_of g.T.Wire.wiring g.U.Service.served g.L.Recorder.noted c.args.self.now in
-    let w = view_of g.T.Wire.wiring g.U.Service.served g.L.Recorder.noted (record c.args.self.now { wire = c.poll_write.new.self; line = c.advance.new.self; ending = Some Broken }) in
+    let v = view_of g.T.Transport.wiring g.U.Service.served g.L.Recorder.noted c.args.self.now in
+    let w = view_of g.T.Transport.wiring g.U.Service.served g.L.Recorder.noted (record c.args.self.now { transport = c.poll_write.new.self; traced = c.advance.new.self; ending = Some Broken }) in
     let front = offered v _ c.requires.some (rw c.connection.ensures at c.stretch.ensures.first) (rw c.connection.ensures at c.stretch.ensures.some) in
     lacks v w (failed_write c.in-Ready-Ok.count) refl
     (c.requires.running, (_, front, rw c.in-Ready-Ok.field-0-is at c.in-Ready-Ok.ensures.says), c.in-Err.ensures.err, refl)
