@@ -41,6 +41,9 @@ END
 
 # ---- Each word
 
+# The value of --bind, which is the only one in some.
+value() { [ $# -gt 1 ] || wrong Bind; }
+
 launch_serve() {
     flags="--dotfiles --lax --until-input-ends"
     valued="--bind --requests"
@@ -93,7 +96,6 @@ launch_get() {
 launch_chat() {
     flags="--ignore-input"
     valued="--bind"
-    value() { [ $# -gt 1 ] || wrong Bind; }
     operand() {
         [ "$1" = 1 ] || wrong TooMany
         # The page is at the next port.
@@ -110,7 +112,6 @@ launch_chat() {
 launch_proxy() {
     flags="--quiet --ignore-input"
     valued="--bind"
-    value() { [ $# -gt 1 ] || wrong Bind; }
     operand() {
         case $1 in
             1) is_number "$2" 65535 || wrong Port ;;
@@ -131,8 +132,8 @@ launch_replay() {
     case $* in
         --help | -h | "hub --help" | "hub -h") help_of_replay; exit 0 ;;
         replay | again | "hub replay") ;;
-        hub | "hub "*) wrong_script hub_reply ;;
-        *) are_gen "$@" || wrong_script reply ;;
+        hub | "hub "*) say_usage h1_replay/src/hub_reply.rt ;;
+        *) are_gen "$@" || say_usage h1_replay/src/reply.rt ;;
     esac
     limits=()
     words=("$@")
@@ -170,9 +171,9 @@ report is above 1 MiB or the run takes a minute.
 END
 }
 
-# Ends as the program does for wrong words: with the usage text of its sources.
-wrong_script() {
-    sed -n 's/.*b"\(usage: .*\)\\n".*/\1/p' "$root/crates/h1_replay/src/$1.rt"
+# Ends as the program does for wrong words: with the usage text of this source.
+say_usage() {
+    sed -n 's/.*b"\(usage: .*\)\\n".*/\1/p' "$root/crates/$1"
     exit 1
 }
 
@@ -216,7 +217,7 @@ It takes N connections on a port of this machine, at most 65536, each on a threa
 A GET asks for the counter that its path names, a POST adds one to it. Then it writes how many calls were made and each
 counter. crates/app_counters/README.md lists its statuses.
 END
-    [ $# = 3 ] && is_number "$1" 65535 && is_number "$2" 65536 && is_number "$3" "$most_64" || refuse_usage
+    [ $# = 3 ] && is_number "$1" 65535 && is_number "$2" 65536 && is_number "$3" "$most_64" || say_usage board_server/src/run.rt
     words=("$@")
     serve "$@"
 }
