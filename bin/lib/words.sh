@@ -5,9 +5,9 @@ serve    | app_files    | one to three minutes   | PORT FOLDER             | ser
 get      | app_get      | a minute or two        | URL.. [FILE]            | asks for URLs, one after another
 chat     | app_chat     | one to three minutes   | PORT                    | chat rooms over WebSocket, and a page to chat with
 proxy    | app_proxy    | one to three minutes   | PORT SERVER             | a reverse proxy before one server
-replay   | app_replay   | half a minute          | replay, gen, hub, again | replays a script of events, or runs exchanges of a seed
-echo     | app_echo     | half a minute          | [MOMENT]                | answers requests on the standard input with their bodies
-site     | app_site     | some minutes           | PORT THREADS            | a small site by an event loop
+replay   | app_replay   | a minute or two        | replay, gen, hub, again | replays a script of events, or runs exchanges of a seed
+echo     | app_echo     | about a minute         | [MOMENT]                | answers requests on the standard input with their bodies
+site     | app_site     | one to three minutes   | PORT THREADS            | a small site by an event loop
 counters | app_counters | one to three minutes   | PORT N POLLS            | counters on one board, a thread for each connection
 hello    | app_hello    | one to three minutes   | PORT N [AT_ONCE]        | a greeting and an echo by a handler
 '
@@ -30,7 +30,7 @@ list_words() {
 $launcher WORD --help says more of one.
 
 It runs the proved program where bin/prove or rt ci has made it and nothing that it stands on has changed. Else it builds the
-same sources, checked as they run and not proved: that takes half a minute to three minutes each time. Such a build shows its
+same sources, checked as they run and not proved: that takes one to three minutes each time. Such a build shows its
 output only at its end, and at most 1 MiB of it. It reads its whole input before it begins; a server gets none, so that one
 that ends with its input goes on.
 
