@@ -1,5 +1,5 @@
-//! Replays scripts over the program's input and output: of a connection (`h1_replay`), of a hub of chat rooms
-//! (`h1_replay`), or of a connection twice, each step that finds no memory tried once more.
+//! Replays scripts over the program's input and output (`h1_replay`): of a connection, of a hub of chat rooms, or of a
+//! connection twice, where each step that finds no memory is tried once more.
 #![tactic(auto)]
 
 mod again;

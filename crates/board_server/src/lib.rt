@@ -1,26 +1,10 @@
-//! A connection over a board of counters that others share: a dispatcher drives it over any transport, and each request is
-//! answered by one call of the board at most.
+//! A server over one board of counters: a thread for each connection, and one board that all of them call. For `app_counters`,
+//! and as a worked example of a server whose whole run is proved.
 //!
-//! # Example
-//!
-//! ```ignore
-//! let served = serve_connection(&rt, config, transport, clock, &shared, pass, &OpenGate, 0, 1_000_000, NoRecord);
-//! match served.end {
-//!     Ok(()) => {}                            // it ended in good order, and the transport is shut down
-//!     Err(ServeError::Dispatch(error)) => {}  // why it broke off
-//!     Err(ServeError::Budget) => {}           // it was pending as often as it was polled
-//!     Err(ServeError::NoMemory) => {}
-//! }
-//! ```
-//!
-//! # Contract
-//!
-//! `HasServed` tells by which polls the connection went, and why it ended. `IsTold` tells the same by the trace of its
-//! events: the requests that it handed out are those that were answered, each with its answer, and at most one more; and the
-//! pass has one entry for each 200, in order, with the command of its request and the reply of its answer.
-//!
-//! A server of many connections over one board of counters: a thread for each connection, and one board that all of them
-//! call.
+//! - [`serve_connection`] drives one connection over any transport, and tells by [`Served`] how it ended.
+//! - [`serve`] and [`serve_by`] serve all connections of an acceptor, and give a [`Report`] with one [`Visit`] for each.
+//! - [`serve_run`] is the program but for `main`; [`print_report`] writes the report.
+//! - [`MemAcceptor`] is an acceptor in memory; [`GatedAcceptor`] gives connections that read nothing while their writes wait.
 //!
 //! # Example
 //!
@@ -28,7 +12,7 @@
 //! let ran = serve(&rt, config, acceptor, clock, &OpenGate, NoRecords, 100, 1_000_000, blank);
 //! match ran.end {
 //!     Ok(report) => {}                      // the board, and what came of each connection
-//!     Err(ServeFault::Acceptor(report)) => {}   // the same, as the acceptor failed
+//!     Err(ServeFault::Acceptor(report)) => {} // the same, as the acceptor failed
 //!     Err(ServeFault::Unlike(_)) => {}      // the journal isn't that of the passes
 //!     Err(ServeFault::NoMemory) => {}
 //! }
@@ -36,25 +20,17 @@
 //!
 //! # Contract
 //!
-//! A report has one visit for each connection that the acceptor gave. Each was served as `board_server` says, and the board's
-//! journal has just the calls of the visits, those of each visit in its order, each with the reply that the calls before it
-//! give.
+//! The requests that a connection handed out are those that were answered, and at most one more; its pass has one entry for each
+//! 200, in order. The board's journal has just the calls of the visits, each with the reply that the calls before it give.
 #![tactic(auto)]
 
+mod accept;
 mod connection;
 mod error;
-mod recorders;
-
-pub use board::{Gate, OpenGate};
-pub use connection::{Served, serve_connection};
-pub use error::ServeError;
-pub use http_transport::Clock;
-pub use recorders::{NoRecords, Recorders};
-
-mod accept;
 mod gated_acceptor;
 mod gather;
 mod mem_acceptor;
+mod recorders;
 mod report;
 mod run;
 mod server;
@@ -63,10 +39,14 @@ mod visit;
 mod words;
 mod write;
 
+pub use board::{Gate, OpenGate};
+pub use connection::{Served, serve_connection};
+pub use error::ServeError;
 pub use gated_acceptor::GatedAcceptor;
-pub use http_transport::Acceptor;
+pub use http_transport::{Acceptor, Clock};
 pub use mem_acceptor::{MemAcceptor, MemPeer};
 pub use net_sockets::{Gated, Linger, TcpAcceptor, TcpTransport};
+pub use recorders::{NoRecords, Recorders};
 pub use report::print_report;
 pub use run::{Run, serve_run};
 pub use server::{serve, serve_by};

@@ -1,6 +1,10 @@
-//! The texts of answers (RFC 7230, sections 3 and 4.1): heads, pieces and ends of bodies, interim lines and
-//! refusals, each put behind what a buffer holds. Beside them stand encoders of whole messages, with the names
-//! that actix-http has for them.
+//! The texts that HTTP/1 writes (RFC 7230, sections 3 and 4.1), each put behind what a buffer holds: heads of answers and of
+//! requests, pieces and ends of bodies, interim lines and refusals. For `h1_connection`, `h1_client` and `h1_codec`, and for a
+//! program that writes messages itself.
+//!
+//! - Answers: [`put_answer_head`], [`put_piece`], [`put_end`], [`put_interim`], [`put_accept`] and the refusals.
+//! - Requests: [`put_request_head`].
+//! - [`MessageEncoder`] and [`TransferEncoding`] encode whole messages, under the names that actix-http has for them.
 //!
 //! # Example
 //!
@@ -17,25 +21,8 @@
 //!
 //! # Contract
 //!
-//! Each text is that of the definitions, behind what the buffer held. Want of memory leaves the buffer as it was,
-//! and what writes nothing wants none. What is written of a body in chunks is read again as its bytes (`laws`).
-//!
-//! The text of a request's head, as a client writes it (RFC 7230, sections 3.1.1 and 3.2): the request line, the line that
-//! frames the body, the connection line, the headers name by name, the date, and an empty line.
-//!
-//! # Example
-//!
-//! ```ignore
-//! let mut head = RequestHead::new(alloc);
-//! head.headers.insert(HOST, HeaderValue::from_static("example.org"))?;
-//! let mut out = BytesMut::new(alloc);
-//! put_request_head(&mut out, &head, BodySize::None, head.connection_type(), 0)?;
-//! // out holds: GET / HTTP/1.1, host: example.org, date: Thu, 01 Jan 1970 00:00:00 GMT, and an empty line.
-//! ```
-//!
-//! # Contract
-//!
-//! The text is that of the definitions, after what the buffer held. Where memory is wanting, the buffer holds what it held.
+//! Each text is that of the definitions of `model_h1` and `model_client`. Where memory runs out, the buffer holds what it
+//! held. What is written of a body in chunks is read again as its bytes ([`laws`]).
 #![tactic(auto)]
 
 mod accept;
@@ -51,6 +38,11 @@ mod fixed;
 mod head;
 mod headers;
 pub mod laws;
+mod request_camel;
+mod request_framing;
+mod request_head;
+mod request_headers;
+mod request_line;
 mod shape;
 
 pub use accept::put_accept;
@@ -63,12 +55,5 @@ pub use encoder::{EncodeHead, MessageEncoder, TransferEncoding};
 pub use error::EncodeError;
 pub use fixed::{put_bad_request, put_interim, put_timeout, put_too_large};
 pub use head::{put_answer_head, write_content_length};
-pub use shape::{Shape, shape_of};
-
-mod request_camel;
-mod request_framing;
-mod request_head;
-mod request_headers;
-mod request_line;
-
 pub use request_head::{has_text, put_request_head};
+pub use shape::{Shape, shape_of};

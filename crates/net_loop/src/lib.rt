@@ -1,5 +1,12 @@
-//! Any number of jobs that one thread polls: each has a slot, and is polled where its connection is ready, where its deadline
-//! has passed, or where it asked for it. It knows nothing of HTTP.
+//! An event loop's slots: any number of jobs that one thread polls. For `serve_loop`, or any program with a job for each
+//! connection: it knows nothing of HTTP.
+//!
+//! - [`Seats`] has a slot for each [`Job`], up to [`Limits`]. A job is polled only where its connection is ready, its
+//!   deadline has passed, or it asked for it.
+//! - [`turn`] is one turn of the loop: it waits on a [`Watch`], polls, and lets new connections in, which a [`Makes`] turns
+//!   into jobs.
+//! - [`Minima`] has a number for each slot, such as a deadline, and tells the least of them. All its memory is taken at the
+//!   beginning.
 //!
 //! # Example
 //!
@@ -14,46 +21,23 @@
 //!
 //! # Contract
 //!
-//! Of each job that has a slot it always holds that it is one that was made for a fresh connection, to which nothing was
-//! done but polls, and that it was asked to end. A poll of a slot changes no other slot. At most so many slots are taken as
-//! the limits say, and one whose job has ended is given back. A slot is polled only for one of three causes.
-//!
-//! Numbers by slot, and the least of them.
-//!
-//! An event loop has a slot for each connection, and waits until the least of their deadlines. Here stand as many numbers
-//! as there are slots, and beside them the lesser of each two, of each two of those, and so on up to the least of all: so
-//! the least is told in as many steps as the tree is high, and a number is changed in no more. All memory is taken at the
-//! beginning, and none after it.
-//!
-//! # Contract
-//!
-//! A clause sees a [`Minima`] as the list of its numbers. `set` changes one of them, and `least` tells a slot whose number
-//! is no greater than any other.
-//!
-//! # Example
-//!
-//! ```ignore
-//! let mut deadlines = Minima::new(alloc, 10_000, u64::MAX)?;   // nobody waits for a moment
-//! deadlines.set(17, now + 5000);
-//! let first = deadlines.least();                               // slot 17, and when
-//! ```
+//! A job in a slot was made for a fresh connection, and nothing was done to it but polls and a request to end. A poll of one
+//! slot changes no other. No more slots are taken than the limits say, and the slot of a job that has ended is given back.
 #![tactic(auto)]
 
 mod job;
 mod limits;
+mod minima;
 mod polls;
 mod seat;
 mod seats;
+mod tree;
 mod turns;
 mod watch;
 
 pub use job::{Job, Makes};
 pub use limits::Limits;
+pub use minima::{Least, Minima};
 pub use seats::{Seats, Went, Why};
 pub use turns::{Going, Lost, turn};
 pub use watch::{Happening, Watch};
-
-mod minima;
-mod tree;
-
-pub use minima::{Least, Minima};

@@ -1,8 +1,10 @@
-//! The calls of a forwarder's two connections, each made where it is allowed, and by what it brings towards the other side.
-//!
 //! A forwarder (a reverse proxy) without input or output: a client's connection beside one to a server (RFC 7230, section
-//! 2.3). Whoever owns the sockets and the clock tells it what came from either side, and writes what it puts out towards
-//! either.
+//! 2.3). For a program that owns the sockets and the clock, tells the forwarder what came from either side, and writes what
+//! it puts out towards either.
+//!
+//! - [`Proxy`] is the forwarder. [`Reply`] tells what was replied, for a log.
+//! - [`client`] and [`server`] are the calls of its two connections, each made only where it is allowed.
+//! - [`laws`]: what the contracts come to over many events.
 //!
 //! # Example
 //!
@@ -18,7 +20,7 @@
 //! # Contract
 //!
 //! What goes towards each server is the text of the requests that were forwarded, in order, and not one byte else. Each
-//! connection is driven by events alone that it allows.
+//! connection is driven only by events that it allows.
 #![tactic(auto)]
 
 pub mod client;
