@@ -31,8 +31,8 @@ $launcher WORD --help says more of one.
 
 It runs the proved program where bin/prove or rt ci has made it and nothing that it stands on has changed. Else it builds the
 same sources, checked as they run and not proved: that takes one to three minutes each time. Such a build shows its
-output only at its end, and at most 1 MiB of it. It reads its whole input before it begins; a server gets none, so that one
-that ends with its input goes on.
+output only at its end, and gives up where that is above 1 MiB. It reads its whole input before it begins; a server gets none,
+so that one that ends with its input goes on.
 
 It ends with the program's status, 64 where there is no such word, and 70 where nothing can be built or the build gives no
 answer.
