@@ -17,7 +17,7 @@ use Rattle.h1_connection.specs.State.{State, Stands, GoesOn, Is}
 use Rattle.h1_connection.specs.declared.connection.heads.NextHead.{NextHead}
 use Rattle.h1_connection.specs.declared.connection.heads.NextHead.TheVariants as next
 use Rattle.model_client.specs.ClientEvent as asked
-use Rattle.model_client.specs.ClientTrace.{Happened, IsClientTrace, now_of, now_after, sending_of, sending_after, text_of_event, given, taken_by, asked_by}
+use Rattle.model_client.specs.ClientTrace.{Happened, IsClientTrace, now_of, now_after, sending_of, sending_after, text_of_event, given, taken_by, requests_by}
 use Rattle.model_client.specs.ClientKept.{ClientKept, SendingBody, client_allows, client_closing}
 use Rattle.model_client.specs.ClientStep.{IsClientStep}
 use Rattle.model_client.proofs.Written.{is_text}
@@ -236,7 +236,7 @@ asked_step a b event out trace settings stands =
 -- an event that takes and gives nothing, and asks nothing
 pub server_one : (a : servers.State) (event : asked.ClientEvent) (Says : asked.ClientOutcome → Type 0) (b : servers.State) → b.settings ≡ a.settings
     → (one : servers.GoesOn a event Says b) → taken_by event one.outcome ≡ [] → given one.outcome ≡ [] → is_eof event ≡ false
-    → ((n : ℕ) (body : Option SendingBody) → text_of_event event n body ≡ []) → ((body : Option SendingBody) → sending_after event body ≡ body) → asked_by event ≡ []
+    → ((n : ℕ) (body : Option SendingBody) → text_of_event event n body ≡ []) → ((body : Option SendingBody) → sending_after event body ≡ body) → requests_by event ≡ []
     → ((trace : List Happened) → servers.Stands a trace → server_left b.kept ≤ server_left a.kept) → ServerStays a b
 server_one a event Says b settings one takes gives going says same asks left = record {
   settings = settings;
