@@ -1,7 +1,8 @@
 """Scripts of app_replay: seeds, their lines as lists of words, and the program that replays them."""
 import os, re, signal, subprocess, tempfile
 
-ROOT = os.path.dirname(os.path.dirname(os.path.dirname(os.path.realpath(__file__))))
+from checks import ROOT, program_of
+
 ESCAPES = {"r": b"\r", "n": b"\n", "t": b"\t", "\\": b"\\", '"': b'"'}
 
 
@@ -93,17 +94,6 @@ def seeds():
 
 
 # ---- the program
-
-def proved_program():
-    """The proved program, where bin/prove or rt ci has made it on this machine."""
-    return program_of("app_replay")
-
-
-def program_of(name, folder=None):
-    """The proved program of this name, where bin/prove or rt ci has made it on this machine, or the one in the folder."""
-    program = f"{folder}/{name}" if folder else f"{ROOT}/crates/{name}/out/{name}"
-    return program if os.access(program, os.X_OK) else None
-
 
 class Program:
     """A built program: each script is its standard input."""

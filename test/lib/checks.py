@@ -1,8 +1,16 @@
-"""What the checks of bin/clients share: how one is run and told, and sockets."""
-import re, shutil, socket, subprocess, time
+"""What the tests with real clients and servers share: how a check is run and told, programs and sockets."""
+import os, re, shutil, socket, subprocess, time
+
+ROOT = os.path.dirname(os.path.dirname(os.path.dirname(os.path.realpath(__file__))))
 
 PACKAGES = {"curl": "curl", "node": "nodejs", "ab": "apache2-utils", "wrk": "wrk", "nginx": "nginx-light", "chromium": "chromium"}
 results = []
+
+
+def program_of(name, folder=None):
+    """The proved program of this name, where bin/prove or rt ci has made it on this machine, or the one in the folder."""
+    program = f"{folder}/{name}" if folder else f"{ROOT}/crates/{name}/out/{name}"
+    return program if os.access(program, os.X_OK) else None
 
 
 def tell(name, is_right, seen=""):

@@ -311,7 +311,7 @@ def room_clients(address):
 
 
 if __name__ == "__main__":
-    # python3 bin/lib/rooms.py HOST:PORT
+    # python3 test/lib/rooms.py HOST:PORT
     host, port = sys.argv[1].rsplit(":", 1)
     room_clients((host, int(port)))
     print(f"{results.count(True)} right, {results.count(False)} wrong")

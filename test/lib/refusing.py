@@ -1,4 +1,4 @@
-"""A small library that has one call of a program fail, and the runs that bin/refuse makes with it."""
+"""A small library that has one call of a program fail, and the runs that test/refuse makes with it."""
 import os, subprocess, tempfile
 
 # Counts the calls that take memory, the reads of standard input and the writes to standard output. It has the one call fail

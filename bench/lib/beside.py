@@ -6,8 +6,9 @@ stands on, as a repository of its own, and proved, built and run there by rt ci,
     beside.py NAME FOLDER   lays it in that folder, to work on it there"""
 import hashlib, os, re, shutil, subprocess, sys, tempfile
 
+sys.path.insert(0, f"{os.path.dirname(os.path.realpath(__file__))}/../../bin/lib")
 sys.dont_write_bytecode = True
-from repository import ROOT, all_below, files_of
+from repository import ROOT, all_below, copy_unpacked, files_of, libraries_of, lines_of, sum_of
 
 OUT = f"{ROOT}/out/bench"
 
@@ -19,39 +20,27 @@ def say(text):
     print(f"bench: {text}", file=sys.stderr, flush=True)
 
 
-def lines_of(file):
-    """The lines of such a file, by their crates, in its order."""
-    with open(file, encoding="utf-8") as text:
-        lines = [line.split("#")[0].strip() for line in text]
-    return {line.split(":")[0].split()[0]: line for line in lines if line}
-
-
 def lines_for(name):
     """The lines of a crate that stands here and of all that it stands on."""
     lines = lines_of(f"{ROOT}/crates.txt") | lines_of(f"{ROOT}/bench/crates.txt.in")
-    on = {crate: [it for it in line.split(":")[1].split() if it in lines] for crate, line in lines.items()}
+    on = {crate: [it for it in libraries_of(line) if it in lines] for crate, line in lines.items()}
     return {crate: lines[crate] for crate in all_below(name, on)}
 
 
-def places_of(crates):
-    """Each file that the crates are made from and run on, by the place that it goes to."""
-    found = {}
-    for crate in crates:
-        here = f"{ROOT}/bench/{crate}"
-        folder = here if os.path.isdir(here) else f"{ROOT}/crates/{crate}"
-        files = files_of(folder)
-        if folder == here:
-            files += [f"{here}/{name}" for name in RUN_ON if os.path.isfile(f"{here}/{name}")]
-        for path in files:
-            found[f"crates/{crate}/{os.path.relpath(path, folder).removesuffix('.in')}"] = path
-    return found
+def files_for(crate):
+    """The folder of a crate, and the files that it is made from and run on."""
+    folder = f"{ROOT}/bench/{crate}"
+    if not os.path.isdir(folder):
+        folder = f"{ROOT}/crates/{crate}"
+        return folder, files_of(folder)
+    return folder, files_of(folder) + [f"{folder}/{name}" for name in RUN_ON if os.path.isfile(f"{folder}/{name}")]
 
 
 def lay(name, to):
     lines = lines_for(name)
-    for place, path in places_of(lines).items():
-        os.makedirs(os.path.dirname(f"{to}/{place}"), exist_ok=True)
-        shutil.copyfile(path, f"{to}/{place}")
+    for crate in lines:
+        folder, files = files_for(crate)
+        copy_unpacked(files, folder, f"{to}/crates/{crate}")
     with open(f"{to}/crates.txt", "w", encoding="utf-8") as text:
         text.writelines(f"{line}\n" for line in lines.values())
     shutil.copyfile(f"{ROOT}/HANDLES", f"{to}/HANDLES")
@@ -63,11 +52,8 @@ def sum_for(name):
     """A sum of all that a program is made from, the toolchain among it."""
     lines = lines_for(name)
     version = subprocess.run(["rt", "version"], capture_output=True, check=True).stdout
-    found = hashlib.sha256(repr((version, lines)).encode())
-    for place, path in sorted(places_of(lines).items()):
-        with open(path, "rb") as file:
-            found.update(repr((place, file.read())).encode())
-    return found.hexdigest()
+    sums = [sum_of(files, folder) for folder, files in map(files_for, lines)]
+    return hashlib.sha256(repr((version, lines, sums)).encode()).hexdigest()
 
 
 def build(name):

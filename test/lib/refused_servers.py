@@ -1,4 +1,4 @@
-"""Servers one of whose allocations is refused, for bin/refuse."""
+"""Servers one of whose allocations is refused, for test/refuse."""
 import os, re, subprocess, threading, time
 from checks import connect, free_port, wait_for
 

@@ -1,4 +1,4 @@
-"""Peers that are slow, deaf or too many, for bin/clients."""
+"""Peers that are slow, deaf or too many, for test/clients."""
 import select, socket, threading, time
 from checks import check, connect, differs, has, read_all, run, statuses_of
 
