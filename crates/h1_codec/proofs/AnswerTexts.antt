@@ -8,11 +8,11 @@ use Rattle.model_h1.specs.Setting.{Setting, keeps}
 use Rattle.model_h1.specs.Text.{answer_head_text}
 use Rattle.h1_encoder.specs.Encoding.{encoded, encoded_all}
 use Rattle.h1_encoder.specs.Meaning.{answer_of, size_of}
-use Rattle.h1_encoder.specs.ServerState.{codec_settings, codec_asked, codec_moment, codec_encoding, is_enabled, begun, Sent, Writes}
-use Rattle.h1_encoder.specs.declared.server_codec.Codec.{Codec}
-use Rattle.h1_encoder.specs.declared.framed_message.Message.TheVariants.{Item, Chunk}
-use Rattle.h1_encoder.specs.View.{View}
-use Rattle.h1_encoder.specs.Sends.{AreWritten, heads, pieces, filled, ends, Sends}
+use Rattle.h1_codec.specs.ServerState.{codec_settings, codec_asked, codec_moment, codec_encoding, is_enabled, begun, Sent, Writes}
+use Rattle.h1_codec.specs.declared.server_codec.Codec.{Codec}
+use Rattle.h1_codec.specs.declared.framed_message.Message.TheVariants.{Item, Chunk}
+use Rattle.h1_codec.specs.View.{View}
+use Rattle.h1_codec.specs.Sends.{AreWritten, heads, pieces, filled, ends, Sends}
 
 -- the chunks and the end
 body_text : (given : List Given) (c d : Codec) (text : List ℕ) → AreWritten Writes c (pieces given ++ (Chunk None ∷ [])) text d

@@ -8,15 +8,15 @@ use Rattle.http_bodies.proofs.Histories.{rose_since, rose_still}
 use Rattle.http_config.specs.Causes.{Rose}
 use Rattle.http_framing.specs.declared.body.size.BodySize.{BodySize}
 use Rattle.http_transport.specs.Wiring.{Wiring}
-use Rattle.h1_encoder.specs.declared.framed_message.Message.{Message}
-use Rattle.h1_encoder.specs.View.{View}
-use Rattle.h1_encoder.specs.Sends.{Later, Sends}
-use Rattle.h1_encoder.specs.Turns.{MAX_TURNS, moved, TransportWaits, IsGiven, BodyWaits, WaitsFor, GivenFew, SendsFew, Rests, FailSays, TurnSays, SendSays, WaitSays, SpentSays}
-use Rattle.h1_encoder.specs.declared.send_error.SendError.{SendError}
-use Rattle.h1_encoder.specs.declared.send_error.SendError.TheVariants.{Body, NoMemory, Transport, Codec}
-use Rattle.h1_encoder.specs.declared.turn.Turn.{Turn}
-use Rattle.h1_encoder.specs.declared.turn.Turn.TheVariants.{Goes, Waits, Over}
-use Rattle.h1_encoder.proofs.Whole.{sends_on, fault-trans}
+use Rattle.h1_codec.specs.declared.framed_message.Message.{Message}
+use Rattle.h1_codec.specs.View.{View}
+use Rattle.h1_codec.specs.Sends.{Later, Sends}
+use Rattle.h1_codec.specs.Turns.{MAX_TURNS, moved, TransportWaits, IsGiven, BodyWaits, WaitsFor, GivenFew, SendsFew, Rests, FailSays, TurnSays, SendSays, WaitSays, SpentSays}
+use Rattle.h1_codec.specs.declared.send_error.SendError.{SendError}
+use Rattle.h1_codec.specs.declared.send_error.SendError.TheVariants.{Body, NoMemory, Transport, Codec}
+use Rattle.h1_codec.specs.declared.turn.Turn.{Turn}
+use Rattle.h1_codec.specs.declared.turn.Turn.TheVariants.{Goes, Waits, Over}
+use Rattle.h1_codec.proofs.Whole.{sends_on, fault-trans}
 
 pub on_ok : {A E P Q : Type 0} (r : Result A E) → (P → Q) → OnOk r P → OnOk r Q
 on_ok (Ok x) f p = f p

@@ -7,10 +7,10 @@ use Rattle.http_types.specs.declared.error.ParseError.TheVariants.{TooLarge}
 use Rattle.h1_decoder.specs.HeadPosition.{HasScanned}
 use Rattle.h1_decoder.specs.Refusal.{UnlessNoMemory, fault_of}
 use Rattle.h1_decoder.proofs.HeadPieceLemmas.{HasScanned-append}
-use Rattle.h1_encoder.specs.Kind.{says_fault, Kind}
-use Rattle.h1_encoder.specs.Heads.{Search, HasSeen, Item, IsItemOf, IsNext, IsNextItem, IsWaiting, IsTooLong, RefusesNext, Stops, refused, Reads, given}
-use Rattle.h1_encoder.proofs.GoingOn.{goes_on_behind, goes_on_in}
-use Rattle.h1_encoder.proofs.Refusals.{none_too_long}
+use Rattle.h1_codec.specs.Kind.{says_fault, Kind}
+use Rattle.h1_codec.specs.Heads.{Search, HasSeen, Item, IsItemOf, IsNext, IsNextItem, IsWaiting, IsTooLong, RefusesNext, Stops, refused, Reads, given}
+use Rattle.h1_codec.proofs.GoingOn.{goes_on_behind, goes_on_in}
+use Rattle.h1_codec.proofs.Refusals.{none_too_long}
 
 -- what is promised of the answer
 pub record IsAnswer {I : Type 0} (k : Kind I) (old : Search) (bytes : List ℕ) (result : Result (Option (Item I)) ParseError) (new : Search) (rest : List ℕ) : Type 0 where

@@ -3,19 +3,19 @@ use Rattle.std.proofs.Common.{◌≡◌, ℕ, List, refl, sym, ap, ◌∙◌, su
 use Rattle.std.specs.Prelude.{Option, Some, None, Result, Ok, Err}
 use Rattle.http_map.specs.HeaderMap.{Entries}
 use Rattle.http_types.specs.declared.error.ParseError.{ParseError}
-use Rattle.h1_encoder.specs.Kinds.{answers}
+use Rattle.h1_codec.specs.Kinds.{answers}
 use Rattle.h1_payload.specs.Decoding.{Decoding}
 use Rattle.h1_payload.specs.declared.item.DecodeError.{DecodeError}
-use Rattle.h1_encoder.specs.ServerAnswers.{IsNexted, IsNoted}
-use Rattle.h1_encoder.specs.FramedMessages.{Standing}
-use Rattle.h1_encoder.specs.ServerPieces.{IsPiece}
-use Rattle.h1_encoder.specs.declared.server_piece.Piece.{Piece}
-use Rattle.h1_encoder.proofs.OpenBodies.{piece_came}
-use Rattle.h1_encoder.specs.ClientAnswers.{IsChunked}
-use Rattle.h1_encoder.specs.ClientPieces.{as_message, as_answered}
-use Rattle.h1_encoder.specs.ClientState.{client_standing}
-use Rattle.h1_encoder.specs.declared.client.Client.{Client}
-use Rattle.h1_encoder.specs.declared.client_error.ClientError.TheVariants.{Parse, Misplaced}
+use Rattle.h1_codec.specs.ServerAnswers.{IsNexted, IsNoted}
+use Rattle.h1_codec.specs.FramedMessages.{Standing}
+use Rattle.h1_codec.specs.ServerPieces.{IsPiece}
+use Rattle.h1_codec.specs.declared.server_piece.Piece.{Piece}
+use Rattle.h1_codec.proofs.OpenBodies.{piece_came}
+use Rattle.h1_codec.specs.ClientAnswers.{IsChunked}
+use Rattle.h1_codec.specs.ClientPieces.{as_message, as_answered}
+use Rattle.h1_codec.specs.ClientState.{client_standing}
+use Rattle.h1_codec.specs.declared.client.Client.{Client}
+use Rattle.h1_codec.specs.declared.client_error.ClientError.TheVariants.{Parse, Misplaced}
 
 -- the other codec reads what comes next
 pub chunk_misplaced : (c : Client) (bytes : List ℕ) → c.body ≡ None → IsChunked c bytes (Err Misplaced) c bytes

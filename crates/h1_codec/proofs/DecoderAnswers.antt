@@ -5,9 +5,9 @@ use Rattle.http_framing.specs.AnyPieces.{OnlySays}
 use Rattle.http_types.specs.declared.error.ParseError.{ParseError}
 use Rattle.http_types.specs.declared.error.ParseError.TheVariants.{NoMemory}
 use Rattle.h1_decoder.specs.Refusal.{UnlessNoMemory, fault_of}
-use Rattle.h1_encoder.specs.Kind.{Kind, IsOneReading}
-use Rattle.h1_encoder.specs.Heads.{Search, HasSeen, Item, IsWaiting, Stop, waits, refused, Stops, Heads, AreHeads, Reads, no_heads, Breaks}
-use Rattle.h1_encoder.proofs.Refusals.{one_stop, one_reading_of_all}
+use Rattle.h1_codec.specs.Kind.{Kind, IsOneReading}
+use Rattle.h1_codec.specs.Heads.{Search, HasSeen, Item, IsWaiting, Stop, waits, refused, Stops, Heads, AreHeads, Reads, no_heads, Breaks}
+use Rattle.h1_codec.proofs.Refusals.{one_stop, one_reading_of_all}
 
 module _ {I : Type 0} (k : Kind I) (one : IsOneReading k) where
   none_says : (limit : ℕ) (bytes : List ℕ) (items : List (Item I)) (stop : Stop) → IsWaiting limit bytes → AreHeads k limit bytes items stop

@@ -4,7 +4,7 @@ use Rattle.std.proofs.lemmas.List.{take-take, take-append-drop, take_all, length
 use Rattle.model_h1.specs.HeadPiece.{AreBlankLines, IsHeadPiece, HasNoHeadPiece}
 use Rattle.model_h1.proofs.HeadPieceLemmas.{head_piece_append}
 use Rattle.h1_decoder.specs.HeadPosition.{HeadPosition, IsSeenIn}
-use Rattle.h1_encoder.specs.Heads.{IsNext, IsWaiting, IsTooLong}
+use Rattle.h1_codec.specs.Heads.{IsNext, IsWaiting, IsTooLong}
 
 module _ (limit len : ℕ) (bytes : List ℕ) (is : len ≡ min (length bytes) limit) where
   -- what was seen of all bytes was seen of them

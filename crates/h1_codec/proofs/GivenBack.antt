@@ -5,11 +5,11 @@ use Rattle.futures.specs.declared.task.Poll.TheVariants.{Ready}
 use Rattle.http_bodies.specs.Giving.{Giving}
 use Rattle.http_framing.specs.declared.body.size.BodySize.{BodySize}
 use Rattle.http_transport.specs.Wiring.{Wiring}
-use Rattle.h1_encoder.specs.declared.framed_message.Message.{Message}
-use Rattle.h1_encoder.specs.View.{View, view_of}
-use Rattle.h1_encoder.specs.Turns.{MAX_TURNS, IsDone, SendsFew}
-use Rattle.h1_encoder.specs.SentMessages.{IsTransport, PollSays}
-use Rattle.h1_encoder.specs.declared.sending.Sending.{Sending}
+use Rattle.h1_codec.specs.declared.framed_message.Message.{Message}
+use Rattle.h1_codec.specs.View.{View, view_of}
+use Rattle.h1_codec.specs.Turns.{MAX_TURNS, IsDone, SendsFew}
+use Rattle.h1_codec.specs.SentMessages.{IsTransport, PollSays}
+use Rattle.h1_codec.specs.declared.sending.Sending.{Sending}
 
 module _ {T U H B E : Type 0} (wiring : T → Wiring) (gives : B → Giving) (writes : U → Message (H × BodySize) → List ℕ → U → Type 0)
     (refuses : E → U → Message (H × BodySize) → Type 0) (lacks : E → Type 0) (leaves : E → U → U → Type 0) where

@@ -5,8 +5,8 @@ use Rattle.http_framing.specs.AnyPieces.{GoesOn}
 use Rattle.model_h1.specs.HeadPiece.{AreBlankLines, HasNoHeadPiece}
 use Rattle.model_h1.proofs.HeadPieceLemmas.{head_piece_append, slice_range-append}
 use Rattle.h1_decoder.specs.HeadPosition.{HeadPosition, IsSeenIn}
-use Rattle.h1_encoder.specs.Kind.{Kind}
-use Rattle.h1_encoder.specs.Heads.{Search, HasSeen, Item, IsItemOf, IsNext, IsNextItem, Heads, AreHeads, Reads, given}
+use Rattle.h1_codec.specs.Kind.{Kind}
+use Rattle.h1_codec.specs.Heads.{Search, HasSeen, Item, IsItemOf, IsNext, IsNextItem, Heads, AreHeads, Reads, given}
 
 -- what was seen of more bytes was seen of these
 pub seen_front : (position : HeadPosition) (bytes more : List ℕ) → IsSeenIn position (bytes ++ more) → IsSeenIn position bytes

@@ -5,16 +5,16 @@ use Rattle.http_map.specs.HeaderMap.{Entries}
 use Rattle.http_types.specs.declared.error.ParseError.{ParseError}
 use Rattle.http_types.specs.declared.message.ConnectionType.{ConnectionType}
 use Rattle.h1_decoder.specs.declared.response.ResponseItem.{ResponseItem}
-use Rattle.h1_encoder.specs.Heads.{Search}
-use Rattle.h1_encoder.specs.Kinds.{answers}
-use Rattle.h1_encoder.specs.OneReading.{one_answer}
+use Rattle.h1_codec.specs.Heads.{Search}
+use Rattle.h1_codec.specs.Kinds.{answers}
+use Rattle.h1_codec.specs.OneReading.{one_answer}
 use Rattle.h1_payload.specs.Decoding.{Decoding}
-use Rattle.h1_encoder.specs.ServerAnswers.{IsNexted, IsHeadGiven, IsHeadBeside, as_message}
-use Rattle.h1_encoder.proofs.NextHeads.{head_given}
-use Rattle.h1_encoder.specs.ClientAnswers.{HasNoted, IsHeaded}
-use Rattle.h1_encoder.specs.ClientState.{client_standing}
-use Rattle.h1_encoder.specs.declared.client.Client.{Client}
-use Rattle.h1_encoder.specs.declared.client_error.ClientError.TheVariants.{Parse, Misplaced}
+use Rattle.h1_codec.specs.ServerAnswers.{IsNexted, IsHeadGiven, IsHeadBeside, as_message}
+use Rattle.h1_codec.proofs.NextHeads.{head_given}
+use Rattle.h1_codec.specs.ClientAnswers.{HasNoted, IsHeaded}
+use Rattle.h1_codec.specs.ClientState.{client_standing}
+use Rattle.h1_codec.specs.declared.client.Client.{Client}
+use Rattle.h1_codec.specs.declared.client_error.ClientError.TheVariants.{Parse, Misplaced}
 
 -- no body is open where one is
 pub none_is_some : (body : Option Decoding) → body ≡ None → IsSome body → ⊥

@@ -3,9 +3,9 @@ use Rattle.std.proofs.Common.{◌≡◌, ℕ, List, ap, subst}
 use Rattle.std.specs.Prelude.{Option, Result, Ok, Err}
 use Rattle.http_types.specs.declared.error.ParseError.{ParseError}
 use Rattle.http_types.specs.declared.error.ParseError.TheVariants.{NoMemory}
-use Rattle.h1_encoder.specs.ClientPieces.{as_message, as_answered}
-use Rattle.h1_encoder.specs.declared.client_error.ClientError.{ClientError}
-use Rattle.h1_encoder.specs.declared.client_error.ClientError.TheVariants.{Parse}
+use Rattle.h1_codec.specs.ClientPieces.{as_message, as_answered}
+use Rattle.h1_codec.specs.declared.client_error.ClientError.{ClientError}
+use Rattle.h1_codec.specs.declared.client_error.ClientError.TheVariants.{Parse}
 
 -- an error that is handed on as a codec's own
 pub parse_error : {A B : Type 0} (result : Result A ParseError) (a b : ParseError) → result ≡ Err a

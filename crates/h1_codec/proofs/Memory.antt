@@ -7,12 +7,12 @@ use Rattle.http_map.specs.HeaderMap.{Entries}
 use Rattle.h1_payload.specs.Decoding.{Decoding}
 use Rattle.h1_payload.specs.declared.item.DecodeError.{DecodeError}
 use Rattle.h1_payload.specs.declared.item.DecodeError.TheVariants.{Invalid, NoMemory}
-use Rattle.h1_encoder.specs.Heads.{Search, HasSeen, IsWaiting, IsTooLong}
-use Rattle.h1_encoder.specs.ServerAnswers.{IsNoted, as_message}
-use Rattle.h1_encoder.specs.Light.{IsLightHead}
-use Rattle.h1_encoder.specs.declared.framed_message.Message.{Message}
-use Rattle.h1_encoder.specs.declared.server_piece.Piece.{Piece}
-use Rattle.h1_encoder.specs.declared.server_piece.Piece.TheVariants.{Bytes, End}
+use Rattle.h1_codec.specs.Heads.{Search, HasSeen, IsWaiting, IsTooLong}
+use Rattle.h1_codec.specs.ServerAnswers.{IsNoted, as_message}
+use Rattle.h1_codec.specs.Light.{IsLightHead}
+use Rattle.h1_codec.specs.declared.framed_message.Message.{Message}
+use Rattle.h1_codec.specs.declared.server_piece.Piece.{Piece}
+use Rattle.h1_codec.specs.declared.server_piece.Piece.TheVariants.{Bytes, End}
 
 -- an error that is handed on
 pub error_on : {A B E : Type 0} (result : Result A E) (a b : E) → result ≡ Err a → ◌≡◌ {A = Result B E} (Err a) (Err b) → result ≡ Err b

@@ -10,14 +10,14 @@ use Rattle.h1_decoder.specs.Refusal.{UnlessNoMemory, fault_of}
 use Rattle.model_h1.specs.Request.{Fault}
 use Rattle.model_h1.proofs.HeadPieceLemmas.{head_piece_unique, slice_range-append}
 use Rattle.h1_payload.specs.Decoding.{Decoding}
-use Rattle.h1_encoder.specs.Kind.{Reading, says_head, says_fault, Kind, IsOneReading}
-use Rattle.h1_encoder.specs.Heads.{Search, HasSeen, IsItemOf, IsNextItem, IsWaiting, RefusesNext, Stop, waits, refused, Stops}
-use Rattle.h1_encoder.specs.declared.payload_type.PayloadType.{PayloadType}
-use Rattle.h1_encoder.proofs.GoingOn.{seen_front, next_append}
-use Rattle.h1_encoder.proofs.Refusals.{none_too_long, one_stop}
-use Rattle.h1_encoder.specs.declared.framed_message.Message.TheVariants.{Item}
-use Rattle.h1_encoder.specs.ServerAnswers.{IsNexted, IsHeadGiven, IsHeadBeside, as_message}
-use Rattle.h1_encoder.specs.FramedMessages.{Part, no_part, Messages, Breaks, body_of, After, IsPart, AreMessages, HasLooked, Standing}
+use Rattle.h1_codec.specs.Kind.{Reading, says_head, says_fault, Kind, IsOneReading}
+use Rattle.h1_codec.specs.Heads.{Search, HasSeen, IsItemOf, IsNextItem, IsWaiting, RefusesNext, Stop, waits, refused, Stops}
+use Rattle.h1_codec.specs.declared.payload_type.PayloadType.{PayloadType}
+use Rattle.h1_codec.proofs.GoingOn.{seen_front, next_append}
+use Rattle.h1_codec.proofs.Refusals.{none_too_long, one_stop}
+use Rattle.h1_codec.specs.declared.framed_message.Message.TheVariants.{Item}
+use Rattle.h1_codec.specs.ServerAnswers.{IsNexted, IsHeadGiven, IsHeadBeside, as_message}
+use Rattle.h1_codec.specs.FramedMessages.{Part, no_part, Messages, Breaks, body_of, After, IsPart, AreMessages, HasLooked, Standing}
 
 -- what follows a body may be said in another way
 after_by : (ending : Ending) (G H : List ℕ → Type 0) (S : Type 0) → ((left : List ℕ) → G left → H left) → After ending G S → After ending H S

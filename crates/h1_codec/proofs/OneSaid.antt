@@ -5,13 +5,13 @@ use Rattle.model_h1.specs.Reading.{Ending, goes_on, is_broken, ends_before}
 use Rattle.model_h1.proofs.HeadPieceLemmas.{head_piece_unique}
 use Rattle.h1_payload.specs.Decoding.{Decoding, Payload}
 use Rattle.h1_payload.proofs.Whole.{one_payload}
-use Rattle.h1_encoder.specs.Kind.{Reading, says_head, Kind, IsOneReading}
-use Rattle.h1_encoder.specs.Heads.{HasSeen, payload_of, Stop, waits, refused}
-use Rattle.h1_encoder.specs.declared.payload_type.PayloadType.{PayloadType}
-use Rattle.h1_encoder.proofs.Refusals.{one_reading_of_all}
-use Rattle.h1_encoder.specs.FramedMessages.{Part, Messages, part_of, body_of, After, IsPart, AreMessages, Standing, Reads}
-use Rattle.h1_encoder.specs.Sameness.{SayTheSame, AreTheSame}
-use Rattle.h1_encoder.proofs.NextHeads.{none_read, refusal_read}
+use Rattle.h1_codec.specs.Kind.{Reading, says_head, Kind, IsOneReading}
+use Rattle.h1_codec.specs.Heads.{HasSeen, payload_of, Stop, waits, refused}
+use Rattle.h1_codec.specs.declared.payload_type.PayloadType.{PayloadType}
+use Rattle.h1_codec.proofs.Refusals.{one_reading_of_all}
+use Rattle.h1_codec.specs.FramedMessages.{Part, Messages, part_of, body_of, After, IsPart, AreMessages, Standing, Reads}
+use Rattle.h1_codec.specs.Sameness.{SayTheSame, AreTheSame}
+use Rattle.h1_codec.proofs.NextHeads.{none_read, refusal_read}
 
 one_after : (ending : Ending) (G H : List ℕ → Type 0) (S T Q : Type 0) → ((left : List ℕ) → G left → H left → Q) → (S → T → Q)
     → After ending G S → After ending H T → Q

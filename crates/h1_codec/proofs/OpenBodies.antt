@@ -10,15 +10,15 @@ use Rattle.h1_payload.specs.Decoding as bodies
 use Rattle.h1_payload.specs.declared.item.DecodeError.{DecodeError}
 use Rattle.h1_payload.specs.declared.item.DecodeError.TheVariants.{Invalid, NoMemory}
 use Rattle.h1_payload.proofs.Whole.{one_payload}
-use Rattle.h1_encoder.specs.Kind.{Kind}
-use Rattle.h1_encoder.specs.Heads.{Search, HasSeen, waits}
-use Rattle.h1_encoder.specs.declared.framed_message.Message.{Message}
-use Rattle.h1_encoder.specs.declared.framed_message.Message.TheVariants.{Chunk}
-use Rattle.h1_encoder.specs.declared.server_piece.Piece.{Piece}
-use Rattle.h1_encoder.specs.declared.server_piece.Piece.TheVariants.{Bytes, End}
-use Rattle.h1_encoder.specs.ServerAnswers.{IsNexted, IsNoted}
-use Rattle.h1_encoder.specs.FramedMessages.{Closing, closing_of, chunk_in_front, end_in_front, Part, Messages, part_of, After, AreMessages, Standing}
-use Rattle.h1_encoder.specs.ServerPieces.{IsPiece}
+use Rattle.h1_codec.specs.Kind.{Kind}
+use Rattle.h1_codec.specs.Heads.{Search, HasSeen, waits}
+use Rattle.h1_codec.specs.declared.framed_message.Message.{Message}
+use Rattle.h1_codec.specs.declared.framed_message.Message.TheVariants.{Chunk}
+use Rattle.h1_codec.specs.declared.server_piece.Piece.{Piece}
+use Rattle.h1_codec.specs.declared.server_piece.Piece.TheVariants.{Bytes, End}
+use Rattle.h1_codec.specs.ServerAnswers.{IsNexted, IsNoted}
+use Rattle.h1_codec.specs.FramedMessages.{Closing, closing_of, chunk_in_front, end_in_front, Part, Messages, part_of, After, AreMessages, Standing}
+use Rattle.h1_codec.specs.ServerPieces.{IsPiece}
 
 -- a body that says this, and after which nothing is read
 stops_so : {I : Type 0} (said : Messages I) (p q : Payload) (G : List ℕ → Type 0) → said.part ≡ part_of p → p ≡ q

@@ -15,8 +15,8 @@ use Rattle.h1_payload.specs.declared.item.PayloadItem.{PayloadItem}
 use Rattle.h1_payload.specs.declared.item.PayloadItem.TheVariants as items
 use Rattle.h1_payload.specs.declared.pulled.Pulled.{Pulled}
 use Rattle.h1_payload.specs.declared.pulled.Pulled.TheVariants as pulled
-use Rattle.h1_encoder.specs.ServerPieces.{IsEnd}
-use Rattle.h1_encoder.proofs.Ends.{LeavesNone, an_end_leaves_none}
+use Rattle.h1_codec.specs.ServerPieces.{IsEnd}
+use Rattle.h1_codec.proofs.Ends.{LeavesNone, an_end_leaves_none}
 
 -- the item is an end, or the trailers in front of one
 abbrev pub IsLast : PayloadItem → Type 0

@@ -5,9 +5,9 @@ use Rattle.httparse.specs.Grammar.{print_end}
 use Rattle.model_h1.specs.HeadPiece.{AreBlankLines, EndsBlank, IsHeadPiece, HasNoHeadPiece}
 use Rattle.model_h1.specs.Request.{Fault}
 use Rattle.model_h1.proofs.HeadPieceLemmas.{head_piece_unique, slice_range-append}
-use Rattle.h1_encoder.specs.Kind.{Reading, says_head, says_fault, Kind, IsOneReading}
-use Rattle.h1_encoder.specs.Heads.{Item, payload_of, SayTheSame, IsNext, IsTooLong, Stop, waits, refused, Stops, AreHeads}
-use Rattle.h1_encoder.proofs.GoingOn.{next_append}
+use Rattle.h1_codec.specs.Kind.{Reading, says_head, says_fault, Kind, IsOneReading}
+use Rattle.h1_codec.specs.Heads.{Item, payload_of, SayTheSame, IsNext, IsTooLong, Stop, waits, refused, Stops, AreHeads}
+use Rattle.h1_codec.proofs.GoingOn.{next_append}
 
 -- a head that ends within so many bytes is that of the first so many
 head_in_first : (n : ℕ) (bytes : List ℕ) (s e : ℕ) → IsHeadPiece bytes s e → e ≤ n → IsHeadPiece (take n bytes) s e

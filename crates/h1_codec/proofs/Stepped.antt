@@ -4,20 +4,20 @@ use Rattle.std.specs.Prelude.{Option, Some, None, Result, Ok, Err}
 use Rattle.http_map.specs.HeaderMap.{Entries}
 use Rattle.http_types.specs.declared.error.ParseError.{ParseError}
 use Rattle.h1_decoder.specs.declared.response.ResponseItem.{ResponseItem}
-use Rattle.h1_encoder.specs.Heads.{Search}
-use Rattle.h1_encoder.specs.Kinds.{answers}
+use Rattle.h1_codec.specs.Heads.{Search}
+use Rattle.h1_codec.specs.Kinds.{answers}
 use Rattle.h1_payload.specs.Decoding.{Decoding}
 use Rattle.h1_payload.specs.declared.item.DecodeError.{DecodeError}
-use Rattle.h1_encoder.specs.ServerAnswers.{IsNoted, IsHeadGiven, IsHeadBeside}
-use Rattle.h1_encoder.specs.ServerPieces.{IsDecodedPiece}
-use Rattle.h1_encoder.specs.Steps.{IsStepFrom, IsStep}
-use Rattle.h1_encoder.specs.declared.framed_message.Message.TheVariants.{Item}
-use Rattle.h1_encoder.specs.declared.server_piece.Piece.{Piece}
-use Rattle.h1_encoder.proofs.Stepping.{open_step, idle_step}
-use Rattle.h1_encoder.specs.ClientAnswers.{IsChunkStep}
-use Rattle.h1_encoder.specs.ClientPieces.{as_message, as_answered}
-use Rattle.h1_encoder.specs.ClientState.{client_standing}
-use Rattle.h1_encoder.specs.declared.client.Client.{Client}
+use Rattle.h1_codec.specs.ServerAnswers.{IsNoted, IsHeadGiven, IsHeadBeside}
+use Rattle.h1_codec.specs.ServerPieces.{IsDecodedPiece}
+use Rattle.h1_codec.specs.Steps.{IsStepFrom, IsStep}
+use Rattle.h1_codec.specs.declared.framed_message.Message.TheVariants.{Item}
+use Rattle.h1_codec.specs.declared.server_piece.Piece.{Piece}
+use Rattle.h1_codec.proofs.Stepping.{open_step, idle_step}
+use Rattle.h1_codec.specs.ClientAnswers.{IsChunkStep}
+use Rattle.h1_codec.specs.ClientPieces.{as_message, as_answered}
+use Rattle.h1_codec.specs.ClientState.{client_standing}
+use Rattle.h1_codec.specs.declared.client.Client.{Client}
 
 module _ (old new : Search) (bytes rest : List ℕ) (was body : Option Decoding) where
   -- a head is no piece of a body

@@ -8,13 +8,13 @@ use Rattle.h1_payload.specs.declared.item.DecodeError.{DecodeError}
 use Rattle.h1_payload.specs.declared.item.DecodeError.TheVariants.{Invalid, NoMemory}
 use Rattle.h1_payload.specs.declared.item.PayloadItem.{PayloadItem}
 use Rattle.h1_payload.specs.declared.item.PayloadItem.TheVariants as items
-use Rattle.h1_encoder.specs.Kind.{Kind}
-use Rattle.h1_encoder.specs.Heads.{Search}
-use Rattle.h1_encoder.specs.declared.framed_message.Message.{Message}
-use Rattle.h1_encoder.specs.declared.server_piece.Piece.{Piece}
-use Rattle.h1_encoder.specs.ServerAnswers.{IsNoted, IsHeadGiven, IsHeadBeside, as_message}
-use Rattle.h1_encoder.specs.ServerPieces.{piece_of, IsDecodedPiece}
-use Rattle.h1_encoder.specs.Steps.{message_of, open_after, IsOpenStep, IsIdleStep}
+use Rattle.h1_codec.specs.Kind.{Kind}
+use Rattle.h1_codec.specs.Heads.{Search}
+use Rattle.h1_codec.specs.declared.framed_message.Message.{Message}
+use Rattle.h1_codec.specs.declared.server_piece.Piece.{Piece}
+use Rattle.h1_codec.specs.ServerAnswers.{IsNoted, IsHeadGiven, IsHeadBeside, as_message}
+use Rattle.h1_codec.specs.ServerPieces.{piece_of, IsDecodedPiece}
+use Rattle.h1_codec.specs.Steps.{message_of, open_after, IsOpenStep, IsIdleStep}
 
 module _ {I : Type 0} (left : Decoding) (before : Option Entries) (result : Result (Option (Message I)) ParseError) (after : Option Decoding) (now : Option Entries) where
   noted_item : (item : Result (Option PayloadItem) DecodeError) → IsNoted (piece_of item) (Some left) before result after now

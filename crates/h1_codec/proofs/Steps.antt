@@ -14,12 +14,12 @@ use Rattle.http_framing.specs.declared.body.size.BodySize.{BodySize}
 use Rattle.http_transport.specs.Wiring.{Wiring}
 use Rattle.http_transport.specs.Flushes.{Gave, Flushes, OnlyWrote}
 use Rattle.http_transport.proofs.SendOn.{wrote-refl}
-use Rattle.h1_encoder.specs.declared.framed_message.Message.{Message}
-use Rattle.h1_encoder.specs.declared.framed_message.Message.TheVariants.{Item, Chunk}
-use Rattle.h1_encoder.specs.View.{View}
-use Rattle.h1_encoder.specs.Sends.{AreWritten, heads, pieces, ends, EndsSo, Later, FoundRoom, Sends}
-use Rattle.h1_encoder.specs.Turns.{TransportWaits, GivenFew, SendsFew, Moves}
-use Rattle.h1_encoder.proofs.Whole.{stays_ended, no_end, still_none, one_written}
+use Rattle.h1_codec.specs.declared.framed_message.Message.{Message}
+use Rattle.h1_codec.specs.declared.framed_message.Message.TheVariants.{Item, Chunk}
+use Rattle.h1_codec.specs.View.{View}
+use Rattle.h1_codec.specs.Sends.{AreWritten, heads, pieces, ends, EndsSo, Later, FoundRoom, Sends}
+use Rattle.h1_codec.specs.Turns.{TransportWaits, GivenFew, SendsFew, Moves}
+use Rattle.h1_codec.proofs.Whole.{stays_ended, no_end, still_none, one_written}
 
 -- the count of a body's faults never falls, nor does that of its Pending answers
 faults_rise : (old new : ℕ) (answer : Piece) → FaultsBy old new answer → old ≤ new

@@ -4,12 +4,12 @@ use Rattle.std.specs.Prelude.{Option, Some, None, Result, Ok, Err, IfOk, IfErr, 
 use Rattle.http_framing.specs.AnyPieces.{GoesOn, in_front}
 use Rattle.http_types.specs.declared.error.ParseError.TheVariants as errors
 use Rattle.h1_decoder.specs.declared.response.ResponseItem.{ResponseItem}
-use Rattle.h1_encoder.specs.ClientAnswers.{head_given, chunk_given}
-use Rattle.h1_encoder.specs.ClientState.{of_codec, of_payload, ClientReads, HeadReads, PayloadReads}
-use Rattle.h1_encoder.specs.declared.client_codec.ClientCodec.{ClientCodec}
-use Rattle.h1_encoder.specs.declared.payload.ClientPayloadCodec.{ClientPayloadCodec}
-use Rattle.h1_encoder.specs.declared.client_error.ClientError.{ClientError}
-use Rattle.h1_encoder.specs.declared.client_error.ClientError.TheVariants.{Parse}
+use Rattle.h1_codec.specs.ClientAnswers.{head_given, chunk_given}
+use Rattle.h1_codec.specs.ClientState.{of_codec, of_payload, ClientReads, HeadReads, PayloadReads}
+use Rattle.h1_codec.specs.declared.client_codec.ClientCodec.{ClientCodec}
+use Rattle.h1_codec.specs.declared.payload.ClientPayloadCodec.{ClientPayloadCodec}
+use Rattle.h1_codec.specs.declared.client_error.ClientError.{ClientError}
+use Rattle.h1_codec.specs.declared.client_error.ClientError.TheVariants.{Parse}
 
 module _ (old new : ClientCodec) (bytes rest : List ℕ) where
   pub head_goes_on : (result : Result (Option ResponseItem) ClientError)

@@ -7,11 +7,11 @@ use Rattle.http_bodies.specs.Told.{Tells, led_by}
 use Rattle.http_bodies.proofs.Histories.{grown, grown-none, led_by-more, led_by-none}
 use Rattle.http_framing.specs.declared.body.size.BodySize.{BodySize}
 use Rattle.http_transport.proofs.SendOn.{wrote-refl, wrote-trans}
-use Rattle.h1_encoder.specs.declared.framed_message.Message.{Message}
-use Rattle.h1_encoder.specs.declared.framed_message.Message.TheVariants.{Chunk}
-use Rattle.h1_encoder.specs.View.{View}
-use Rattle.h1_encoder.specs.Sends.{AreWritten, heads, pieces, ends, given_count, EndsSo, Later, FoundRoom, HasRoom, Sends}
-use Rattle.h1_encoder.specs.Turns.{moved}
+use Rattle.h1_codec.specs.declared.framed_message.Message.{Message}
+use Rattle.h1_codec.specs.declared.framed_message.Message.TheVariants.{Chunk}
+use Rattle.h1_codec.specs.View.{View}
+use Rattle.h1_codec.specs.Sends.{AreWritten, heads, pieces, ends, given_count, EndsSo, Later, FoundRoom, HasRoom, Sends}
+use Rattle.h1_codec.specs.Turns.{moved}
 
 -- items that are written one after another
 pub written-append : {U I : Type 0} (writes : U → I → List ℕ → U → Type 0) (xs ys : List I) (a b c : U) (s t : List ℕ)

@@ -4,9 +4,9 @@ use Rattle.std.specs.Prelude.{None, Result, Ok, Err, IfErr, OnOk}
 use Rattle.h1_encoder.specs.Encoding.{Encoding, missing_of, end_of, ended}
 use Rattle.h1_encoder.specs.declared.error.EncodeError.{EncodeError}
 use Rattle.h1_encoder.specs.declared.error.EncodeError.TheVariants.{Short, Version as no_version, NoMemory}
-use Rattle.h1_encoder.specs.ServerState.{Sent, Writes, Refuses, codec_encoding, with_encoding}
-use Rattle.h1_encoder.specs.declared.server_codec.Codec.{Codec}
-use Rattle.h1_encoder.specs.declared.framed_message.Message.TheVariants.{Chunk}
+use Rattle.h1_codec.specs.ServerState.{Sent, Writes, Refuses, codec_encoding, with_encoding}
+use Rattle.h1_codec.specs.declared.server_codec.Codec.{Codec}
+use Rattle.h1_codec.specs.declared.framed_message.Message.TheVariants.{Chunk}
 
 -- an end is refused where bytes are missing, and else only where memory ran out
 pub end_refused : (old : Codec) (item : Sent) (result : Result Unit EncodeError) → item ≡ Chunk None

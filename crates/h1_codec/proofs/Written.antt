@@ -4,11 +4,11 @@ use Rattle.std.specs.Prelude.{None, Result, Ok, Err, IfErr, OnOk}
 use Rattle.h1_encoder.specs.Encoding.{Encoding, missing_of, end_of, ended}
 use Rattle.h1_encoder.specs.declared.error.EncodeError.{EncodeError}
 use Rattle.h1_encoder.specs.declared.error.EncodeError.TheVariants.{Short, Version as no_version, NoMemory}
-use Rattle.h1_encoder.proofs.Writing.{none_missing}
-use Rattle.h1_encoder.specs.declared.framed_message.Message.TheVariants.{Chunk}
-use Rattle.h1_encoder.specs.ClientState.{client_encoding}
-use Rattle.h1_encoder.specs.Writing.{Sent, HasWritten, Refuses, with_encoding}
-use Rattle.h1_encoder.specs.declared.client.Client.{Client}
+use Rattle.h1_codec.proofs.Writing.{none_missing}
+use Rattle.h1_codec.specs.declared.framed_message.Message.TheVariants.{Chunk}
+use Rattle.h1_codec.specs.ClientState.{client_encoding}
+use Rattle.h1_codec.specs.Writing.{Sent, HasWritten, Refuses, with_encoding}
+use Rattle.h1_codec.specs.declared.client.Client.{Client}
 
 -- an end is refused where bytes are missing, and else only where memory ran out
 pub end_refused : (old : Client) (item : Sent) (result : Result Unit EncodeError) → item ≡ Chunk None

@@ -4,16 +4,16 @@ use Rattle.http_framing.specs.AnyPieces.{GoesOn, OnlySays, in_front}
 use Rattle.http_types.specs.Flags.{type_of_flags}
 use Rattle.http_types.specs.declared.error.ParseError.TheVariants as errors
 use Rattle.h1_decoder.specs.declared.response.ResponseItem.{ResponseItem}
-use Rattle.h1_encoder.specs.Kinds.{answers}
-use Rattle.h1_encoder.specs.ServerAnswers.{HasBytes, HasEnded, IsHead, IsCauseAt, HasTrailers, LeftAfter}
-use Rattle.h1_encoder.specs.FramedMessages.{Messages, given, nothing}
-use Rattle.h1_encoder.specs.Steps.{IsStep}
-use Rattle.h1_encoder.specs.declared.framed_message.Message.TheVariants.{Item, Chunk}
-use Rattle.h1_encoder.specs.ClientPieces.{as_chunk, as_head}
-use Rattle.h1_encoder.specs.ClientState.{ClientReads, ClientLooked, ClientBreaks, answered, passes_on, client_standing, client_trailers, client_connection, client_passes_on, client_asking}
-use Rattle.h1_encoder.specs.declared.client.Client.{Client}
-use Rattle.h1_encoder.specs.declared.client_error.ClientError.{ClientError}
-use Rattle.h1_encoder.specs.declared.client_error.ClientError.TheVariants.{Parse, Misplaced}
+use Rattle.h1_codec.specs.Kinds.{answers}
+use Rattle.h1_codec.specs.ServerAnswers.{HasBytes, HasEnded, IsHead, IsCauseAt, HasTrailers, LeftAfter}
+use Rattle.h1_codec.specs.FramedMessages.{Messages, given, nothing}
+use Rattle.h1_codec.specs.Steps.{IsStep}
+use Rattle.h1_codec.specs.declared.framed_message.Message.TheVariants.{Item, Chunk}
+use Rattle.h1_codec.specs.ClientPieces.{as_chunk, as_head}
+use Rattle.h1_codec.specs.ClientState.{ClientReads, ClientLooked, ClientBreaks, answered, passes_on, client_standing, client_trailers, client_connection, client_passes_on, client_asking}
+use Rattle.h1_codec.specs.declared.client.Client.{Client}
+use Rattle.h1_codec.specs.declared.client_error.ClientError.{ClientError}
+use Rattle.h1_codec.specs.declared.client_error.ClientError.TheVariants.{Parse, Misplaced}
 
 -- a head in front of what is said
 abbrev pub head_given : ResponseItem → Messages ResponseItem → Messages ResponseItem

@@ -2,10 +2,10 @@
 use Rattle.std.specs.Prelude.{List, ℕ, Option, Some, None, Result, Ok, Err}
 use Rattle.http_types.specs.declared.error.ParseError.{ParseError}
 use Rattle.h1_decoder.specs.declared.response.ResponseItem.{ResponseItem}
-use Rattle.h1_encoder.specs.declared.framed_message.Message.{Message}
-use Rattle.h1_encoder.specs.declared.framed_message.Message.TheVariants.{Item, Chunk}
-use Rattle.h1_encoder.specs.declared.client_error.ClientError.{ClientError}
-use Rattle.h1_encoder.specs.declared.client_error.ClientError.TheVariants.{Parse}
+use Rattle.h1_codec.specs.declared.framed_message.Message.{Message}
+use Rattle.h1_codec.specs.declared.framed_message.Message.TheVariants.{Item, Chunk}
+use Rattle.h1_codec.specs.declared.client_error.ClientError.{ClientError}
+use Rattle.h1_codec.specs.declared.client_error.ClientError.TheVariants.{Parse}
 
 -- bytes of a body, or its end, as an item of a message
 abbrev pub as_chunk : Option (Option (List ℕ)) → Option (Message ResponseItem)

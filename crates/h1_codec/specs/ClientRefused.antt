@@ -3,10 +3,10 @@ use Rattle.std.proofs.Common.{◌≡◌, ℕ, List, true, false, sym, ◌∙◌,
 use Rattle.std.specs.Prelude.{Some, None}
 use Rattle.h1_encoder.specs.declared.error.EncodeError.{EncodeError}
 use Rattle.h1_encoder.specs.declared.error.EncodeError.TheVariants.{Short, Version, NoMemory}
-use Rattle.h1_encoder.specs.declared.framed_message.Message.TheVariants.{Item, Chunk}
-use Rattle.h1_encoder.specs.ClientState.{of_codec}
-use Rattle.h1_encoder.specs.Writing.{Sent, Writes, Refuses}
-use Rattle.h1_encoder.specs.declared.client_codec.ClientCodec.{ClientCodec}
+use Rattle.h1_codec.specs.declared.framed_message.Message.TheVariants.{Item, Chunk}
+use Rattle.h1_codec.specs.ClientState.{of_codec}
+use Rattle.h1_codec.specs.Writing.{Sent, Writes, Refuses}
+use Rattle.h1_codec.specs.declared.client_codec.ClientCodec.{ClientCodec}
 
 -- no item is both refused and written
 pub refused_is_not_written : (old new : ClientCodec) (item : Sent) (text : List ℕ) (error : EncodeError) → Refuses error (of_codec old) item → ¬ (Writes old item text new)

@@ -7,17 +7,17 @@ use Rattle.http_types.specs.declared.message.ConnectionType.{ConnectionType}
 use Rattle.http_types.specs.declared.message.ConnectionType.TheVariants.{Close, KeepAlive, Upgrade}
 use Rattle.h1_encoder.specs.Encoding.{Encoding}
 use Rattle.h1_decoder.specs.declared.response.ResponseItem.{ResponseItem}
-use Rattle.h1_encoder.specs.Kinds.{answers}
+use Rattle.h1_codec.specs.Kinds.{answers}
 use Rattle.h1_payload.specs.Decoding.{Decoding}
-use Rattle.h1_encoder.specs.FramedMessages.{Messages, Standing, Reads, HasLooked, Breaks}
-use Rattle.h1_encoder.specs.declared.framed_message.MessageType.{MessageType}
-use Rattle.h1_encoder.specs.declared.framed_message.MessageType.TheVariants as kind
-use Rattle.h1_encoder.specs.declared.client.Client.{Client}
-use Rattle.h1_encoder.specs.declared.client_codec.ClientCodec.{ClientCodec}
-use Rattle.h1_encoder.specs.declared.payload.ClientPayloadCodec.{ClientPayloadCodec}
-use Rattle.h1_encoder.specs.declared.client_codec.TheConstants.{LAST_MOMENT}
-use Rattle.h1_encoder.specs.declared.client_error.ClientError.{ClientError}
-use Rattle.h1_encoder.specs.declared.client_error.ClientError.TheVariants.{Parse, Misplaced}
+use Rattle.h1_codec.specs.FramedMessages.{Messages, Standing, Reads, HasLooked, Breaks}
+use Rattle.h1_codec.specs.declared.framed_message.MessageType.{MessageType}
+use Rattle.h1_codec.specs.declared.framed_message.MessageType.TheVariants as kind
+use Rattle.h1_codec.specs.declared.client.Client.{Client}
+use Rattle.h1_codec.specs.declared.client_codec.ClientCodec.{ClientCodec}
+use Rattle.h1_codec.specs.declared.payload.ClientPayloadCodec.{ClientPayloadCodec}
+use Rattle.h1_codec.specs.declared.client_codec.TheConstants.{LAST_MOMENT}
+use Rattle.h1_codec.specs.declared.client_error.ClientError.{ClientError}
+use Rattle.h1_codec.specs.declared.client_error.ClientError.TheVariants.{Parse, Misplaced}
 
 -- ---- their parts, which are the same of both
 

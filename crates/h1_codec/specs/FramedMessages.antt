@@ -6,12 +6,12 @@ use Rattle.model_h1.specs.Reading.{Ending, goes_on, is_broken, ends_before}
 use Rattle.h1_decoder.specs.Refusal.{fault_of}
 use Rattle.h1_payload.specs.Decoding.{Decoding, Payload}
 use Rattle.h1_payload.specs.Decoding as bodies
-use Rattle.h1_encoder.specs.Kind.{Kind}
-use Rattle.h1_encoder.specs.Heads.{Search, HasSeen, IsItemOf, IsNext, Stop, waits, refused, Stops}
-use Rattle.h1_encoder.specs.declared.payload_type.PayloadType.{PayloadType}
-use Rattle.h1_encoder.specs.declared.payload_type.PayloadType.TheVariants as payload
-use Rattle.h1_encoder.specs.declared.framed_message.Message.{Message}
-use Rattle.h1_encoder.specs.declared.framed_message.Message.TheVariants.{Item, Chunk}
+use Rattle.h1_codec.specs.Kind.{Kind}
+use Rattle.h1_codec.specs.Heads.{Search, HasSeen, IsItemOf, IsNext, Stop, waits, refused, Stops}
+use Rattle.h1_codec.specs.declared.payload_type.PayloadType.{PayloadType}
+use Rattle.h1_codec.specs.declared.payload_type.PayloadType.TheVariants as payload
+use Rattle.h1_codec.specs.declared.framed_message.Message.{Message}
+use Rattle.h1_codec.specs.declared.framed_message.Message.TheVariants.{Item, Chunk}
 
 -- what follows the bytes of a body: nothing yet, its end, or that it is broken; and what no bytes say
 pub data Closing : Type 0 where

@@ -8,9 +8,9 @@ use Rattle.model_h1.specs.Request.{BodyKind, no_body, fixed_body, chunked_body, 
 use Rattle.model_state.specs.Kept.{no_rest, fixed_rest, chunks_rest, raw_rest}
 use Rattle.h1_decoder.specs.HeadPosition.{HeadPosition, IsSeenIn}
 use Rattle.h1_decoder.specs.Refusal.{fault_of}
-use Rattle.h1_encoder.specs.Kind.{says_head, says_fault, Kind}
-use Rattle.h1_encoder.specs.declared.payload_type.PayloadType.{PayloadType}
-use Rattle.h1_encoder.specs.declared.payload_type.PayloadType.TheVariants as payload
+use Rattle.h1_codec.specs.Kind.{says_head, says_fault, Kind}
+use Rattle.h1_codec.specs.declared.payload_type.PayloadType.{PayloadType}
+use Rattle.h1_codec.specs.declared.payload_type.PayloadType.TheVariants as payload
 
 -- within how many bytes a head has to end, and how far the search for the next one has come
 pub record Search : Type 0 where

@@ -8,7 +8,7 @@ use Rattle.h1_decoder.specs.Refusal.{Refuses}
 use Rattle.h1_decoder.specs.ResponseItem.{SaysAnswer}
 use Rattle.h1_decoder.specs.declared.decoder.HeadItem.{HeadItem}
 use Rattle.h1_decoder.specs.declared.response.ResponseItem.{ResponseItem}
-use Rattle.h1_encoder.specs.Kind.{Reading, says_head, says_fault, Kind}
+use Rattle.h1_codec.specs.Kind.{Reading, says_head, says_fault, Kind}
 
 -- a reading as a request's head
 abbrev pub request_reading : Reading model.Head → model.Reading

@@ -3,8 +3,8 @@ use Rattle.std.specs.Prelude.{◌⊎◌, ℕ, List, Option, Some, None, false}
 use Rattle.model_state.specs.Pull.{Pulled, IsPull}
 use Rattle.h1_payload.specs.Decoding.{Decoding}
 use Rattle.h1_payload.specs.Rests.{IsLight}
-use Rattle.h1_encoder.specs.Heads.{Search, HasSeen, IsWaiting, IsTooLong}
-use Rattle.h1_encoder.specs.FramedMessages.{Standing}
+use Rattle.h1_codec.specs.Heads.{Search, HasSeen, IsWaiting, IsTooLong}
+use Rattle.h1_codec.specs.FramedMessages.{Standing}
 
 -- the body has ended or breaks, or nothing of it has come, and no text of a trailer section is to be kept
 abbrev pub IsLightBody : Decoding → List ℕ → Type 0

@@ -1,9 +1,9 @@
 -- What comes next in the bytes, as the search for it says.
 use Rattle.std.specs.Prelude.{◌≡◌, ◌≤◌, ℕ, List, length, ⊤}
 use Rattle.h1_decoder.specs.HeadPosition.{HasScanned}
-use Rattle.h1_encoder.specs.Heads.{IsNext, IsWaiting, IsTooLong}
-use Rattle.h1_encoder.specs.declared.next_message.Next.{Next}
-use Rattle.h1_encoder.specs.declared.next_message.Next.TheVariants.{Head, Waits, TooLong}
+use Rattle.h1_codec.specs.Heads.{IsNext, IsWaiting, IsTooLong}
+use Rattle.h1_codec.specs.declared.next_message.Next.{Next}
+use Rattle.h1_codec.specs.declared.next_message.Next.TheVariants.{Head, Waits, TooLong}
 
 -- it is that, within the limit; and a search that has come so far has seen all bytes
 abbrev pub IsFound : ℕ → List ℕ → Next → Type 0

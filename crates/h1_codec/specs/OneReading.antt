@@ -4,8 +4,8 @@ use Rattle.model_h1.specs.Request as model
 use Rattle.model_h1.proofs.ReadingLemmas.{reading_unique}
 use Rattle.model_client.specs.AnswerReading.{Answer, AnswerReading, answer_is, refused}
 use Rattle.model_client.proofs.AnswerLemmas.{answer_reading_unique}
-use Rattle.h1_encoder.specs.Kind.{Reading, says_head, says_fault, IsOneReading}
-use Rattle.h1_encoder.specs.Kinds.{request_reading, requests, answer_reading, answers}
+use Rattle.h1_codec.specs.Kind.{Reading, says_head, says_fault, IsOneReading}
+use Rattle.h1_codec.specs.Kinds.{request_reading, requests, answer_reading, answers}
 
 -- a request's reading is all that there is of it
 abbrev from_request : model.Reading → Reading model.Head

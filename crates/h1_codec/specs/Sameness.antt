@@ -1,7 +1,7 @@
 -- That bytes say the same.
 use Rattle.std.specs.Prelude.{◌≡◌, List, [], ◌∷◌, ⊤}
-use Rattle.h1_encoder.specs.Kind.{Kind}
-use Rattle.h1_encoder.specs.FramedMessages.{Part, Messages}
+use Rattle.h1_codec.specs.Kind.{Kind}
+use Rattle.h1_codec.specs.FramedMessages.{Part, Messages}
 
 -- item by item, the same head is said, and the same came of its body
 abbrev pub SayTheSame : {I : Type 0} → Kind I → List (I × Part) → List (I × Part) → Type 0

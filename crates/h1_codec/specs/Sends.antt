@@ -4,9 +4,9 @@ use Rattle.http_bodies.specs.Giving.{Given, chunk, fault}
 use Rattle.http_bodies.specs.Told.{Grows, Tells, led_by}
 use Rattle.http_transport.specs.Flushes.{OnlyWrote}
 use Rattle.http_framing.specs.declared.body.size.BodySize.{BodySize}
-use Rattle.h1_encoder.specs.declared.framed_message.Message.{Message}
-use Rattle.h1_encoder.specs.declared.framed_message.Message.TheVariants.{Item, Chunk}
-use Rattle.h1_encoder.specs.View.{View}
+use Rattle.h1_codec.specs.declared.framed_message.Message.{Message}
+use Rattle.h1_codec.specs.declared.framed_message.Message.TheVariants.{Item, Chunk}
+use Rattle.h1_codec.specs.View.{View}
 
 -- the items are written one after another, together as this text, and leave the codec so
 abbrev pub AreWritten : {U I : Type 0} → (U → I → List ℕ → U → Type 0) → U → List I → List ℕ → U → Type 0

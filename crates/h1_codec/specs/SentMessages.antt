@@ -6,11 +6,11 @@ use Rattle.http_bodies.specs.Giving.{Giving}
 use Rattle.http_framing.specs.declared.body.size.BodySize.{BodySize}
 use Rattle.http_transport.specs.Parts.{Parts}
 use Rattle.http_transport.specs.Wiring.{Wiring}
-use Rattle.h1_encoder.specs.declared.framed_message.Message.{Message}
-use Rattle.h1_encoder.specs.View.{View, view_of}
-use Rattle.h1_encoder.specs.Turns.{MAX_TURNS, IsDone, SendsFew, FailSays, SendSays}
-use Rattle.h1_encoder.specs.declared.send_error.SendError.{SendError}
-use Rattle.h1_encoder.specs.declared.send_message.SendMessage.{SendMessage}
+use Rattle.h1_codec.specs.declared.framed_message.Message.{Message}
+use Rattle.h1_codec.specs.View.{View, view_of}
+use Rattle.h1_codec.specs.Turns.{MAX_TURNS, IsDone, SendsFew, FailSays, SendSays}
+use Rattle.h1_codec.specs.declared.send_error.SendError.{SendError}
+use Rattle.h1_codec.specs.declared.send_message.SendMessage.{SendMessage}
 
 -- it may be polled
 abbrev pub is_open : {T U H B : Type 0} → SendMessage T U H B → Bool

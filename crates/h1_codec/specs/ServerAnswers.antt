@@ -8,15 +8,15 @@ use Rattle.h1_payload.specs.Decoding.{Decoding, Payload}
 use Rattle.h1_payload.specs.Decoding as bodies
 use Rattle.h1_payload.specs.declared.item.DecodeError.{DecodeError}
 use Rattle.h1_payload.specs.declared.item.DecodeError.TheVariants.{Invalid, NoMemory}
-use Rattle.h1_encoder.specs.Kind.{Kind}
+use Rattle.h1_codec.specs.Kind.{Kind}
 use Rattle.h1_decoder.specs.Refusal.{UnlessNoMemory, fault_of}
-use Rattle.h1_encoder.specs.Heads.{Search, HasSeen, IsNextItem, IsWaiting, RefusesNext, refused, Stops}
-use Rattle.h1_encoder.specs.declared.payload_type.PayloadType.{PayloadType}
-use Rattle.h1_encoder.specs.declared.framed_message.Message.{Message}
-use Rattle.h1_encoder.specs.declared.framed_message.Message.TheVariants.{Item, Chunk}
-use Rattle.h1_encoder.specs.declared.server_piece.Piece.{Piece}
-use Rattle.h1_encoder.specs.declared.server_piece.Piece.TheVariants.{Bytes, End}
-use Rattle.h1_encoder.specs.FramedMessages.{Messages, given, nothing, Breaks, body_of, Standing, Reads, Looked}
+use Rattle.h1_codec.specs.Heads.{Search, HasSeen, IsNextItem, IsWaiting, RefusesNext, refused, Stops}
+use Rattle.h1_codec.specs.declared.payload_type.PayloadType.{PayloadType}
+use Rattle.h1_codec.specs.declared.framed_message.Message.{Message}
+use Rattle.h1_codec.specs.declared.framed_message.Message.TheVariants.{Item, Chunk}
+use Rattle.h1_codec.specs.declared.server_piece.Piece.{Piece}
+use Rattle.h1_codec.specs.declared.server_piece.Piece.TheVariants.{Bytes, End}
+use Rattle.h1_codec.specs.FramedMessages.{Messages, given, nothing, Breaks, body_of, Standing, Reads, Looked}
 
 -- an open body that broke is broken for good, and else all stays
 abbrev pub StaysAfter : Option Decoding → ParseError → Standing → Standing → Type 0

@@ -8,8 +8,8 @@ use Rattle.h1_payload.specs.declared.item.DecodeError.{DecodeError}
 use Rattle.h1_payload.specs.declared.item.DecodeError.TheVariants.{Invalid, NoMemory}
 use Rattle.h1_payload.specs.declared.item.PayloadItem.{PayloadItem}
 use Rattle.h1_payload.specs.declared.item.PayloadItem.TheVariants as items
-use Rattle.h1_encoder.specs.declared.server_piece.Piece.{Piece}
-use Rattle.h1_encoder.specs.declared.server_piece.Piece.TheVariants.{Bytes, End}
+use Rattle.h1_codec.specs.declared.server_piece.Piece.{Piece}
+use Rattle.h1_codec.specs.declared.server_piece.Piece.TheVariants.{Bytes, End}
 
 -- the body ends in front of the rest, with these trailers
 pub record IsEnd (old : Decoding) (bytes rest : List ℕ) (trailers : Option Entries) : Type 0 where

@@ -3,9 +3,9 @@ use Rattle.std.proofs.Common.{ℕ, List, arith}
 use Rattle.std.specs.Prelude.{Some, None}
 use Rattle.h1_encoder.specs.declared.error.EncodeError.{EncodeError}
 use Rattle.h1_encoder.specs.declared.error.EncodeError.TheVariants.{Short, Version, NoMemory}
-use Rattle.h1_encoder.specs.ServerState.{Sent, Writes, Refuses}
-use Rattle.h1_encoder.specs.declared.server_codec.Codec.{Codec}
-use Rattle.h1_encoder.specs.declared.framed_message.Message.TheVariants.{Item, Chunk}
+use Rattle.h1_codec.specs.ServerState.{Sent, Writes, Refuses}
+use Rattle.h1_codec.specs.declared.server_codec.Codec.{Codec}
+use Rattle.h1_codec.specs.declared.framed_message.Message.TheVariants.{Item, Chunk}
 
 -- no item is both refused and written
 pub refused_is_not_written : (old new : Codec) (item : Sent) (text : List ℕ) (error : EncodeError) → Refuses error old item → ¬ (Writes old item text new)

@@ -21,16 +21,16 @@ use Rattle.h1_encoder.specs.declared.error.EncodeError.{EncodeError}
 use Rattle.h1_encoder.specs.declared.error.EncodeError.TheVariants.{Short}
 use Rattle.h1_decoder.specs.HeadItem.{SaysHead, connection_type_of}
 use Rattle.h1_decoder.specs.declared.decoder.HeadItem.{HeadItem}
-use Rattle.h1_encoder.specs.Kinds.{requests}
-use Rattle.h1_encoder.specs.ServerAnswers.{LeftAfter}
-use Rattle.h1_encoder.specs.FramedMessages.{Messages, Standing, Reads, Looked}
-use Rattle.h1_encoder.specs.declared.server_codec.Codec.{Codec}
-use Rattle.h1_encoder.specs.declared.server_codec.TheConstants.{LAST_MOMENT}
+use Rattle.h1_codec.specs.Kinds.{requests}
+use Rattle.h1_codec.specs.ServerAnswers.{LeftAfter}
+use Rattle.h1_codec.specs.FramedMessages.{Messages, Standing, Reads, Looked}
+use Rattle.h1_codec.specs.declared.server_codec.Codec.{Codec}
+use Rattle.h1_codec.specs.declared.server_codec.TheConstants.{LAST_MOMENT}
 use Rattle.h1_payload.specs.Decoding.{Decoding}
-use Rattle.h1_encoder.specs.declared.framed_message.MessageType.{MessageType}
-use Rattle.h1_encoder.specs.declared.framed_message.MessageType.TheVariants as kind
-use Rattle.h1_encoder.specs.declared.framed_message.Message.{Message}
-use Rattle.h1_encoder.specs.declared.framed_message.Message.TheVariants.{Item, Chunk}
+use Rattle.h1_codec.specs.declared.framed_message.MessageType.{MessageType}
+use Rattle.h1_codec.specs.declared.framed_message.MessageType.TheVariants as kind
+use Rattle.h1_codec.specs.declared.framed_message.Message.{Message}
+use Rattle.h1_codec.specs.declared.framed_message.Message.TheVariants.{Item, Chunk}
 
 -- ---- its parts
 

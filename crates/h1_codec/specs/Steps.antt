@@ -8,11 +8,11 @@ use Rattle.h1_payload.specs.declared.item.DecodeError.TheVariants.{Invalid, NoMe
 use Rattle.h1_payload.specs.declared.item.PayloadItem.{PayloadItem}
 use Rattle.h1_payload.specs.declared.item.PayloadItem.TheVariants as items
 use Rattle.h1_decoder.specs.Refusal.{UnlessNoMemory, fault_of}
-use Rattle.h1_encoder.specs.Kind.{Kind}
-use Rattle.h1_encoder.specs.Heads.{Search, HasSeen, IsWaiting, refused, Stops}
-use Rattle.h1_encoder.specs.declared.framed_message.Message.{Message}
-use Rattle.h1_encoder.specs.declared.framed_message.Message.TheVariants.{Item, Chunk}
-use Rattle.h1_encoder.specs.FramedMessages.{Standing}
+use Rattle.h1_codec.specs.Kind.{Kind}
+use Rattle.h1_codec.specs.Heads.{Search, HasSeen, IsWaiting, refused, Stops}
+use Rattle.h1_codec.specs.declared.framed_message.Message.{Message}
+use Rattle.h1_codec.specs.declared.framed_message.Message.TheVariants.{Item, Chunk}
+use Rattle.h1_codec.specs.FramedMessages.{Standing}
 
 -- an item of a body as an item of its message: trailers come with the end
 abbrev pub message_of : {I : Type 0} → Result (Option PayloadItem) DecodeError → Result (Option (Message I)) ParseError

@@ -6,15 +6,15 @@ use Rattle.http_config.specs.Causes.{Rose}
 use Rattle.http_bodies.specs.Giving.{Given, fault}
 use Rattle.http_framing.specs.declared.body.size.BodySize.{BodySize}
 use Rattle.http_transport.specs.Wiring.{Wiring}
-use Rattle.h1_encoder.specs.declared.framed_message.Message.{Message}
-use Rattle.h1_encoder.specs.View.{View}
-use Rattle.h1_encoder.specs.Sends.{Sends, ends, given_count, IsLost}
-use Rattle.h1_encoder.specs.declared.send_error.SendError.{SendError}
-use Rattle.h1_encoder.specs.declared.send_error.SendError.TheVariants.{Body, NoMemory, Transport, Codec}
-use Rattle.h1_encoder.specs.declared.sending.Fed.{Fed}
-use Rattle.h1_encoder.specs.declared.sending.Fed.TheVariants as fed
-use Rattle.h1_encoder.specs.declared.turn.Turn.{Turn}
-use Rattle.h1_encoder.specs.declared.turn.Turn.TheVariants.{Goes, Waits, Over}
+use Rattle.h1_codec.specs.declared.framed_message.Message.{Message}
+use Rattle.h1_codec.specs.View.{View}
+use Rattle.h1_codec.specs.Sends.{Sends, ends, given_count, IsLost}
+use Rattle.h1_codec.specs.declared.send_error.SendError.{SendError}
+use Rattle.h1_codec.specs.declared.send_error.SendError.TheVariants.{Body, NoMemory, Transport, Codec}
+use Rattle.h1_codec.specs.declared.sending.Fed.{Fed}
+use Rattle.h1_codec.specs.declared.sending.Fed.TheVariants as fed
+use Rattle.h1_codec.specs.declared.turn.Turn.{Turn}
+use Rattle.h1_codec.specs.declared.turn.Turn.TheVariants.{Goes, Waits, Over}
 
 -- the most turns of a poll, each with at most one answer of the body
 abbrev pub MAX_TURNS : ℕ

@@ -3,7 +3,7 @@ use Rattle.std.specs.Prelude.{ℕ, Bool, Option, List}
 use Rattle.http_bodies.specs.Giving.{Giving}
 use Rattle.http_framing.specs.declared.body.size.BodySize.{BodySize}
 use Rattle.http_transport.specs.Wiring.{Wiring}
-use Rattle.h1_encoder.specs.declared.sending.Sending.{Sending}
+use Rattle.h1_codec.specs.declared.sending.Sending.{Sending}
 
 -- The transport; the codec, the bytes that were read and not decoded, and those that were written and not sent; the head,
 -- until it is written, with the size of the body; what the body gives; and whether its end was written.

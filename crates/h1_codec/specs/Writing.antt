@@ -14,13 +14,13 @@ use Rattle.h1_encoder.specs.Encoding.{Encoding, first_encoding, encoded, behind,
 use Rattle.h1_encoder.specs.Meaning.{headers_of, size_of, model_type}
 use Rattle.h1_encoder.specs.declared.error.EncodeError.{EncodeError}
 use Rattle.h1_encoder.specs.declared.error.EncodeError.TheVariants.{Short, Version}
-use Rattle.h1_encoder.specs.ServerState.{is_enabled, allowed}
-use Rattle.h1_encoder.specs.declared.framed_message.Message.{Message}
-use Rattle.h1_encoder.specs.declared.framed_message.Message.TheVariants.{Item, Chunk}
+use Rattle.h1_codec.specs.ServerState.{is_enabled, allowed}
+use Rattle.h1_codec.specs.declared.framed_message.Message.{Message}
+use Rattle.h1_codec.specs.declared.framed_message.Message.TheVariants.{Item, Chunk}
 use Rattle.h1_encoder.specs.RequestMeaning.{asked_head, has_text}
-use Rattle.h1_encoder.specs.ClientState.{client_settings, client_moment, client_encoding, of_codec}
-use Rattle.h1_encoder.specs.declared.client.Client.{Client}
-use Rattle.h1_encoder.specs.declared.client_codec.ClientCodec.{ClientCodec}
+use Rattle.h1_codec.specs.ClientState.{client_settings, client_moment, client_encoding, of_codec}
+use Rattle.h1_codec.specs.declared.client.Client.{Client}
+use Rattle.h1_codec.specs.declared.client_codec.ClientCodec.{ClientCodec}
 
 abbrev pub with_now : ℕ → Client → Client
 with_now now c = record c { moment = now }

@@ -3,9 +3,9 @@ ghost use Rattle.std.specs.Prelude.{◌≡◌, ◌↔◌, ◌++◌, None, IsTrue
 ghost use Rattle.http_types.specs.declared.message.ConnectionType.{ConnectionType as Kind};
 ghost use Rattle.http_types.specs.declared.message.ConnectionType.TheVariants as kinds;
 ghost use Rattle.h1_encoder.specs.Encoding.{of_length};
-ghost use Rattle.h1_encoder.specs.ServerState.{is_enabled};
-ghost use Rattle.h1_encoder.specs.Heads.{HasSeen};
-ghost use Rattle.h1_encoder.specs.ClientState.{client_standing, client_moment, left_to_come};
+ghost use Rattle.h1_codec.specs.ServerState.{is_enabled};
+ghost use Rattle.h1_codec.specs.Heads.{HasSeen};
+ghost use Rattle.h1_codec.specs.ClientState.{client_standing, client_moment, left_to_come};
 
 use crate::{MessageDecoder, MessageType, ResponseItem};
 use bytes::BytesMut;

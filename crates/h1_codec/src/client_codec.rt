@@ -3,17 +3,17 @@ ghost use Rattle.std.specs.Prelude.{◌≡◌, ◌≢◌, ◌↔◌, ◌++◌, �
 ghost use Rattle.http_framing.specs.AnyPieces.{GoesOn, OnlySays, in_front};
 ghost use Rattle.http_types.specs.declared.error.ParseError.TheVariants as errors;
 ghost use Rattle.h1_encoder.specs.Encoding.{of_length};
-ghost use Rattle.h1_encoder.specs.Heads.{HasSeen};
+ghost use Rattle.h1_codec.specs.Heads.{HasSeen};
 ghost use Rattle.http_types.specs.RequestHeadType.{shown_head};
 ghost use Rattle.h1_encoder.specs.RequestMeaning.{asked_head, has_text};
-ghost use Rattle.h1_encoder.specs.Kinds.{answers};
-ghost use Rattle.h1_encoder.specs.ServerAnswers.{IsHead, HasTrailers};
-ghost use Rattle.h1_encoder.specs.Light.{NeedsNoMemory};
-ghost use Rattle.h1_encoder.specs.FramedMessages.{nothing};
-ghost use Rattle.h1_encoder.specs.ServerState.{is_enabled, allowed};
-ghost use Rattle.h1_encoder.specs.ClientAnswers.{head_given, ClientCause, HasNoted, IsHeadStep};
-ghost use Rattle.h1_encoder.specs.ClientPieces.{as_head};
-ghost use Rattle.h1_encoder.specs.ClientState.{
+ghost use Rattle.h1_codec.specs.Kinds.{answers};
+ghost use Rattle.h1_codec.specs.ServerAnswers.{IsHead, HasTrailers};
+ghost use Rattle.h1_codec.specs.Light.{NeedsNoMemory};
+ghost use Rattle.h1_codec.specs.FramedMessages.{nothing};
+ghost use Rattle.h1_codec.specs.ServerState.{is_enabled, allowed};
+ghost use Rattle.h1_codec.specs.ClientAnswers.{head_given, ClientCause, HasNoted, IsHeadStep};
+ghost use Rattle.h1_codec.specs.ClientPieces.{as_head};
+ghost use Rattle.h1_codec.specs.ClientState.{
   of_codec,
   of_payload,
   client_settings,
@@ -30,7 +30,7 @@ ghost use Rattle.h1_encoder.specs.ClientState.{
   HeadLooked,
   left_to_come,
 };
-ghost use Rattle.h1_encoder.specs.Writing.{Refuses, HasWritten, IsRequestWritten, merged, sent_head, with_headers, with_now, without_trailers};
+ghost use Rattle.h1_codec.specs.Writing.{Refuses, HasWritten, IsRequestWritten, merged, sent_head, with_headers, with_now, without_trailers};
 
 use crate::client::Client;
 use crate::merged::merged;

@@ -10,10 +10,10 @@ impl Decoder for ClientCodec {
     ghost use Rattle.std.specs.Prelude.{◌≡◌, ⊤};
     ghost use Rattle.http_types.specs.declared.error.ParseError.TheVariants as parse;
     ghost use Rattle.h1_decoder.specs.declared.response.ResponseItem.{ResponseItem};
-    ghost use Rattle.h1_encoder.specs.FramedMessages.{Messages, nothing};
-    ghost use Rattle.h1_encoder.specs.declared.client_error.ClientError.TheVariants as errors;
-    ghost use Rattle.h1_encoder.specs.ClientAnswers.{head_given};
-    ghost use Rattle.h1_encoder.specs.ClientState.{HeadReads, HeadLooked, ClientBreaks, Asking, client_asking, of_codec};
+    ghost use Rattle.h1_codec.specs.FramedMessages.{Messages, nothing};
+    ghost use Rattle.h1_codec.specs.declared.client_error.ClientError.TheVariants as errors;
+    ghost use Rattle.h1_codec.specs.ClientAnswers.{head_given};
+    ghost use Rattle.h1_codec.specs.ClientState.{HeadReads, HeadLooked, ClientBreaks, Asking, client_asking, of_codec};
 
     type Item = ResponseItem;
 
@@ -50,12 +50,12 @@ impl Decoder for ClientPayloadCodec {
     ghost use Rattle.std.specs.Prelude.{◌≡◌, Some};
     ghost use Rattle.http_types.specs.declared.error.ParseError.TheVariants as parse;
     ghost use Rattle.h1_decoder.specs.declared.response.ResponseItem.{ResponseItem};
-    ghost use Rattle.h1_encoder.specs.FramedMessages.{Messages, nothing};
-    ghost use Rattle.h1_encoder.specs.ServerAnswers.{HasBytes};
-    ghost use Rattle.h1_encoder.specs.declared.client_error.ClientError.TheVariants as errors;
-    ghost use Rattle.h1_encoder.specs.ClientAnswers.{chunk_given, ChunkLeft};
-    ghost use Rattle.h1_encoder.specs.ClientPieces.{as_chunk};
-    ghost use Rattle.h1_encoder.specs.ClientState.{PayloadReads, PayloadLooked, ClientBreaks, Asking, client_asking, of_payload};
+    ghost use Rattle.h1_codec.specs.FramedMessages.{Messages, nothing};
+    ghost use Rattle.h1_codec.specs.ServerAnswers.{HasBytes};
+    ghost use Rattle.h1_codec.specs.declared.client_error.ClientError.TheVariants as errors;
+    ghost use Rattle.h1_codec.specs.ClientAnswers.{chunk_given, ChunkLeft};
+    ghost use Rattle.h1_codec.specs.ClientPieces.{as_chunk};
+    ghost use Rattle.h1_codec.specs.ClientState.{PayloadReads, PayloadLooked, ClientBreaks, Asking, client_asking, of_payload};
 
     type Item = Option<Bytes>;
 
@@ -91,9 +91,9 @@ impl Decoder for ClientPayloadCodec {
 impl Encoder<Message<(RequestHeadType, BodySize)>> for ClientCodec {
     ghost use Rattle.std.specs.Prelude.{◌≡◌};
     ghost use Rattle.h1_encoder.specs.declared.error.EncodeError.TheVariants as errors;
-    ghost use Rattle.h1_encoder.specs.ClientState.{of_codec};
-    ghost use Rattle.h1_encoder.specs.Writing.{Writes, Refuses};
-    ghost use Rattle.h1_encoder.specs.ClientRefused.{refused_is_not_written};
+    ghost use Rattle.h1_codec.specs.ClientState.{of_codec};
+    ghost use Rattle.h1_codec.specs.Writing.{Writes, Refuses};
+    ghost use Rattle.h1_codec.specs.ClientRefused.{refused_is_not_written};
 
     type Error = EncodeError;
 

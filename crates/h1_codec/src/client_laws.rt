@@ -2,10 +2,10 @@
 ghost use Rattle.std.specs.Prelude.{◌≡◌, ℕ, List, Bool, true, Option, Some, None};
 ghost use Rattle.model_client.specs.AnswerTable.{has_no_content};
 ghost use Rattle.h1_decoder.specs.declared.response.ResponseItem.{ResponseItem};
-ghost use Rattle.h1_encoder.specs.FramedMessages.{Standing, Messages, Reads};
-ghost use Rattle.h1_encoder.specs.Sameness.{AreTheSame};
-ghost use Rattle.h1_encoder.specs.Heads.{HasSeen};
-ghost use Rattle.h1_encoder.specs.Kinds.{answers};
+ghost use Rattle.h1_codec.specs.FramedMessages.{Standing, Messages, Reads};
+ghost use Rattle.h1_codec.specs.Sameness.{AreTheSame};
+ghost use Rattle.h1_codec.specs.Heads.{HasSeen};
+ghost use Rattle.h1_codec.specs.Kinds.{answers};
 
 /// Bytes say one thing to a codec that has looked at none of them.
 pub fn bytes_say_one_thing()

@@ -1,11 +1,11 @@
 //! The next piece of an answer's body.
 ghost use Rattle.std.specs.Prelude.{◌≡◌, ◌≢◌, Err};
 ghost use Rattle.http_types.specs.declared.error.ParseError.TheVariants as errors;
-ghost use Rattle.h1_encoder.specs.Light.{NeedsNoMemory};
-ghost use Rattle.h1_encoder.specs.ServerAnswers.{IsNoted};
-ghost use Rattle.h1_encoder.specs.ClientAnswers.{IsChunked, IsChunkStep};
-ghost use Rattle.h1_encoder.specs.ClientPieces.{as_message, as_answered};
-ghost use Rattle.h1_encoder.specs.ClientState.{client_standing};
+ghost use Rattle.h1_codec.specs.Light.{NeedsNoMemory};
+ghost use Rattle.h1_codec.specs.ServerAnswers.{IsNoted};
+ghost use Rattle.h1_codec.specs.ClientAnswers.{IsChunked, IsChunkStep};
+ghost use Rattle.h1_codec.specs.ClientPieces.{as_message, as_answered};
+ghost use Rattle.h1_codec.specs.ClientState.{client_standing};
 
 use crate::client::Client;
 use crate::{ClientError, Piece, next_piece};

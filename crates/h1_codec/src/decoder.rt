@@ -3,8 +3,8 @@ ghost use Rattle.std.specs.Prelude.{◌≡◌, ◌↔◌, ℕ, List, ◌++◌, O
 ghost use Rattle.http_config.specs.declared.hold_size.TheConstants.{DEFAULT_HOLD_SIZE};
 ghost use Rattle.http_framing.specs.AnyPieces.{GoesOn, in_front};
 ghost use Rattle.h1_decoder.specs.Refusal.{UnlessNoMemory, fault_of};
-ghost use Rattle.h1_encoder.specs.Kind.{says_fault};
-ghost use Rattle.h1_encoder.specs.Heads.{HasSeen, IsWaiting, IsTooLong, IsItemOf, IsNextItem, RefusesNext, Stops, refused, Heads, Reads, given};
+ghost use Rattle.h1_codec.specs.Kind.{says_fault};
+ghost use Rattle.h1_codec.specs.Heads.{HasSeen, IsWaiting, IsTooLong, IsItemOf, IsNextItem, RefusesNext, Stops, refused, Heads, Reads, given};
 
 use crate::next_message::{Next, find_next};
 use crate::payload_type::PayloadType;
@@ -30,7 +30,7 @@ pub struct MessageDecoder<T> {
 }
 
 impl<T> Model for MessageDecoder<T> {
-    ghost use Rattle.h1_encoder.specs.Heads.{Search};
+    ghost use Rattle.h1_codec.specs.Heads.{Search};
 
     ghost Value = { Search };
 
@@ -119,7 +119,7 @@ fn read_item<T: ReadHead>(alloc: Global, piece: &[u8]) -> Result<(T, PayloadType
 
 impl<T: ReadHead> Decoder for MessageDecoder<T> {
     ghost use Rattle.std.specs.Prelude.{⊤};
-    ghost use Rattle.h1_encoder.specs.Heads.{no_heads, Breaks, LeftAfter};
+    ghost use Rattle.h1_codec.specs.Heads.{no_heads, Breaks, LeftAfter};
     ghost use Rattle.http_types.specs.declared.error.ParseError.TheVariants as errors;
 
     type Item = (T, PayloadType);

@@ -1,10 +1,10 @@
 //! The next head of an answer.
 ghost use Rattle.std.specs.Prelude.{◌≡◌, ◌≢◌, OnErr, Err};
 ghost use Rattle.http_types.specs.declared.error.ParseError.TheVariants as errors;
-ghost use Rattle.h1_encoder.specs.Light.{NeedsNoMemory};
+ghost use Rattle.h1_codec.specs.Light.{NeedsNoMemory};
 ghost use Rattle.http_types.specs.Flags.{type_of_flags};
-ghost use Rattle.h1_encoder.specs.ClientState.{answered, passes_on, client_standing};
-ghost use Rattle.h1_encoder.specs.ClientAnswers.{IsHeaded, IsHeadStep};
+ghost use Rattle.h1_codec.specs.ClientState.{answered, passes_on, client_standing};
+ghost use Rattle.h1_codec.specs.ClientAnswers.{IsHeaded, IsHeadStep};
 
 use crate::client::Client;
 use crate::{ClientError, next_head};

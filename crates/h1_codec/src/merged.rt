@@ -2,7 +2,7 @@
 ghost use Rattle.std.specs.Prelude.{◌≡◌, OnOk, IfOk};
 ghost use Rattle.http_map.specs.HeaderMap.{keys, pairs, append_all};
 ghost use Rattle.h1_encoder.specs.RequestMeaning.{asked_head};
-ghost use Rattle.h1_encoder.specs.Writing.{merged, remove_all, with_headers};
+ghost use Rattle.h1_codec.specs.Writing.{merged, remove_all, with_headers};
 
 use http_types::{HeaderMap, NoMemory, RequestHead};
 

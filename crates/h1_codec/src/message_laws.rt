@@ -2,7 +2,7 @@
 ghost use Rattle.std.specs.Prelude.{◌≡◌, ℕ, List, [], ◌++◌};
 ghost use Rattle.model_h1.specs.Request.{Fault};
 ghost use Rattle.http_framing.specs.AnyPieces.{Fed, AreFed, LastReads, all_told, all_came};
-ghost use Rattle.h1_encoder.specs.Heads.{Search, HasSeen, Item, Stop, refused, Heads, Stops, SayTheSame, AreHeads, Reads, given};
+ghost use Rattle.h1_codec.specs.Heads.{Search, HasSeen, Item, Stop, refused, Heads, Stops, SayTheSame, AreHeads, Reads, given};
 
 use crate::read_head::ReadHead;
 

@@ -1,10 +1,10 @@
 //! The next item of messages that follow one another.
 ghost use Rattle.std.specs.Prelude.{◌≡◌, ◌≢◌, Err};
-ghost use Rattle.h1_encoder.specs.ServerAnswers.{IsNexted, IsHeadGiven, IsHeadBeside, IsNoted, as_message};
-ghost use Rattle.h1_encoder.specs.Light.{IsLightHead, NeedsNoMemory};
-ghost use Rattle.h1_encoder.specs.FramedMessages.{body_of};
-ghost use Rattle.h1_encoder.specs.Steps.{IsStep};
-ghost use Rattle.h1_encoder.specs.Kinds.{requests};
+ghost use Rattle.h1_codec.specs.ServerAnswers.{IsNexted, IsHeadGiven, IsHeadBeside, IsNoted, as_message};
+ghost use Rattle.h1_codec.specs.Light.{IsLightHead, NeedsNoMemory};
+ghost use Rattle.h1_codec.specs.FramedMessages.{body_of};
+ghost use Rattle.h1_codec.specs.Steps.{IsStep};
+ghost use Rattle.h1_codec.specs.Kinds.{requests};
 
 use crate::framed_message::Message;
 use crate::server_piece::{Piece, next_piece};

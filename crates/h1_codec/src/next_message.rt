@@ -1,6 +1,6 @@
 //! What comes next in the bytes.
 ghost use Rattle.h1_decoder.specs.HeadPosition.{IsSeenIn};
-ghost use Rattle.h1_encoder.specs.Next.{IsFound, IsFoundWithin};
+ghost use Rattle.h1_codec.specs.Next.{IsFound, IsFoundWithin};
 
 use h1_decoder::{HeadScan, HeadScanner};
 

@@ -4,12 +4,12 @@ ghost use Rattle.http_framing.specs.AnyPieces.{GoesOn, OnlySays, in_front};
 ghost use Rattle.http_types.specs.declared.message.ConnectionType.{ConnectionType as Kind};
 ghost use Rattle.http_types.specs.declared.message.ConnectionType.TheVariants as kinds;
 ghost use Rattle.http_types.specs.declared.error.ParseError.TheVariants as errors;
-ghost use Rattle.h1_encoder.specs.ServerAnswers.{HasBytes, HasEnded, HasTrailers};
-ghost use Rattle.h1_encoder.specs.Light.{NeedsNoMemory};
-ghost use Rattle.h1_encoder.specs.FramedMessages.{nothing};
-ghost use Rattle.h1_encoder.specs.ClientAnswers.{chunk_given, ChunkLeft, HasNoted, IsChunkStep};
-ghost use Rattle.h1_encoder.specs.ClientPieces.{as_chunk};
-ghost use Rattle.h1_encoder.specs.ClientState.{
+ghost use Rattle.h1_codec.specs.ServerAnswers.{HasBytes, HasEnded, HasTrailers};
+ghost use Rattle.h1_codec.specs.Light.{NeedsNoMemory};
+ghost use Rattle.h1_codec.specs.FramedMessages.{nothing};
+ghost use Rattle.h1_codec.specs.ClientAnswers.{chunk_given, ChunkLeft, HasNoted, IsChunkStep};
+ghost use Rattle.h1_codec.specs.ClientPieces.{as_chunk};
+ghost use Rattle.h1_codec.specs.ClientState.{
   of_codec,
   of_payload,
   client_standing,
@@ -22,7 +22,7 @@ ghost use Rattle.h1_encoder.specs.ClientState.{
   PayloadLooked,
   left_to_come,
 };
-ghost use Rattle.h1_encoder.specs.Writing.{without_trailers};
+ghost use Rattle.h1_codec.specs.Writing.{without_trailers};
 
 use crate::client::Client;
 use crate::{ClientCodec, ClientError, MessageType};

@@ -1,7 +1,7 @@
 //! What reads the body of a message.
 ghost use Rattle.std.specs.Prelude.{◌≡◌};
 ghost use Rattle.http_framing.specs.Kinds.{kind_of};
-ghost use Rattle.h1_encoder.specs.Heads.{payload_of};
+ghost use Rattle.h1_codec.specs.Heads.{payload_of};
 
 use h1_payload::PayloadDecoder;
 use http_framing::BodyKind;

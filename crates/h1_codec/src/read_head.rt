@@ -2,7 +2,7 @@
 ghost use Rattle.std.specs.Prelude.{◌≡◌, IfOk, IfErr};
 ghost use Rattle.http_framing.specs.Kinds.{kind_of};
 ghost use Rattle.h1_decoder.specs.Refusal.{UnlessNoMemory, fault_of};
-ghost use Rattle.h1_encoder.specs.Kind.{says_head, says_fault, Kind, IsOneReading};
+ghost use Rattle.h1_codec.specs.Kind.{says_head, says_fault, Kind, IsOneReading};
 
 use bytes::Bytes;
 use h1_decoder::{HeadItem, ResponseItem, request_head, response_head};
@@ -30,8 +30,8 @@ pub trait ReadHead: Sized + Drop {
 }
 
 impl ReadHead for HeadItem {
-    ghost use Rattle.h1_encoder.specs.Kinds.{requests};
-    ghost use Rattle.h1_encoder.specs.OneReading.{one_request};
+    ghost use Rattle.h1_codec.specs.Kinds.{requests};
+    ghost use Rattle.h1_codec.specs.OneReading.{one_request};
 
     ghost kind = { requests };
 
@@ -47,8 +47,8 @@ impl ReadHead for HeadItem {
 }
 
 impl ReadHead for ResponseItem {
-    ghost use Rattle.h1_encoder.specs.Kinds.{answers};
-    ghost use Rattle.h1_encoder.specs.OneReading.{one_answer};
+    ghost use Rattle.h1_codec.specs.Kinds.{answers};
+    ghost use Rattle.h1_codec.specs.OneReading.{one_answer};
 
     ghost kind = { answers };
 

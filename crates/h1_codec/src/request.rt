@@ -3,8 +3,8 @@ ghost use Rattle.std.specs.Prelude.{◌≡◌, bytes_eq, codes};
 ghost use Rattle.model_client.specs.RequestText.{asked_shape};
 ghost use Rattle.h1_encoder.specs.Encoding.{first_encoding};
 ghost use Rattle.h1_encoder.specs.Meaning.{size_of};
-ghost use Rattle.h1_encoder.specs.ServerState.{is_enabled, allowed};
-ghost use Rattle.h1_encoder.specs.Writing.{is_head_request};
+ghost use Rattle.h1_codec.specs.ServerState.{is_enabled, allowed};
+ghost use Rattle.h1_codec.specs.Writing.{is_head_request};
 
 use h1_encoder::TransferEncoding;
 use http_config::KeepAlive;

@@ -1,6 +1,6 @@
 //! An answer that is sent over the framed transport of a server.
 ghost use Rattle.std.specs.Prelude.{◌≡◌, true, Some};
-ghost use Rattle.h1_encoder.specs.SentMessages.{is_open, message_view, view_begun};
+ghost use Rattle.h1_codec.specs.SentMessages.{is_open, message_view, view_begun};
 
 use crate::{Codec, SendMessage};
 use http_bodies::MessageBody;

@@ -6,10 +6,10 @@ ghost use Rattle.model_h1.specs.Setting.{Setting, keeps};
 ghost use Rattle.model_h1.specs.Text.{answer_head_text};
 ghost use Rattle.h1_encoder.specs.Encoding.{encoded_all};
 ghost use Rattle.h1_encoder.specs.Meaning.{answer_of, size_of};
-ghost use Rattle.h1_encoder.specs.ServerState.{codec_settings, codec_asked, codec_moment, is_enabled, begun, Writes};
-ghost use Rattle.h1_encoder.specs.declared.server_codec.Codec.{Codec};
-ghost use Rattle.h1_encoder.specs.View.{View};
-ghost use Rattle.h1_encoder.specs.Sends.{Sends, filled};
+ghost use Rattle.h1_codec.specs.ServerState.{codec_settings, codec_asked, codec_moment, is_enabled, begun, Writes};
+ghost use Rattle.h1_codec.specs.declared.server_codec.Codec.{Codec};
+ghost use Rattle.h1_codec.specs.View.{View};
+ghost use Rattle.h1_codec.specs.Sends.{Sends, filled};
 
 use crate::Message;
 use http_framing::{BodySize, Encoder};

@@ -2,7 +2,7 @@
 ghost use Rattle.std.specs.Prelude.{◌≡◌, true, false, Some};
 ghost use Rattle.futures.specs.Task.{IsArmed, Keeps};
 ghost use Rattle.futures.specs.Poll.{IfReady, OnPending};
-ghost use Rattle.h1_encoder.specs.SentMessages.{is_open, message_view, view_begun, transport_left, PollSays};
+ghost use Rattle.h1_codec.specs.SentMessages.{is_open, message_view, view_begun, transport_left, PollSays};
 
 use crate::sending::Sending;
 use crate::{Message, SendError};

@@ -1,9 +1,9 @@
 //! What is left to send of a message.
 ghost use Rattle.std.specs.Prelude.{◌≡◌, ◌<◌, None, IfErr, OnOk, false, length};
 ghost use Rattle.futures.specs.Task.{IsArmed, Keeps};
-ghost use Rattle.h1_encoder.specs.View.{view_of};
-ghost use Rattle.h1_encoder.specs.Sends.{IsLost};
-ghost use Rattle.h1_encoder.specs.Turns.{MAX_TURNS, SendsFew, FedSays, OnWaits};
+ghost use Rattle.h1_codec.specs.View.{view_of};
+ghost use Rattle.h1_codec.specs.Sends.{IsLost};
+ghost use Rattle.h1_codec.specs.Turns.{MAX_TURNS, SendsFew, FedSays, OnWaits};
 
 use crate::{Message, SendError};
 use bytes::Bytes;

@@ -5,13 +5,13 @@ ghost use Rattle.http_framing.specs.AnyPieces.{GoesOn, OnlySays, in_front};
 ghost use Rattle.model_h1.specs.Request as model;
 ghost use Rattle.h1_encoder.specs.Encoding.{of_length};
 ghost use Rattle.h1_encoder.specs.Meaning.{model_type, minor_of};
-ghost use Rattle.h1_encoder.specs.Heads.{HasSeen};
-ghost use Rattle.h1_encoder.specs.ServerAnswers.{HasTrailers, HasBytes, HasEnded, IsHead, IsCauseAt};
-ghost use Rattle.h1_encoder.specs.Kinds.{requests};
-ghost use Rattle.h1_encoder.specs.Light.{NeedsNoMemory};
-ghost use Rattle.h1_encoder.specs.FramedMessages.{given, nothing, Breaks};
-ghost use Rattle.h1_encoder.specs.Steps.{IsStep};
-ghost use Rattle.h1_encoder.specs.ServerState.{
+ghost use Rattle.h1_codec.specs.Heads.{HasSeen};
+ghost use Rattle.h1_codec.specs.ServerAnswers.{HasTrailers, HasBytes, HasEnded, IsHead, IsCauseAt};
+ghost use Rattle.h1_codec.specs.Kinds.{requests};
+ghost use Rattle.h1_codec.specs.Light.{NeedsNoMemory};
+ghost use Rattle.h1_codec.specs.FramedMessages.{given, nothing, Breaks};
+ghost use Rattle.h1_codec.specs.Steps.{IsStep};
+ghost use Rattle.h1_codec.specs.ServerState.{
   codec_settings,
   codec_standing,
   codec_trailers,

@@ -11,9 +11,9 @@ impl Decoder for Codec {
     ghost use Rattle.std.specs.Prelude.{◌≡◌, Some};
     ghost use Rattle.http_types.specs.declared.error.ParseError.TheVariants as errors;
     ghost use Rattle.h1_decoder.specs.declared.decoder.HeadItem.{HeadItem};
-    ghost use Rattle.h1_encoder.specs.FramedMessages.{Messages, given, nothing, Breaks};
-    ghost use Rattle.h1_encoder.specs.ServerState.{CodecReads, HasLookedAt, CodecLeft, Writing, codec_writing};
-    ghost use Rattle.h1_encoder.specs.ServerAnswers.{HasBytes};
+    ghost use Rattle.h1_codec.specs.FramedMessages.{Messages, given, nothing, Breaks};
+    ghost use Rattle.h1_codec.specs.ServerState.{CodecReads, HasLookedAt, CodecLeft, Writing, codec_writing};
+    ghost use Rattle.h1_codec.specs.ServerAnswers.{HasBytes};
 
     type Item = Message<HeadItem>;
 
@@ -49,8 +49,8 @@ impl Decoder for Codec {
 impl Encoder<Message<(Response<()>, BodySize)>> for Codec {
     ghost use Rattle.std.specs.Prelude.{◌≡◌};
     ghost use Rattle.h1_encoder.specs.declared.error.EncodeError.TheVariants as errors;
-    ghost use Rattle.h1_encoder.specs.ServerState.{Writes, Refuses};
-    ghost use Rattle.h1_encoder.specs.ServerRefused.{refused_is_not_written};
+    ghost use Rattle.h1_codec.specs.ServerState.{Writes, Refuses};
+    ghost use Rattle.h1_codec.specs.ServerRefused.{refused_is_not_written};
 
     type Error = EncodeError;
 

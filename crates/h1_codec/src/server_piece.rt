@@ -1,7 +1,7 @@
 //! The next piece of a body.
 ghost use Rattle.std.specs.Prelude.{◌≢◌, Err};
-ghost use Rattle.h1_encoder.specs.Light.{IsLightBody};
-ghost use Rattle.h1_encoder.specs.ServerPieces.{IsPiece, IsDecodedPiece};
+ghost use Rattle.h1_codec.specs.Light.{IsLightBody};
+ghost use Rattle.h1_codec.specs.ServerPieces.{IsPiece, IsDecodedPiece};
 
 use bytes::{Bytes, BytesMut};
 use h1_payload::{DecodeError, PayloadDecoder, PayloadItem};

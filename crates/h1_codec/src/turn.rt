@@ -2,8 +2,8 @@
 ghost use Rattle.std.specs.Prelude.{◌≡◌, ◌≤◌, None, true, length};
 ghost use Rattle.futures.specs.Task.{IsArmed, Keeps};
 ghost use Rattle.futures.specs.Poll.{OnPending};
-ghost use Rattle.h1_encoder.specs.View.{view_of};
-ghost use Rattle.h1_encoder.specs.Turns.{OnIdle, WaitSays, TurnSays, SpentSays, SendSays};
+ghost use Rattle.h1_codec.specs.View.{view_of};
+ghost use Rattle.h1_codec.specs.Turns.{OnIdle, WaitSays, TurnSays, SpentSays, SendSays};
 
 use crate::sending::{Fed, Sending};
 use crate::{Message, SendError};

@@ -2,8 +2,8 @@
 use Rattle.std.proofs.Common.{◌≡◌, ◌≤◌, ◌+◌, ◌-◌, ℕ, Bool, true, false, List, [], ◌∷◌, ◌++◌, length, take, drop, refl, sym, ap, ◌∙◌, subst, arith}
 use Rattle.std.specs.Prelude.{⊤, if◌then◌else◌, nat_lt, nat_le}
 use Rattle.std.proofs.lemmas.List.{length-take}
-use Rattle.model_h1.specs.Place.{InTraced, Place, in_bytes, bytes_end, in_section, done, broken, step}
-use Rattle.model_h1.specs.TakeNext.{Next, chunk, waits, ended, breaks, Taken, of_chunk, noted_traced, stops_at, take_next}
+use Rattle.model_h1.specs.Place.{InLine, Place, in_bytes, bytes_end, in_section, done, broken, step}
+use Rattle.model_h1.specs.TakeNext.{Next, chunk, waits, ended, breaks, Taken, of_chunk, noted_line, stops_at, take_next}
 use Rattle.model_h1.specs.Event.{Outcome}
 use Rattle.model_h1.specs.Event as on
 use Rattle.model_h1.specs.FrameText.{Front, partial, whole, breaks as breaks_rule, front_frame}
@@ -90,7 +90,7 @@ fits_more b bytes (waits next) fits = tt
 fits_more b bytes (ended behind) fits = tt
 fits_more b bytes breaks fits = tt
 
-next_noted : (at : InTraced) (lines room : ℕ) (q : Place) (b : ℕ) (t : Taken) → (noted_traced (in_section at lines room) q b t).next ≡ t.next
+next_noted : (at : InLine) (lines room : ℕ) (q : Place) (b : ℕ) (t : Taken) → (noted_line (in_section at lines room) q b t).next ≡ t.next
 next_noted at lines room (in_section at' lines' room') b t = refl
 next_noted at lines room q b t = refl
 

@@ -17,11 +17,11 @@ use Rattle.model_client.specs.AnswerReading.{IsTextOf}
 use Rattle.model_ends.specs.SentAnswer.{IsBodySent, SentAnswer, IsSent, AreSent, AreHeld, sent_text, answers_sent}
 use Rattle.model_ends.proofs.HeadText.{response_is_piece}
 use Rattle.model_ends.proofs.Traces.{trace_words, trace_sent}
-use Rattle.h1_encoder.specs.Heads.{HasSeen}
-use Rattle.h1_encoder.specs.Kinds.{answers}
-use Rattle.h1_encoder.specs.OneReading.{one_answer}
-use Rattle.h1_encoder.specs.FramedMessages.{Part, nothing, Standing}
-use Rattle.h1_encoder.specs.declared.framed_message.Message.TheVariants.{Item, Chunk}
+use Rattle.h1_codec.specs.Heads.{HasSeen}
+use Rattle.h1_codec.specs.Kinds.{answers}
+use Rattle.h1_codec.specs.OneReading.{one_answer}
+use Rattle.h1_codec.specs.FramedMessages.{Part, nothing, Standing}
+use Rattle.h1_codec.specs.declared.framed_message.Message.TheVariants.{Item, Chunk}
 use Rattle.model_codecs.specs.Acts.{Act, comes, asked, bytes_came, told, IsRun}
 use Rattle.model_codecs.specs.Given.{kind_to, Sent, texts, part_of, AreWhole}
 use Rattle.model_codecs.specs.Requests.{IsFresh}

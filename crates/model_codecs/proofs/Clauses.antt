@@ -7,23 +7,23 @@ use Rattle.http_types.specs.declared.error.ParseError.{ParseError}
 use Rattle.http_types.specs.declared.requests.head_type.RequestHeadType.{RequestHeadType}
 use Rattle.h1_decoder.specs.declared.response.ResponseItem.{ResponseItem}
 use Rattle.h1_decoder.specs.declared.decoder.HeadItem.{HeadItem}
-use Rattle.h1_encoder.specs.Kinds.{requests, answers}
-use Rattle.h1_encoder.specs.ServerState.{codec_standing, CodecLeft, HasLookedAt}
-use Rattle.h1_encoder.specs.Steps.{IsStep}
-use Rattle.h1_encoder.specs.declared.server_codec.Codec.{Codec}
+use Rattle.h1_codec.specs.Kinds.{requests, answers}
+use Rattle.h1_codec.specs.ServerState.{codec_standing, CodecLeft, HasLookedAt}
+use Rattle.h1_codec.specs.Steps.{IsStep}
+use Rattle.h1_codec.specs.declared.server_codec.Codec.{Codec}
 use Rattle.h1_payload.specs.Decoding.{Decoding}
-use Rattle.h1_encoder.specs.ServerAnswers.{IsHead, StaysAfter}
-use Rattle.h1_encoder.specs.FramedMessages.{Standing}
-use Rattle.h1_encoder.specs.declared.framed_message.Message.{Message}
-use Rattle.h1_encoder.specs.declared.framed_message.Message.TheVariants.{Item, Chunk}
-use Rattle.h1_encoder.specs.ClientAnswers.{IsHeadStep, IsChunkStep, ChunkLeft}
-use Rattle.h1_encoder.specs.ClientPieces.{as_head, as_chunk}
-use Rattle.h1_encoder.specs.ClientState.{of_codec, of_payload, client_standing, client_is_head, HeadLooked, PayloadLooked}
-use Rattle.h1_encoder.specs.Writing.{Writes}
-use Rattle.h1_encoder.specs.declared.client_codec.ClientCodec.{ClientCodec}
-use Rattle.h1_encoder.specs.declared.payload.ClientPayloadCodec.{ClientPayloadCodec}
-use Rattle.h1_encoder.specs.declared.client_error.ClientError.{ClientError}
-use Rattle.h1_encoder.specs.declared.client_error.ClientError.TheVariants.{Parse, Misplaced}
+use Rattle.h1_codec.specs.ServerAnswers.{IsHead, StaysAfter}
+use Rattle.h1_codec.specs.FramedMessages.{Standing}
+use Rattle.h1_codec.specs.declared.framed_message.Message.{Message}
+use Rattle.h1_codec.specs.declared.framed_message.Message.TheVariants.{Item, Chunk}
+use Rattle.h1_codec.specs.ClientAnswers.{IsHeadStep, IsChunkStep, ChunkLeft}
+use Rattle.h1_codec.specs.ClientPieces.{as_head, as_chunk}
+use Rattle.h1_codec.specs.ClientState.{of_codec, of_payload, client_standing, client_is_head, HeadLooked, PayloadLooked}
+use Rattle.h1_codec.specs.Writing.{Writes}
+use Rattle.h1_codec.specs.declared.client_codec.ClientCodec.{ClientCodec}
+use Rattle.h1_codec.specs.declared.payload.ClientPayloadCodec.{ClientPayloadCodec}
+use Rattle.h1_codec.specs.declared.client_error.ClientError.{ClientError}
+use Rattle.h1_codec.specs.declared.client_error.ClientError.TheVariants.{Parse, Misplaced}
 use Rattle.model_codecs.specs.Acts.{HasAnswered}
 use Rattle.model_codecs.specs.Answers.{IsHeadAsked, IsChunkAsked, is_head}
 

@@ -1,7 +1,7 @@
 -- What is given of all messages, in the words of the laws.
 use Rattle.std.proofs.Common.{ℕ, ◌<◌, Bool, List, sym, ◌∙◌, subst, append-nil}
-use Rattle.h1_encoder.specs.Kind.{Kind, IsOneReading}
-use Rattle.h1_encoder.specs.FramedMessages.{nothing, Standing}
+use Rattle.h1_codec.specs.Kind.{Kind, IsOneReading}
+use Rattle.h1_codec.specs.FramedMessages.{nothing, Standing}
 use Rattle.model_codecs.specs.Acts.{Act, told}
 use Rattle.model_codecs.specs.Given.{Sent, AreWhole, AreGiven}
 use Rattle.model_codecs.proofs.Runs.{between, Gives}

@@ -7,11 +7,11 @@ use Rattle.model_h1.specs.HeadPiece.{IsHeadPiece, HasNoHeadPiece}
 use Rattle.model_h1.specs.Request.{Fault}
 use Rattle.model_h1.proofs.HeadPieceLemmas.{head_piece_unique, slice_range-append}
 use Rattle.model_h1.proofs.ExampleLemmas.{nothing_behind}
-use Rattle.h1_encoder.specs.Kind.{Reading, says_head, says_fault, Kind, IsOneReading}
-use Rattle.h1_encoder.specs.Heads.{IsNext, IsNextItem, payload_of, refused, Stops}
-use Rattle.h1_encoder.specs.declared.payload_type.PayloadType.{PayloadType}
-use Rattle.h1_encoder.proofs.GoingOn.{next_append}
-use Rattle.h1_encoder.proofs.Refusals.{none_too_long, stops_append}
+use Rattle.h1_codec.specs.Kind.{Reading, says_head, says_fault, Kind, IsOneReading}
+use Rattle.h1_codec.specs.Heads.{IsNext, IsNextItem, payload_of, refused, Stops}
+use Rattle.h1_codec.specs.declared.payload_type.PayloadType.{PayloadType}
+use Rattle.h1_codec.proofs.GoingOn.{next_append}
+use Rattle.h1_codec.proofs.Refusals.{none_too_long, stops_append}
 use Rattle.model_codecs.specs.Given.{Sent}
 
 -- the head stands in front of whatever follows, within the limit, and is read back

@@ -9,9 +9,9 @@ use Rattle.model_h1.specs.RequestHead.{header_of}
 use Rattle.model_h1.proofs.LineFeeds.{feeds, feeds-head}
 use Rattle.model_ends.specs.SentRequest.{SentRequest, IsAsked, asked_text}
 use Rattle.model_ends.proofs.HeadText.{request_is_piece}
-use Rattle.h1_encoder.specs.Kinds.{requests}
-use Rattle.h1_encoder.specs.OneReading.{one_request}
-use Rattle.h1_encoder.specs.FramedMessages.{Standing}
+use Rattle.h1_codec.specs.Kinds.{requests}
+use Rattle.h1_codec.specs.OneReading.{one_request}
+use Rattle.h1_codec.specs.FramedMessages.{Standing}
 use Rattle.model_codecs.specs.Acts.{Act, bytes_came, IsRun}
 use Rattle.model_codecs.specs.Given.{texts, AreGiven}
 use Rattle.model_codecs.specs.Requests.{IsFresh, sent_of}

@@ -10,14 +10,14 @@ use Rattle.model_ends.specs.SentAnswer.{IsBodySent}
 use Rattle.h1_payload.specs.Decoding.{Decoding}
 use Rattle.h1_payload.specs.declared.item.DecodeError.{DecodeError}
 use Rattle.h1_payload.specs.declared.item.PayloadItem.{PayloadItem}
-use Rattle.h1_encoder.specs.Kind.{Kind, IsOneReading}
-use Rattle.h1_encoder.specs.Heads.{Search, HasSeen, payload_of, IsNextItem, IsWaiting, waits, refused, Stops}
+use Rattle.h1_codec.specs.Kind.{Kind, IsOneReading}
+use Rattle.h1_codec.specs.Heads.{Search, HasSeen, payload_of, IsNextItem, IsWaiting, waits, refused, Stops}
 use Rattle.h1_decoder.specs.Refusal.{fault_of}
-use Rattle.h1_encoder.specs.ServerAnswers.{StaysAfter}
-use Rattle.h1_encoder.specs.FramedMessages.{Closing, an_end, chunk_in_front, end_in_front, Part, no_part, Messages, given, nothing, body_of, Standing, HasLooked, Looked}
-use Rattle.h1_encoder.specs.Steps.{message_of, open_after, IsOpenStep, IsIdleStep, IsStepFrom, IsStep}
-use Rattle.h1_encoder.specs.declared.framed_message.Message.{Message}
-use Rattle.h1_encoder.specs.declared.framed_message.Message.TheVariants.{Item, Chunk}
+use Rattle.h1_codec.specs.ServerAnswers.{StaysAfter}
+use Rattle.h1_codec.specs.FramedMessages.{Closing, an_end, chunk_in_front, end_in_front, Part, no_part, Messages, given, nothing, body_of, Standing, HasLooked, Looked}
+use Rattle.h1_codec.specs.Steps.{message_of, open_after, IsOpenStep, IsIdleStep, IsStepFrom, IsStep}
+use Rattle.h1_codec.specs.declared.framed_message.Message.{Message}
+use Rattle.h1_codec.specs.declared.framed_message.Message.TheVariants.{Item, Chunk}
 use Rattle.model_ends.proofs.Rests.{RestSays, body_says}
 use Rattle.model_codecs.specs.Acts.{Act, comes, asked, bytes_came, told, HaveNoFault, EndsWaiting, HasAnswered, IsRun}
 use Rattle.model_codecs.specs.Given.{kind_to, Sent, texts, whole_part, has_part, IsPartGiven, IsBodyGiven, AreBegun, part_if, part_of, AreWhole}

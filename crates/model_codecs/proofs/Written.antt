@@ -10,11 +10,11 @@ use Rattle.model_ends.proofs.GivenRequests.{each_asked}
 use Rattle.h1_encoder.specs.Encoding.{Encoding, first_encoding, behind, encoded_all}
 use Rattle.h1_encoder.specs.Pieces.{joined}
 use Rattle.h1_encoder.proofs.BodyText.{chunks_all, length_all}
-use Rattle.h1_encoder.specs.Kinds.{requests}
-use Rattle.h1_encoder.specs.FramedMessages.{Standing}
-use Rattle.h1_encoder.specs.ClientState.{of_codec, client_encoding}
-use Rattle.h1_encoder.specs.declared.client.Client.{Client}
-use Rattle.h1_encoder.specs.declared.client_codec.ClientCodec.{ClientCodec}
+use Rattle.h1_codec.specs.Kinds.{requests}
+use Rattle.h1_codec.specs.FramedMessages.{Standing}
+use Rattle.h1_codec.specs.ClientState.{of_codec, client_encoding}
+use Rattle.h1_codec.specs.declared.client.Client.{Client}
+use Rattle.h1_codec.specs.declared.client_codec.ClientCodec.{ClientCodec}
 use Rattle.model_codecs.specs.Acts.{Act, bytes_came, IsRun}
 use Rattle.model_codecs.specs.Given.{AreGiven}
 use Rattle.model_codecs.specs.Requests.{IsFresh, sent_of, ArePiecesWritten, AreFilled, WrittenRequest, IsWritten, given_of, text_of}

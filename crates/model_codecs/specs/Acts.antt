@@ -2,11 +2,11 @@
 use Rattle.std.specs.Prelude.{◌≡◌, ⊤, ℕ, Bool, List, [], ◌∷◌, ◌++◌, Option, Some, None, Result, Ok, IfOk, IfErr, OnOk}
 use Rattle.http_types.specs.declared.error.ParseError.{ParseError}
 use Rattle.http_types.specs.declared.error.ParseError.TheVariants.{NoMemory}
-use Rattle.h1_encoder.specs.Kind.{Kind}
-use Rattle.h1_encoder.specs.ServerAnswers.{IsHead, LeftAfter}
-use Rattle.h1_encoder.specs.FramedMessages.{Messages, given, nothing, Standing, Looked}
-use Rattle.h1_encoder.specs.Steps.{IsStep}
-use Rattle.h1_encoder.specs.declared.framed_message.Message.{Message}
+use Rattle.h1_codec.specs.Kind.{Kind}
+use Rattle.h1_codec.specs.ServerAnswers.{IsHead, LeftAfter}
+use Rattle.h1_codec.specs.FramedMessages.{Messages, given, nothing, Standing, Looked}
+use Rattle.h1_codec.specs.Steps.{IsStep}
+use Rattle.h1_codec.specs.declared.framed_message.Message.{Message}
 
 -- Bytes come, as many as there are; or the next item is asked for, and this is answered.
 pub data Act (I : Type 0) : Type 0 where

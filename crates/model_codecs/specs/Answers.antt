@@ -5,14 +5,14 @@ use Rattle.http_types.specs.declared.error.ParseError.{ParseError}
 use Rattle.model_ends.specs.SentAnswer.{SentAnswer}
 use Rattle.h1_decoder.specs.ResponseItem.{SaysAnswer}
 use Rattle.h1_decoder.specs.declared.response.ResponseItem.{ResponseItem}
-use Rattle.h1_encoder.specs.Heads.{waits}
-use Rattle.h1_encoder.specs.Kinds.{answers}
-use Rattle.h1_encoder.specs.FramedMessages.{no_part, Standing}
-use Rattle.h1_encoder.specs.declared.framed_message.Message.{Message}
-use Rattle.h1_encoder.specs.declared.framed_message.Message.TheVariants.{Item}
-use Rattle.h1_encoder.specs.ClientPieces.{as_head, as_chunk}
-use Rattle.h1_encoder.specs.declared.client_error.ClientError.{ClientError}
-use Rattle.h1_encoder.specs.declared.client_error.ClientError.TheVariants.{Parse, Misplaced}
+use Rattle.h1_codec.specs.Heads.{waits}
+use Rattle.h1_codec.specs.Kinds.{answers}
+use Rattle.h1_codec.specs.FramedMessages.{no_part, Standing}
+use Rattle.h1_codec.specs.declared.framed_message.Message.{Message}
+use Rattle.h1_codec.specs.declared.framed_message.Message.TheVariants.{Item}
+use Rattle.h1_codec.specs.ClientPieces.{as_head, as_chunk}
+use Rattle.h1_codec.specs.declared.client_error.ClientError.{ClientError}
+use Rattle.h1_codec.specs.declared.client_error.ClientError.TheVariants.{Parse, Misplaced}
 use Rattle.model_codecs.specs.Acts.{Act, asked, bytes_came, all_told, HaveNoFault, IsRun}
 use Rattle.model_codecs.specs.Given.{Sent, part_of, AreGiven}
 

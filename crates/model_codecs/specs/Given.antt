@@ -2,9 +2,9 @@
 use Rattle.std.specs.Prelude.{◌≡◌, ◌⊎◌, ⊤, ℕ, Bool, true, false, List, [], ◌∷◌, ◌++◌}
 use Rattle.model_h1.specs.Request.{BodyKind, no_body, has_body}
 use Rattle.model_h1.specs.Handed.{Begins}
-use Rattle.h1_encoder.specs.Kind.{Kind}
-use Rattle.h1_encoder.specs.Heads.{waits}
-use Rattle.h1_encoder.specs.FramedMessages.{no_end, an_end, Part, no_part}
+use Rattle.h1_codec.specs.Kind.{Kind}
+use Rattle.h1_codec.specs.Heads.{waits}
+use Rattle.h1_codec.specs.FramedMessages.{no_end, an_end, Part, no_part}
 use Rattle.model_codecs.specs.Acts.{Act, all_told, HaveNoFault, EndsWaiting}
 
 -- the body that follows a head of this kind: none, where none follows whatever the head says

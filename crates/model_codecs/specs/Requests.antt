@@ -7,13 +7,13 @@ use Rattle.http_types.specs.declared.requests.head_type.RequestHeadType.{Request
 use Rattle.model_client.specs.RequestText.{RequestGiven}
 use Rattle.model_ends.specs.SentRequest.{SentRequest}
 use Rattle.h1_encoder.specs.Meaning.{size_of, model_type}
-use Rattle.h1_encoder.specs.Heads.{HasSeen}
-use Rattle.h1_encoder.specs.Kinds.{requests}
-use Rattle.h1_encoder.specs.FramedMessages.{Standing}
-use Rattle.h1_encoder.specs.declared.framed_message.Message.TheVariants.{Item, Chunk}
-use Rattle.h1_encoder.specs.ClientState.{of_codec, client_moment}
-use Rattle.h1_encoder.specs.Writing.{kind_asked, sent_head, Writes}
-use Rattle.h1_encoder.specs.declared.client_codec.ClientCodec.{ClientCodec}
+use Rattle.h1_codec.specs.Heads.{HasSeen}
+use Rattle.h1_codec.specs.Kinds.{requests}
+use Rattle.h1_codec.specs.FramedMessages.{Standing}
+use Rattle.h1_codec.specs.declared.framed_message.Message.TheVariants.{Item, Chunk}
+use Rattle.h1_codec.specs.ClientState.{of_codec, client_moment}
+use Rattle.h1_codec.specs.Writing.{kind_asked, sent_head, Writes}
+use Rattle.h1_codec.specs.declared.client_codec.ClientCodec.{ClientCodec}
 use Rattle.model_codecs.specs.Given.{Sent}
 
 -- a codec that has read nothing, as a new one, whose heads end within so many bytes

@@ -5,7 +5,7 @@ mod server;
 mod transport;
 
 use bytes::Bytes;
-use h1_encoder::Codec;
+use h1_codec::Codec;
 use http_transport::{Framed, MemTransport};
 use http_types::ServiceConfig;
 use std::alloc::{AllocError, Global};

@@ -1,6 +1,6 @@
 //! The codecs of a client: answers that come byte by byte, and codecs that change into each other.
 use bytes::BytesMut;
-use h1_encoder::{ClientCodec, ClientPayloadCodec, MessageType};
+use h1_codec::{ClientCodec, ClientPayloadCodec, MessageType};
 use http_types::ServiceConfig;
 use std::alloc::Global;
 use std::test::Fail;

@@ -2,7 +2,7 @@
 use crate::framed::{has_sent, over_transport};
 use futures::task::Poll;
 use futures::test::MockTask;
-use h1_encoder::send_response;
+use h1_codec::send_response;
 use http_types::Response;
 use std::test::Fail;
 

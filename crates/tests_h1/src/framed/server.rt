@@ -1,6 +1,6 @@
 //! The codec of a server, by itself.
 use bytes::{Bytes, BytesMut};
-use h1_encoder::{Codec, Message};
+use h1_codec::{Codec, Message};
 use http_framing::BodySize;
 use http_types::{Response, ServiceConfig};
 use std::alloc::Global;

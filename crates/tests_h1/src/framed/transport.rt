@@ -3,7 +3,7 @@ use crate::framed::{Server, has_sent, over_transport};
 use bytes::Bytes;
 use futures::task::Poll;
 use futures::test::MockTask;
-use h1_encoder::Message;
+use h1_codec::Message;
 use http_framing::BodySize;
 use http_types::Response;
 use std::alloc::Global;

@@ -1,7 +1,7 @@
 //! Messages in pieces, within a limit.
 use crate::messages::heads::put_error;
 use bytes::BytesMut;
-use h1_encoder::{HeadItem, MessageDecoder, PayloadDecoder, PayloadItem, PayloadType};
+use h1_codec::{HeadItem, MessageDecoder, PayloadDecoder, PayloadItem, PayloadType};
 use http_types::{NoMemory, ParseError};
 use std::alloc::Global;
 use vectors::{Case, Report};

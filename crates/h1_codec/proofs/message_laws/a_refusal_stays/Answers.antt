@@ -1,6 +1,6 @@
 use Rattle.std.proofs.Common.{◌++◌}
-use Rattle.h1_encoder.proofs.Refusals.{stops_append, one_stop}
-use Rattle.h1_encoder.proofs.message_laws.a_refusal_stays.Goals as goal
+use Rattle.h1_codec.proofs.Refusals.{stops_append, one_stop}
+use Rattle.h1_codec.proofs.message_laws.a_refusal_stays.Goals as goal
 
 pub returns : goal.returns
 returns g c = λ limit bytes more fault items stop stops heads.

@@ -1,8 +1,8 @@
 use Rattle.std.proofs.Common.{[], ◌++◌}
 use Rattle.http_framing.specs.AnyPieces.{all_came}
 use Rattle.http_framing.proofs.AnyPieces.{pieces_are_whole}
-use Rattle.h1_encoder.specs.Heads.{Reads, given}
-use Rattle.h1_encoder.proofs.message_laws.heads_are_given.Goals as goal
+use Rattle.h1_codec.specs.Heads.{Reads, given}
+use Rattle.h1_codec.proofs.message_laws.heads_are_given.Goals as goal
 
 pub returns : goal.returns
 returns g c = λ search calls z r anew fed last.

@@ -1,9 +1,9 @@
 use Rattle.std.proofs.Common.{◌≡◌, ap}
 use Rattle.std.specs.Prelude.{None, Ok, Err}
-use Rattle.h1_encoder.proofs.NextHeads.{waits_given}
-use Rattle.h1_encoder.proofs.Memory.{error_on, head_memory}
+use Rattle.h1_codec.proofs.NextHeads.{waits_given}
+use Rattle.h1_codec.proofs.Memory.{error_on, head_memory}
 use Rattle.http_types.specs.declared.error.ParseError.TheVariants.{NoMemory}
-use Rattle.h1_encoder.proofs.next_item.next_head.Goals as goal
+use Rattle.h1_codec.proofs.next_item.next_head.Goals as goal
 
 pub returns-in-Ok-None-clause-given : goal.returns-in-Ok-None-clause-given
 returns-in-Ok-None-clause-given g c =

@@ -4,17 +4,17 @@ use Rattle.std.specs.Prelude.{Option, Some, None, Result}
 use Rattle.http_types.specs.declared.error.ParseError.{ParseError}
 use Rattle.h1_decoder.specs.declared.decoder.HeadItem.{HeadItem}
 use Rattle.h1_payload.specs.Decoding.{Decoding}
-use Rattle.h1_encoder.specs.Kinds.{requests}
-use Rattle.h1_encoder.specs.OneReading.{one_request}
-use Rattle.h1_encoder.specs.declared.framed_message.Message.{Message}
-use Rattle.h1_encoder.specs.ServerAnswers.{IsNexted, IsHeadBeside}
-use Rattle.h1_encoder.proofs.NextHeads.{head_given}
-use Rattle.h1_encoder.proofs.OpenBodies.{piece_came}
-use Rattle.h1_encoder.proofs.Stepping.{open_step, idle_step}
-use Rattle.h1_encoder.proofs.Memory.{message_memory, noted_memory}
-use Rattle.h1_encoder.specs.Light.{NeedsNoMemoryFrom}
-use Rattle.h1_encoder.specs.Steps.{IsStepFrom, IsIdleStep}
-use Rattle.h1_encoder.proofs.next_item.next_message.Goals as goal
+use Rattle.h1_codec.specs.Kinds.{requests}
+use Rattle.h1_codec.specs.OneReading.{one_request}
+use Rattle.h1_codec.specs.declared.framed_message.Message.{Message}
+use Rattle.h1_codec.specs.ServerAnswers.{IsNexted, IsHeadBeside}
+use Rattle.h1_codec.proofs.NextHeads.{head_given}
+use Rattle.h1_codec.proofs.OpenBodies.{piece_came}
+use Rattle.h1_codec.proofs.Stepping.{open_step, idle_step}
+use Rattle.h1_codec.proofs.Memory.{message_memory, noted_memory}
+use Rattle.h1_codec.specs.Light.{NeedsNoMemoryFrom}
+use Rattle.h1_codec.specs.Steps.{IsStepFrom, IsIdleStep}
+use Rattle.h1_codec.proofs.next_item.next_message.Goals as goal
 
 pub returns-in-Some-clause-next : goal.returns-in-Some-clause-next
 returns-in-Some-clause-next c =

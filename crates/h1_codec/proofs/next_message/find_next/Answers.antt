@@ -1,7 +1,7 @@
 use Rattle.std.proofs.Common.{ℕ, List, subst, arith}
 use Rattle.h1_decoder.specs.HeadPosition.{HasScanned}
-use Rattle.h1_encoder.proofs.FirstBytes.{seen_first, is_next, all_bytes, is_waiting, is_too_long}
-use Rattle.h1_encoder.proofs.next_message.find_next.Goals as goal
+use Rattle.h1_codec.proofs.FirstBytes.{seen_first, is_next, all_bytes, is_waiting, is_too_long}
+use Rattle.h1_codec.proofs.next_message.find_next.Goals as goal
 
 pub returns-in-Piece-clause-found : goal.returns-in-Piece-clause-found
 returns-in-Piece-clause-found c seen =

@@ -3,9 +3,9 @@ use Rattle.std.proofs.Common.{◌≡◌}
 use Rattle.std.specs.Prelude.{Some, Ok, Err}
 use Rattle.h1_payload.specs.declared.item.PayloadItem.TheVariants as items
 use Rattle.h1_payload.specs.declared.item.DecodeError.TheVariants.{NoMemory}
-use Rattle.h1_encoder.proofs.Memory.{error_on}
-use Rattle.h1_encoder.proofs.PieceLemmas.{end_answered, trailers_answered}
-use Rattle.h1_encoder.proofs.server_piece.next_piece.Goals as goal
+use Rattle.h1_codec.proofs.Memory.{error_on}
+use Rattle.h1_codec.proofs.PieceLemmas.{end_answered, trailers_answered}
+use Rattle.h1_codec.proofs.server_piece.next_piece.Goals as goal
 
 pub returns-in-Ok-Some-Trailers-clause-piece : goal.returns-in-Ok-Some-Trailers-clause-piece
 returns-in-Ok-Some-Trailers-clause-piece c =

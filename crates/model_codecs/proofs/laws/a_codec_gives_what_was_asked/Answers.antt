@@ -1,4 +1,4 @@
-use Rattle.h1_encoder.specs.ServerState.{codec_standing}
+use Rattle.h1_codec.specs.ServerState.{codec_standing}
 use Rattle.model_codecs.proofs.Requests.{requests_given}
 use Rattle.model_codecs.proofs.laws.a_codec_gives_what_was_asked.Goals as goal
 

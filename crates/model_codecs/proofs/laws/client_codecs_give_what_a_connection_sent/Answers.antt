@@ -1,4 +1,4 @@
-use Rattle.h1_encoder.specs.ClientState.{of_codec, client_standing}
+use Rattle.h1_codec.specs.ClientState.{of_codec, client_standing}
 use Rattle.model_codecs.proofs.Answers.{connection_given}
 use Rattle.model_codecs.proofs.laws.client_codecs_give_what_a_connection_sent.Goals as goal
 

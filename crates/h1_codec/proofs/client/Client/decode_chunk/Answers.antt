@@ -1,16 +1,16 @@
 -- The next piece of the open body.
 use Rattle.std.proofs.Common.{◌≡◌, sym, ◌∙◌, subst}
 use Rattle.std.specs.Prelude.{List, ℕ, Option, Some, Result}
-use Rattle.h1_encoder.specs.ClientAnswers.{IsChunked, IsChunkStep}
-use Rattle.h1_encoder.specs.declared.client_error.ClientError.{ClientError}
+use Rattle.h1_codec.specs.ClientAnswers.{IsChunked, IsChunkStep}
+use Rattle.h1_codec.specs.declared.client_error.ClientError.{ClientError}
 use Rattle.h1_payload.specs.Decoding.{Decoding}
-use Rattle.h1_encoder.specs.Light.{NeedsNoMemoryFrom}
-use Rattle.h1_encoder.proofs.Memory.{noted_memory}
-use Rattle.h1_encoder.specs.ClientPieces.{as_message}
-use Rattle.h1_encoder.proofs.Lacking.{lacks_piece}
-use Rattle.h1_encoder.proofs.Chunked.{piece_chunked}
-use Rattle.h1_encoder.proofs.Stepped.{chunk_step}
-use Rattle.h1_encoder.proofs.client.Client.decode_chunk.Goals as goal
+use Rattle.h1_codec.specs.Light.{NeedsNoMemoryFrom}
+use Rattle.h1_codec.proofs.Memory.{noted_memory}
+use Rattle.h1_codec.specs.ClientPieces.{as_message}
+use Rattle.h1_codec.proofs.Lacking.{lacks_piece}
+use Rattle.h1_codec.proofs.Chunked.{piece_chunked}
+use Rattle.h1_codec.proofs.Stepped.{chunk_step}
+use Rattle.h1_codec.proofs.client.Client.decode_chunk.Goals as goal
 
 pub returns-in-Some-clause-chunked : goal.returns-in-Some-clause-chunked
 returns-in-Some-clause-chunked c =

@@ -3,12 +3,12 @@ use Rattle.std.proofs.Common.{◌≡◌, sym, ap, ◌∙◌, subst}
 use Rattle.std.specs.Prelude.{Option, Some, None, Ok, Err}
 use Rattle.http_types.specs.declared.error.ParseError.TheVariants.{NoMemory}
 use Rattle.h1_payload.specs.Decoding.{Decoding}
-use Rattle.h1_encoder.specs.Light.{NeedsNoMemoryFrom}
-use Rattle.h1_encoder.proofs.Lacking.{parse_error}
-use Rattle.h1_encoder.specs.ClientState.{answered}
-use Rattle.h1_encoder.proofs.Headed.{is_none, item_answered, none_answered, error_answered}
-use Rattle.h1_encoder.proofs.Stepped.{item_step, none_step, error_step}
-use Rattle.h1_encoder.proofs.client.Client.decode_head.Goals as goal
+use Rattle.h1_codec.specs.Light.{NeedsNoMemoryFrom}
+use Rattle.h1_codec.proofs.Lacking.{parse_error}
+use Rattle.h1_codec.specs.ClientState.{answered}
+use Rattle.h1_codec.proofs.Headed.{is_none, item_answered, none_answered, error_answered}
+use Rattle.h1_codec.proofs.Stepped.{item_step, none_step, error_step}
+use Rattle.h1_codec.proofs.client.Client.decode_head.Goals as goal
 
 pub returns-in-Ok-Some-clause-headed : goal.returns-in-Ok-Some-clause-headed
 returns-in-Ok-Some-clause-headed c =

@@ -1,7 +1,7 @@
 -- What both codecs keep is the codec.
-use Rattle.h1_encoder.specs.declared.client_codec.ClientCodec.{ClientCodec}
-use Rattle.h1_encoder.proofs.Views.{head_goes_on, head_left}
-use Rattle.h1_encoder.proofs.client_codec.ClientCodec.decode.Goals as goal
+use Rattle.h1_codec.specs.declared.client_codec.ClientCodec.{ClientCodec}
+use Rattle.h1_codec.proofs.Views.{head_goes_on, head_left}
+use Rattle.h1_codec.proofs.client_codec.ClientCodec.decode.Goals as goal
 
 pub returns-clause-goes_on : goal.returns-clause-goes_on
 returns-clause-goes_on c =

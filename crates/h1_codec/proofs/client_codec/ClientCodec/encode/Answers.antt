@@ -1,9 +1,9 @@
 use Rattle.std.proofs.Common.{◌≡◌}
 use Rattle.std.specs.Prelude.{None}
-use Rattle.h1_encoder.specs.declared.framed_message.Message.TheVariants.{Chunk}
-use Rattle.h1_encoder.specs.ClientState.{of_codec}
-use Rattle.h1_encoder.proofs.Written.{end_written, end_refused}
-use Rattle.h1_encoder.proofs.client_codec.ClientCodec.encode.Goals as goal
+use Rattle.h1_codec.specs.declared.framed_message.Message.TheVariants.{Chunk}
+use Rattle.h1_codec.specs.ClientState.{of_codec}
+use Rattle.h1_codec.proofs.Written.{end_written, end_refused}
+use Rattle.h1_codec.proofs.client_codec.ClientCodec.encode.Goals as goal
 
 pub returns-clause-ok : goal.returns-clause-ok
 returns-clause-ok c =

@@ -1,9 +1,9 @@
 -- What goes out is the head's own where nothing is beside it, and else both.
 use Rattle.std.proofs.Common.{◌≡◌, ap, sym, ◌∙◌}
 use Rattle.std.specs.Prelude.{Some, None, option_copied}
-use Rattle.h1_encoder.specs.ClientState.{of_codec}
-use Rattle.h1_encoder.proofs.Extra.{put_by}
-use Rattle.h1_encoder.proofs.client_codec.ClientCodec.encode_head.Goals as goal
+use Rattle.h1_codec.specs.ClientState.{of_codec}
+use Rattle.h1_codec.proofs.Extra.{put_by}
+use Rattle.h1_codec.proofs.client_codec.ClientCodec.encode_head.Goals as goal
 
 pub returns-in-None-clause-ok : goal.returns-in-None-clause-ok
 returns-in-None-clause-ok c =

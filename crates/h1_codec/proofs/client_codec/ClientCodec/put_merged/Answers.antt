@@ -1,9 +1,9 @@
 -- What goes out has the text of both.
 use Rattle.h1_encoder.specs.RequestMeaning.{asked_head}
-use Rattle.h1_encoder.specs.ClientState.{of_codec}
-use Rattle.h1_encoder.specs.Writing.{merged, with_headers}
-use Rattle.h1_encoder.proofs.Extra.{goes_out_by}
-use Rattle.h1_encoder.proofs.client_codec.ClientCodec.put_merged.Goals as goal
+use Rattle.h1_codec.specs.ClientState.{of_codec}
+use Rattle.h1_codec.specs.Writing.{merged, with_headers}
+use Rattle.h1_codec.proofs.Extra.{goes_out_by}
+use Rattle.h1_codec.proofs.client_codec.ClientCodec.put_merged.Goals as goal
 
 pub returns-in-Ok-clause-ok : goal.returns-in-Ok-clause-ok
 returns-in-Ok-clause-ok c =

@@ -1,8 +1,8 @@
 use Rattle.std.proofs.Common.{refl}
 use Rattle.std.proofs.lemmas.Result.{err_from_is_err_and}
-use Rattle.h1_encoder.specs.Heads.{Search}
-use Rattle.h1_encoder.proofs.ByNext.{by_head, by_none, by_length, by_refusal}
-use Rattle.h1_encoder.proofs.decoder.MessageDecoder.decode.Goals as goal
+use Rattle.h1_codec.specs.Heads.{Search}
+use Rattle.h1_codec.proofs.ByNext.{by_head, by_none, by_length, by_refusal}
+use Rattle.h1_codec.proofs.decoder.MessageDecoder.decode.Goals as goal
 
 pub returns-in_err-item-in-Head-clause-none : goal.returns-in_err-item-in-Head-clause-none
 returns-in_err-item-in-Head-clause-none g c =

@@ -1,6 +1,6 @@
 -- What is answered is the next head, none yet, or why it is refused.
-use Rattle.h1_encoder.proofs.DecoderAnswers.{waits_says, refusal_says}
-use Rattle.h1_encoder.proofs.decoder.MessageDecoderDecoder.decode.Goals as goal
+use Rattle.h1_codec.proofs.DecoderAnswers.{waits_says, refusal_says}
+use Rattle.h1_codec.proofs.decoder.MessageDecoderDecoder.decode.Goals as goal
 
 pub returns-clause-waiting : goal.returns-clause-waiting
 returns-clause-waiting g c =

@@ -1,7 +1,7 @@
 -- What both codecs keep is the codec.
-use Rattle.h1_encoder.specs.declared.payload.ClientPayloadCodec.{ClientPayloadCodec}
-use Rattle.h1_encoder.proofs.Views.{chunk_goes_on, chunk_lacking}
-use Rattle.h1_encoder.proofs.payload.ClientPayloadCodec.decode.Goals as goal
+use Rattle.h1_codec.specs.declared.payload.ClientPayloadCodec.{ClientPayloadCodec}
+use Rattle.h1_codec.proofs.Views.{chunk_goes_on, chunk_lacking}
+use Rattle.h1_codec.proofs.payload.ClientPayloadCodec.decode.Goals as goal
 
 pub returns-clause-goes_on : goal.returns-clause-goes_on
 returns-clause-goes_on c =

@@ -1,6 +1,6 @@
 use Rattle.std.proofs.Common.{◌≡◌}
-use Rattle.h1_encoder.proofs.GivenBack.{given_back}
-use Rattle.h1_encoder.proofs.send_message.SendMessage.poll.Goals as goal
+use Rattle.h1_codec.proofs.GivenBack.{given_back}
+use Rattle.h1_codec.proofs.send_message.SendMessage.poll.Goals as goal
 
 pub returns-in-Some-take-clause-says : goal.returns-in-Some-take-clause-says
 returns-in-Some-take-clause-says g c =

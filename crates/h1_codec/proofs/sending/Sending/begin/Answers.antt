@@ -1,11 +1,11 @@
 use Rattle.std.proofs.Common.{◌≡◌, refl, ap, subst}
 use Rattle.std.specs.Prelude.{Some, None}
-use Rattle.h1_encoder.specs.View.{view_of}
-use Rattle.h1_encoder.specs.Turns.{SendsFew}
-use Rattle.h1_encoder.proofs.Behind.{on_ok}
-use Rattle.h1_encoder.proofs.Steps.{head_few}
-use Rattle.h1_encoder.proofs.Whole.{none_few}
-use Rattle.h1_encoder.proofs.sending.Sending.begin.Goals as goal
+use Rattle.h1_codec.specs.View.{view_of}
+use Rattle.h1_codec.specs.Turns.{SendsFew}
+use Rattle.h1_codec.proofs.Behind.{on_ok}
+use Rattle.h1_codec.proofs.Steps.{head_few}
+use Rattle.h1_codec.proofs.Whole.{none_few}
+use Rattle.h1_codec.proofs.sending.Sending.begin.Goals as goal
 
 pub returns-in-None-clause-ok : goal.returns-in-None-clause-ok
 returns-in-None-clause-ok g c =

@@ -1,10 +1,10 @@
 use Rattle.std.proofs.Common.{refl, ap, true, Some, Err, arith}
 use Rattle.futures.specs.declared.task.Poll.TheVariants.{Ready, Pending}
 use Rattle.http_bodies.specs.declared.body.fault.BodyFault.TheVariants as faults
-use Rattle.h1_encoder.specs.View.{view_of}
-use Rattle.h1_encoder.proofs.Steps.{nothing_few, fault_sent, empty_moves, chunk_moves, end_moves}
-use Rattle.h1_encoder.proofs.Whole.{no_bytes, some_bytes}
-use Rattle.h1_encoder.proofs.sending.Sending.feed.Goals as goal
+use Rattle.h1_codec.specs.View.{view_of}
+use Rattle.h1_codec.proofs.Steps.{nothing_few, fault_sent, empty_moves, chunk_moves, end_moves}
+use Rattle.h1_codec.proofs.Whole.{no_bytes, some_bytes}
+use Rattle.h1_codec.proofs.sending.Sending.feed.Goals as goal
 
 pub returns-in-Pending-clause-says : goal.returns-in-Pending-clause-says
 returns-in-Pending-clause-says g c =

@@ -1,7 +1,7 @@
 use Rattle.std.proofs.Common.{refl, inl, arith}
-use Rattle.h1_encoder.specs.View.{view_of}
-use Rattle.h1_encoder.proofs.Steps.{flush_waits, flush_done, flush_failed}
-use Rattle.h1_encoder.proofs.sending.Sending.finish.Goals as goal
+use Rattle.h1_codec.specs.View.{view_of}
+use Rattle.h1_codec.proofs.Steps.{flush_waits, flush_done, flush_failed}
+use Rattle.h1_codec.proofs.sending.Sending.finish.Goals as goal
 
 pub returns-in-Pending-clause-says : goal.returns-in-Pending-clause-says
 returns-in-Pending-clause-says g c =

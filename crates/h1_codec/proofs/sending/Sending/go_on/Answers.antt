@@ -1,9 +1,9 @@
 use Rattle.std.proofs.Common.{rules, arith}
-use Rattle.h1_encoder.specs.View.{view_of}
-use Rattle.h1_encoder.proofs.Behind.{rests_behind, over_behind, over_says, spent_behind}
-use Rattle.h1_encoder.proofs.Whole.{none_few, sends_on}
-use Rattle.h1_encoder.specs.Turns.{MAX_TURNS}
-use Rattle.h1_encoder.proofs.sending.Sending.go_on.Goals as goal
+use Rattle.h1_codec.specs.View.{view_of}
+use Rattle.h1_codec.proofs.Behind.{rests_behind, over_behind, over_says, spent_behind}
+use Rattle.h1_codec.proofs.Whole.{none_few, sends_on}
+use Rattle.h1_codec.specs.Turns.{MAX_TURNS}
+use Rattle.h1_codec.proofs.sending.Sending.go_on.Goals as goal
 
 pub loop-turn-init : goal.loop-turn-init
 loop-turn-init g c =

@@ -1,9 +1,9 @@
 use Rattle.std.proofs.Common.{◌≤◌}
 use Rattle.futures.specs.Task.{Keeps}
-use Rattle.h1_encoder.specs.View.{view_of}
-use Rattle.h1_encoder.specs.Sends.{given_count, Sends}
-use Rattle.h1_encoder.specs.Turns.{moved}
-use Rattle.h1_encoder.proofs.sending.Sending.go_on.Given as goal
+use Rattle.h1_codec.specs.View.{view_of}
+use Rattle.h1_codec.specs.Sends.{given_count, Sends}
+use Rattle.h1_codec.specs.Turns.{moved}
+use Rattle.h1_codec.proofs.sending.Sending.go_on.Given as goal
 
 abbrev pub invariant-loop-turn : goal.invariant-loop-turn
 invariant-loop-turn g l = record {

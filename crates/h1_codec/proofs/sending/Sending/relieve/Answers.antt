@@ -1,9 +1,9 @@
 use Rattle.std.proofs.Common.{refl, inl, inr, arith}
 use Rattle.futures.specs.declared.task.Poll.TheVariants.{Pending}
-use Rattle.h1_encoder.specs.View.{view_of}
-use Rattle.h1_encoder.proofs.Steps.{fewer, flush_waits, flush_moves, flush_relieves, flush_failed}
-use Rattle.h1_encoder.proofs.Behind.{it_is, it_is_not}
-use Rattle.h1_encoder.proofs.sending.Sending.relieve.Goals as goal
+use Rattle.h1_codec.specs.View.{view_of}
+use Rattle.h1_codec.proofs.Steps.{fewer, flush_waits, flush_moves, flush_relieves, flush_failed}
+use Rattle.h1_codec.proofs.Behind.{it_is, it_is_not}
+use Rattle.h1_codec.proofs.sending.Sending.relieve.Goals as goal
 
 pub returns-then-is_write_buf_full-clause-says : goal.returns-then-is_write_buf_full-clause-says
 returns-then-is_write_buf_full-clause-says g c =

@@ -1,6 +1,6 @@
-use Rattle.h1_encoder.specs.View.{view_of}
-use Rattle.h1_encoder.proofs.Behind.{send_behind}
-use Rattle.h1_encoder.proofs.sending.Sending.send.Goals as goal
+use Rattle.h1_codec.specs.View.{view_of}
+use Rattle.h1_codec.proofs.Behind.{send_behind}
+use Rattle.h1_codec.proofs.sending.Sending.send.Goals as goal
 
 pub returns-in-Ok-clause-says : goal.returns-in-Ok-clause-says
 returns-in-Ok-clause-says g c =

@@ -1,6 +1,6 @@
-use Rattle.h1_encoder.specs.View.{view_of}
-use Rattle.h1_encoder.proofs.Behind.{wait_behind}
-use Rattle.h1_encoder.proofs.sending.Sending.turn.Goals as goal
+use Rattle.h1_codec.specs.View.{view_of}
+use Rattle.h1_codec.proofs.Behind.{wait_behind}
+use Rattle.h1_codec.proofs.sending.Sending.turn.Goals as goal
 
 pub returns-in-Waits-clause-says : goal.returns-in-Waits-clause-says
 returns-in-Waits-clause-says g c =

@@ -4,12 +4,12 @@ use Rattle.std.specs.Prelude.{false, Option, Some, None, Result, Ok, IfOk}
 use Rattle.http_framing.specs.AnyPieces.{GoesOn, in_front}
 use Rattle.http_types.specs.declared.error.ParseError.{ParseError}
 use Rattle.h1_decoder.specs.declared.decoder.HeadItem.{HeadItem}
-use Rattle.h1_encoder.specs.Kinds.{requests}
-use Rattle.h1_encoder.specs.FramedMessages.{Standing, Reads, given}
-use Rattle.h1_encoder.specs.ServerState.{codec_standing}
-use Rattle.h1_encoder.specs.declared.framed_message.Message.{Message}
-use Rattle.h1_encoder.specs.declared.framed_message.Message.TheVariants.{Chunk}
-use Rattle.h1_encoder.proofs.server_codec.Codec.decode.Goals as goal
+use Rattle.h1_codec.specs.Kinds.{requests}
+use Rattle.h1_codec.specs.FramedMessages.{Standing, Reads, given}
+use Rattle.h1_codec.specs.ServerState.{codec_standing}
+use Rattle.h1_codec.specs.declared.framed_message.Message.{Message}
+use Rattle.h1_codec.specs.declared.framed_message.Message.TheVariants.{Chunk}
+use Rattle.h1_codec.proofs.server_codec.Codec.decode.Goals as goal
 
 goes_on_at : (old new : Standing) (bytes rest : List ℕ) (result : Result (Option (Message HeadItem)) ParseError) (answer : Option (Message HeadItem)) → result ≡ Ok answer
     → IfOk result (λ a. GoesOn (Reads requests false) given old bytes (in_front (Reads requests false) given a) new rest)

@@ -1,8 +1,8 @@
 use Rattle.std.proofs.Common.{◌≡◌}
 use Rattle.std.specs.Prelude.{None}
-use Rattle.h1_encoder.specs.declared.framed_message.Message.TheVariants.{Chunk}
-use Rattle.h1_encoder.proofs.Writing.{end_written, end_refused}
-use Rattle.h1_encoder.proofs.server_codec.Codec.encode.Goals as goal
+use Rattle.h1_codec.specs.declared.framed_message.Message.TheVariants.{Chunk}
+use Rattle.h1_codec.proofs.Writing.{end_written, end_refused}
+use Rattle.h1_codec.proofs.server_codec.Codec.encode.Goals as goal
 
 pub returns-clause-ok : goal.returns-clause-ok
 returns-clause-ok c =

@@ -1,8 +1,8 @@
 use Rattle.std.proofs.Common.{ap, ◌∙◌}
 use Rattle.h1_encoder.specs.Meaning.{minor_of}
-use Rattle.h1_encoder.specs.ServerState.{codec_asked, codec_settings, is_enabled, allowed}
-use Rattle.h1_encoder.proofs.Asking.{asked_by, type_asked}
-use Rattle.h1_encoder.proofs.server_codec.Codec.note.Goals as goal
+use Rattle.h1_codec.specs.ServerState.{codec_asked, codec_settings, is_enabled, allowed}
+use Rattle.h1_codec.proofs.Asking.{asked_by, type_asked}
+use Rattle.h1_codec.proofs.server_codec.Codec.note.Goals as goal
 
 pub returns-clause-asked : goal.returns-clause-asked
 returns-clause-asked c = (
