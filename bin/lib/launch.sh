@@ -1,7 +1,9 @@
-# What the launchers of bin/ share, and bin/prove with them. A launcher sets `name` to the crate of its program, reads its
-# words by `read_words`, so that wrong ones and --help are answered before anything is built, and then starts the program: by
-# `serve`, or by `answer` where it reads its input and ends.
+# What bin/raspcream and bin/prove share. The launcher sets `name` to the crate of its program and `takes` to how long a checked
+# build takes, reads its words, so that wrong ones and --help are answered before anything is built, and then starts the program:
+# by `serve`, or by `answer` where it reads its input and ends.
 root=$(dirname -- "$(dirname -- "$(dirname -- "$(readlink -f -- "${BASH_SOURCE[0]}")")")")
+
+. "$root/bin/lib/scratch.sh"
 
 # ---- Which program is proved
 
@@ -81,14 +83,38 @@ text_of() {
         is_in { is_last = sub(/";$/, ""); gsub(/\\"/, "\""); print; if (is_last) exit }' "$root/crates/$name/src/options.rt"
 }
 
+# The program's text that begins with its name, with the launcher's words in place of that.
+as_launched() { sed "1s/^$name /$launcher /"; }
+
+# Ends with this status and a line that says why.
+refuse() {
+    echo "$launcher: $2" >&2
+    exit "$1"
+}
+
+# The first line of help, by the table of words.
+usage() { echo "usage: $launcher $(field words "$chosen")"; }
+
+# Answers --help, with the text on the standard input behind the usage.
+answers_help() {
+    case ${1-} in
+        --help | -h) usage; echo; cat; exit 0 ;;
+    esac
+}
+
+# Ends for words that the program has no text for.
+refuse_usage() {
+    usage >&2
+    exit 64
+}
+
 # Ends as the program does for wrong words: with what its sources say of this mistake.
 wrong() {
     local said
     said=$(awk -v mistake="$1" '
         /#\[error\("/ { text = $0; sub(/^.*#\[error\("/, "", text); sub(/"\)\].*$/, "", text) }
         $1 == mistake "," { print text; exit }' "$root/crates/$name/src/options.rt")
-    echo "$name: $said; --help says more" >&2
-    exit 2
+    refuse 2 "$said; --help says more"
 }
 
 is_number() { [[ $1 =~ ^\+?[0-9]+$ ]] && [[ ${1#+} =~ ^0*([0-9]{1,20})$ ]] && fits "${BASH_REMATCH[1]}" "$2"; }
@@ -107,7 +133,7 @@ read_words() {
     while [ $# -gt 0 ]; do
         word=$1
         case $1 in
-            --help | -h) text_of HELP; exit 0 ;;
+            --help | -h) text_of HELP | as_launched; exit 0 ;;
             --version) text_of VERSION; exit 0 ;;
         esac
         if [[ " $flags " == *" $1 "* ]]; then
@@ -133,12 +159,11 @@ absolute() { case $1 in /*) printf '%s' "$1" ;; *) printf '%s' "$PWD/$1" ;; esac
 
 # ---- Starting
 
-need_rt() {
-    if ! command -v rt >/dev/null; then
-        echo "$launcher: there is no proved program here, and no command rt to build one" >&2
-        exit 70
-    fi
-    echo "$launcher: this build is checked, and isn't proved on this machine yet: bin/prove $name makes the proved program" >&2
+# Says that a checked build is made, and how long that takes.
+announce_build() {
+    command -v rt >/dev/null || refuse 70 "there is no proved program here, and no command rt to build one"
+    echo "$launcher: it isn't proved on this machine yet, so a build is made that is checked as it runs: that takes $takes" >&2
+    echo "$launcher: bin/prove $name makes the proved program" >&2
 }
 
 # The processes below one, and itself.
@@ -200,7 +225,7 @@ serve() {
     if is_proved "$name"; then
         exec "$root/crates/$name/out/$name" "$@"
     fi
-    need_rt
+    announce_build
     cd -- "$root/crates/$name" || exit 70
     exec rt try --seconds 86400 -- "${words[@]}" "${more[@]}"
 }
@@ -211,37 +236,32 @@ answer() {
     if is_proved "$name"; then
         exec "$root/crates/$name/out/$name" "$@"
     fi
-    need_rt
-    room=$(mktemp -d) || exit 70
-    trap 'rm -rf -- "$room"' EXIT
-    trap 'exit 129' HUP
-    trap 'exit 130' INT
-    trap 'exit 143' TERM
-    try_whole "${words[@]}"
+    announce_build
+    make_scratch
+    run_checked "${words[@]}"
 }
 
 # Runs the checked build. rt has the program's status in its last line; where it has none, the program gave no answer.
 try_program() {
-    (cd -- "$root/crates/$name" && exec rt try "${limits[@]}" -- "$@") 2>"$room/said"
-    status=$(sed -n '$s/^run=ended status=\([0-9]*\) .*/\1/p' "$room/said")
+    (cd -- "$root/crates/$name" && exec rt try "${limits[@]}" -- "$@") 2>"$scratch/said"
+    status=$(sed -n '$s/^run=ended status=\([0-9]*\) .*/\1/p' "$scratch/said")
 }
 
 end_without_answer() {
-    tail -n 3 "$room/said" >&2
+    tail -n 3 "$scratch/said" >&2
     echo "$launcher: the checked build gave no answer; bin/prove $name makes a program without its limits" >&2
     exit 70
 }
 
-# Runs the checked build over this input and output.
-try_whole() {
+# Runs the checked build over this input and output. A word may have another.
+run_checked() {
     try_program "$@"
-    sed -n "s/^\($name: .*\)\$/\1/p" "$room/said" >&2
+    sed -n "s/^\($name: .*\)\$/\1/p" "$scratch/said" >&2
     [ -n "$status" ] || end_without_answer
     exit "$status"
 }
 
 launcher=$(basename -- "$0")
-name=$launcher
 flags=
 valued=
 option_mark=-

@@ -8,14 +8,21 @@ ROOT = os.path.dirname(os.path.dirname(os.path.dirname(os.path.realpath(__file__
 PROVED_FROM = ("src", "specs", "proofs")
 
 
+def lines_of(file):
+    """The lines of a list of crates, by the crate of each, in its order."""
+    with open(file, encoding="utf-8") as text:
+        lines = [line.split("#")[0].strip() for line in text]
+    return {line.split(":")[0].split()[0]: line for line in lines if ":" in line}
+
+
+def libraries_of(line):
+    """The crates that such a line lists, those of the toolchain among them."""
+    return line.partition(":")[2].split()
+
+
 def crates(root=ROOT):
     """Each crate of crates.txt, lowest first, with the crates of this repository that it stands on."""
-    found = {}
-    with open(f"{root}/crates.txt", encoding="utf-8") as text:
-        for line in text:
-            names, colon, on = line.split("#")[0].partition(":")
-            if colon:
-                found[names.split()[0]] = on.split()
+    found = {name: libraries_of(line) for name, line in lines_of(f"{root}/crates.txt").items()}
     return lowest_first({name: [it for it in on if it in found] for name, on in found.items()})
 
 
@@ -70,6 +77,14 @@ def copy_to(place, root=ROOT):
     shutil.copytree(f"{root}/crates", f"{place}/crates", symlinks=True, ignore=built)
     for name in ("crates.txt", "HANDLES"):
         shutil.copyfile(f"{root}/{name}", f"{place}/{name}")
+
+
+def copy_unpacked(files, folder, to):
+    """Copies files below a folder whose sources end in .in, as they stand outside of crates/, without that ending."""
+    for file in files:
+        place = f"{to}/{os.path.relpath(file, folder).removesuffix('.in')}"
+        os.makedirs(os.path.dirname(place), exist_ok=True)
+        shutil.copyfile(file, place)
 
 
 def built(folder, names):

@@ -9,10 +9,10 @@ use Rattle.model_rooms.specs.Hub.{feeds, turns, core}
 use Rattle.model_rooms.specs.Seen.{row_of}
 use Rattle.model_rooms.specs.Trace.{core_trace, IsHubStep}
 use Rattle.rooms.specs.Hub.{HubState, HubStands, fresh_hub, HubGoesOn, HubOpens, HubFeeds, HubTurns}
-use Rattle.h1_connection.specs.Meaning.{setting_of, event_of, SaysOutcome}
+use Rattle.h1_connection.specs.EventMeaning.{setting_of, event_of, SaysOutcome}
 use Rattle.h1_connection.specs.declared.event.Outcome.{Outcome}
 use Rattle.h1_connection.specs.declared.event.Outcome.TheVariants as out
-use Rattle.rooms.specs.declared.seat.Turn.{Turn as SeatTurn}
+use Rattle.rooms.specs.declared.seat.HubTurn.{HubTurn as SeatTurn}
 use Rattle.app_chat.specs.House.{IsHouse}
 use Rattle.app_chat.specs.Moves.{Moves, Gives, carries}
 use Rattle.app_chat.proofs.MoveLemmas.{moves_one, moves_equal}

@@ -1,7 +1,7 @@
 //! A hub that always has a history.
 ghost use Rattle.std.specs.Prelude.{◌≡◌, ◌^◌, ◌-◌, [], min, IsTrue, IfOk, OnOk, OnErr, length, slice_get, option_map};
 ghost use Rattle.std.specs.Option.{option_copied};
-ghost use Rattle.h1_connection.specs.Meaning.{event_of};
+ghost use Rattle.h1_connection.specs.EventMeaning.{event_of};
 ghost use Rattle.model_h1.specs.Event as on;
 ghost use Rattle.rooms.specs.Hub.{fresh_hub, HubOpens, HubFeeds, HubTurns};
 ghost use Rattle.model_rooms.specs.Member.{member_at, byte_count};
@@ -10,7 +10,7 @@ ghost use Rattle.app_chat.specs.Moves.{Moves, Gives};
 
 use bytes::Bytes;
 use h1_connection::Connection;
-use rooms::{Event, Hub, NoMemory, Outcome, ServiceConfig, Turn};
+use rooms::{Event, Hub, HubTurn, NoMemory, Outcome, ServiceConfig};
 use std::alloc::Global;
 use std::marker::Model;
 
@@ -172,7 +172,7 @@ impl House {
 
     /// Gives the connection with this number a turn, unless it is over.
     #[tactic(auto, using(crate::proofs::HouseLemmas::house_turned, crate::proofs::HouseLemmas::turned_quietly))]
-    pub fn turn(&mut self, number: usize) -> Result<Option<Turn>, NoMemory>
+    pub fn turn(&mut self, number: usize) -> Result<Option<HubTurn>, NoMemory>
         ensures turned { IfOk result (λ turn. HubTurns self.old number turn self.new) }
         ensures moves { OnOk result (Moves number self.old [] [] self.new) }
         ensures err { OnErr result (self.new ≡ fresh_hub self.old.settings) }

@@ -12,7 +12,7 @@ use bytes::Bytes;
 use h1_connection::{Connection, Message};
 use http_types::{Sink, Source};
 use net_sockets::Polled;
-use rooms::{Event, NoMemory, Outcome, Turn};
+use rooms::{Event, HubTurn, NoMemory, Outcome};
 
 /// The most bytes that a connection is asked for at once.
 const PIECE: usize = 16_384;
@@ -152,7 +152,7 @@ fn turn(house: &mut House, number: usize) -> Result<Effect, NoMemory>
     Ok(effect_of(&turn))
 }
 
-fn effect_of(turn: &Option<Turn>) -> Effect {
+fn effect_of(turn: &Option<HubTurn>) -> Effect {
     let Some(turn) = turn else {
         return Effect::Ends;
     };

@@ -1,7 +1,7 @@
 -- What moves in an exchange: from the connection to the server and back, out of the file that is sent, and to the output.
 use Rattle.std.specs.Prelude.{◌≡◌, ℕ, Bool, true, false, List, [], ◌++◌, ◌∷◌, if◌then◌else◌, Option, Some, None, ⊤}
 use Rattle.std.specs.Io.KnownBytes.{Consumes, Appends}
-use Rattle.h1_client.specs.Meaning.{setting_of}
+use Rattle.h1_client.specs.ClientMeaning.{setting_of}
 use Rattle.h1_client.specs.State.{State, Stands}
 use Rattle.model_client.specs.ClientEvent as on
 use Rattle.model_client.specs.ClientEvent.{ClientEvent, ClientOutcome, ClientEnd}

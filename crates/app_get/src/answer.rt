@@ -1,7 +1,7 @@
 // What comes of the answer.
 ghost use Rattle.std.specs.Prelude.{◌≡◌, false, Some, OnOk, IfOk};
 ghost use Rattle.h1_client.specs.Answers.{SaysNext};
-ghost use Rattle.h1_client.specs.Meaning.{setting_of};
+ghost use Rattle.h1_client.specs.ClientMeaning.{setting_of};
 ghost use Rattle.h1_client.specs.State.{IsAllowed};
 ghost use Rattle.model_client.specs.ClientEvent as on;
 ghost use Rattle.model_client.specs.ClientKept.{client_allows};

@@ -3,7 +3,7 @@ use Rattle.std.specs.Prelude.{ℕ, List, ◌++◌, codes, decimal, Option, Some,
 use Rattle.std.specs.declared.net.socket_addr.SocketAddr.{SocketAddr}
 use Rattle.std.specs.Net.Text.{socket_text}
 use Rattle.http_uri.specs.Uri.{uri_text}
-use Rattle.http_files.specs.Lines.{line_text}
+use Rattle.http_files.specs.LogText.{line_text}
 use Rattle.http_types.specs.declared.requests.head.RequestHead.{RequestHead}
 
 -- the method and the target, each without a blank or a byte that ends the line

@@ -1,7 +1,7 @@
 //! A line for each reply.
 use crate::line::{asked, line};
 use httpdate::HttpDate;
-use proxy_loop::{NoMemory, Reply};
+use proxy_loop::{BegunReply, NoMemory};
 use std::alloc::Global;
 use std::net::SocketAddr;
 
@@ -47,7 +47,7 @@ impl AccessLog {
     }
 
     /// Adds a line for each of these replies to a client.
-    pub fn add(&mut self, peer: SocketAddr, replies: &[Reply]) -> Result<(), NoMemory> {
+    pub fn add(&mut self, peer: SocketAddr, replies: &[BegunReply]) -> Result<(), NoMemory> {
         for reply in replies {
             self.add_line(peer, reply)?;
         }
@@ -57,7 +57,7 @@ impl AccessLog {
         Ok(())
     }
 
-    fn add_line(&mut self, peer: SocketAddr, reply: &Reply) -> Result<(), NoMemory> {
+    fn add_line(&mut self, peer: SocketAddr, reply: &BegunReply) -> Result<(), NoMemory> {
         let asked = asked(self.alloc, reply.request.as_ref())?;
         let status = reply.status.as_u16();
         let line = line(self.alloc, peer, &self.date, &asked, status)?;

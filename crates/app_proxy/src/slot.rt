@@ -7,7 +7,7 @@ use http_types::Source;
 use mio::Poll;
 use mio::net::TcpStream;
 use net_sockets::{Incoming, Outgoing, Polled};
-use proxy_loop::{Expiry, Forwarder, NoMemory, Reply};
+use proxy_loop::{BegunReply, Expiry, Forwarder, NoMemory};
 use std::net::{Shutdown, SocketAddr};
 
 /// The most times that each direction is tried in a round, so that one who speaks a lot holds up nobody.
@@ -70,7 +70,7 @@ impl Slot {
     }
 
     /// The replies that were begun since they were last taken.
-    pub fn take_replies(&mut self) -> Vec<Reply> {
+    pub fn take_replies(&mut self) -> Vec<BegunReply> {
         self.forwarder.take_replies()
     }
 

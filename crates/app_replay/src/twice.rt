@@ -1,5 +1,5 @@
 //! A script that is replayed twice.
-ghost use Rattle.h1_connection.specs.Meaning.{event_of};
+ghost use Rattle.h1_connection.specs.EventMeaning.{event_of};
 ghost use Rattle.h1_connection.specs.State.{IsAllowed};
 
 use h1_connection::{Connection, Event, NoMemory, Outcome};

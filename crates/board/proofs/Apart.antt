@@ -10,11 +10,11 @@ use Rattle.std.proofs.lemmas.Option.{slice_get_within, get_or_from_slice_get, sl
 use Rattle.model_h1.specs.Answer.{AnswerHead, size_of}
 use Rattle.model_h1.specs.Event as on
 use Rattle.h1_connection.specs.State.{State, GoesOn, fresh_state, Is}
-use Rattle.h1_connection.specs.Meaning.{SaysOutcome}
+use Rattle.h1_connection.specs.EventMeaning.{SaysOutcome}
 use Rattle.h1_connection.specs.declared.event.Outcome.{Outcome}
 use Rattle.h1_connection.specs.declared.event.Outcome.TheVariants as out
 use Rattle.board.specs.Table.{Seated, Tabled, Moves, Steps, Fails, fresh_seat}
-use Rattle.board.specs.Runs.{Turn, stepped, opened, handled, ran_out, Turns, HandlesBy, Runs, Taken, taken, own_part, own_events, TakesIn}
+use Rattle.board.specs.TableRuns.{Turn, stepped, opened, handled, ran_out, Turns, HandlesBy, Runs, Taken, taken, own_part, own_events, TakesIn}
 
 -- ---- places of a list
 

@@ -2,8 +2,8 @@
 use Rattle.std.specs.Prelude.{[], Option}
 use Rattle.model_h1.specs.Answer.{AnswerHead}
 use Rattle.board.specs.declared.command.Command.{Command}
-use Rattle.board.specs.declared.seat.Answer.{Answer}
-use Rattle.board.specs.declared.seat.Answer.TheVariants.{NotFound, Full, Count}
+use Rattle.board.specs.declared.table_connection.Answer.{Answer}
+use Rattle.board.specs.declared.table_connection.Answer.TheVariants.{NotFound, Full, Count}
 use Rattle.board.specs.Views.{Held, Kept}
 use Rattle.board.specs.Table.{answer_with, count_answer, Replies}
 

@@ -4,6 +4,6 @@ pub mod Views
 pub mod Cursors
 pub mod Table
 pub mod Asks
-pub mod Runs
+pub mod TableRuns
 pub mod Answers
 pub mod Work

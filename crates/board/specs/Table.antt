@@ -9,7 +9,7 @@ use Rattle.model_h1.specs.Answer.{AnswerHead, BodySize, size_of}
 use Rattle.model_h1.specs.Event as on
 use Rattle.model_h1.specs.Request.{Header}
 use Rattle.h1_connection.specs.State.{State, fresh_state, IsAllowed, GoesOn, Is}
-use Rattle.h1_connection.specs.Meaning.{SaysOutcome}
+use Rattle.h1_connection.specs.EventMeaning.{SaysOutcome}
 use Rattle.h1_connection.specs.declared.event.Outcome.{Outcome}
 use Rattle.h1_connection.specs.declared.event.Outcome.TheVariants as out
 use Rattle.board.specs.declared.command.Command.{Command}

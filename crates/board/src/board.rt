@@ -9,7 +9,7 @@ ghost use Rattle.board.specs.Journal.{IsRight, entry, counter, reply_after, name
 ghost use Rattle.board.specs.Views.{Kept, Passes, Agrees, Differs, entries_held};
 ghost use Rattle.board.specs.declared.board.BoardError.TheVariants as board_error;
 
-use crate::command::{Command, Entry, Reply};
+use crate::command::{Command, CounterReply, Entry};
 use crate::compare;
 use crate::name::Name;
 use crate::pass::{MAX_ENTRIES, Pass};
@@ -144,7 +144,7 @@ impl<M: Ledger> Board<M> {
     /// the counter with one added. A counter that was never added to is 0.
     ///
     /// `BoardError::Full` comes exactly where the pass has 1,048,576 entries. After an error all is as before.
-    pub fn call(&mut self, pass: &mut Pass<M>, command: Command) -> Result<Reply, BoardError>
+    pub fn call(&mut self, pass: &mut Pass<M>, command: Command) -> Result<CounterReply, BoardError>
         ensures journal { IfOk result (λ r. self.new.journal ≡ self.old.journal ++ entry pass.old.number command r.0 ∷ []) }
         ensures pass { IfOk result (λ r. pass.new.entries ≡ pass.old.entries ++ entry pass.old.number command r.0 ∷ []) }
         ensures number { pass.new.number ≡ pass.old.number }
@@ -166,12 +166,12 @@ impl<M: Ledger> Board<M> {
         let entry = Entry {
             pass: pass.number,
             command,
-            reply: Reply(reply),
+            reply: CounterReply(reply),
         };
         self.journal.push_reserved(entry.copy());
         pass.entries.push_reserved(entry);
         self.book.add(&mut pass.part, 1);
-        Ok(Reply(reply))
+        Ok(CounterReply(reply))
     }
 
     /// Takes a pass back. Its entries stay in the journal, and its number isn't given again.

@@ -15,7 +15,7 @@ pub enum Command {
 
 /// What a command is answered: the value of its counter, with itself counted.
 #[derive(Clone, Copy, Debug, PartialEq, Eq)]
-pub struct Reply(pub u64);
+pub struct CounterReply(pub u64);
 
 /// A command that was answered.
 #[derive(Clone, Copy, Debug, PartialEq, Eq)]
@@ -27,7 +27,7 @@ pub struct Entry {
     pub command: Command,
 
     /// What it was answered.
-    pub reply: Reply,
+    pub reply: CounterReply,
 }
 
 impl Command {

@@ -3,7 +3,7 @@ ghost use Rattle.std.specs.Prelude.{◌≡◌, ◌≤◌, ℕ, List, Some, lengt
 ghost use Rattle.std.specs.List.{slice_get};
 ghost use Rattle.h1_connection.specs.State.{fresh_state};
 ghost use Rattle.board.specs.Table.{Tabled, Seated};
-ghost use Rattle.board.specs.Runs.{Turn, Runs, own_events, TakesIn};
+ghost use Rattle.board.specs.TableRuns.{Turn, Runs, own_events, TakesIn};
 
 /// However the calls for a table's connections are mixed, each connection takes in its own events and the answers to its
 /// own requests, as it would alone. So does one that is opened on the way, from its beginning.

@@ -32,15 +32,15 @@ mod gate;
 pub mod laws;
 mod name;
 mod pass;
-mod seat;
 mod service;
 mod shared;
 mod stock;
 mod table;
+mod table_connection;
 mod work;
 
 pub use board::{Board, BoardError};
-pub use command::{Command, Entry, Reply};
+pub use command::{Command, CounterReply, Entry};
 pub use gate::{Gate, OpenGate};
 pub use name::{MAX_NAME_LEN, Name, NameError};
 pub use pass::{Carried, MAX_ENTRIES, Pass};

@@ -5,7 +5,7 @@ ghost use Rattle.board.specs.Views.{Agrees, Differs, entries_held};
 ghost use Rattle.board.specs.declared.board.BoardError.TheVariants as board_error;
 
 use crate::board::{Board, BoardError};
-use crate::command::{Command, Reply};
+use crate::command::{Command, CounterReply};
 use crate::pass::Pass;
 use crate::stock::Stock;
 use std::marker::Model;
@@ -55,7 +55,7 @@ impl<M: Ledger> Shared<M> {
         rt: &R,
         pass: &mut Pass<M>,
         command: Command,
-    ) -> Result<Reply, BoardError>
+    ) -> Result<CounterReply, BoardError>
         ensures pass { IfOk result (λ r. pass.new.entries ≡ pass.old.entries ++ entry pass.old.number command r.0 ∷ []) }
         ensures number { pass.new.number ≡ pass.old.number }
         ensures err { OnErr result (pass.new ≡ pass.old) }

@@ -3,13 +3,13 @@ ghost use Rattle.std.specs.Prelude.{◌≡◌, ◌+◌, ◌<◌, [], ◌∷◌, 
 ghost use Rattle.model_h1.specs.Answer.{AnswerHead, BodySize};
 ghost use Rattle.model_h1.specs.Event as on;
 ghost use Rattle.model_state.specs.Local.{allowed_by};
-ghost use Rattle.h1_connection.specs.Meaning.{setting_of, event_of, SaysOutcome};
+ghost use Rattle.h1_connection.specs.EventMeaning.{setting_of, event_of, SaysOutcome};
 ghost use Rattle.h1_connection.specs.State.{IsAllowed, GoesOn, TakesNoMemory};
 ghost use Rattle.board.specs.Table.{At, Moves, fresh_seat, asked_after, Handles, Fails, Steps};
 ghost use Rattle.board.specs.declared.board.BoardError.TheVariants as board_error;
 
 use crate::board::{Board, BoardError};
-use crate::seat::Seat;
+use crate::table_connection::TableConnection;
 use h1_connection::{Event, Outcome};
 use http_types::{NoMemory, ServiceConfig};
 use std::alloc::Global;
@@ -24,7 +24,7 @@ pub struct Table<M: Ledger> {
     alloc: Global,
     config: ServiceConfig,
     board: Board<M>,
-    seats: Vec<Seat<M>>,
+    seats: Vec<TableConnection<M>>,
 }
 
 impl<M: Ledger> Model for Table<M> {
@@ -67,7 +67,7 @@ impl<M: Ledger> Table<M> {
         let id = self.seats.len();
         let pass = self.board.pass()?;
         self.seats
-            .push_reserved(Seat::new(self.alloc, self.config, pass));
+            .push_reserved(TableConnection::new(self.alloc, self.config, pass));
         Ok(id)
     }
 

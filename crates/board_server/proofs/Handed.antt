@@ -14,7 +14,7 @@ use Rattle.board_server.specs.declared.error.ServeError.TheVariants.{Dispatch, B
 use Rattle.board_server.specs.Serves.{EndsAt, Ends}
 use Rattle.board_server.specs.Told.{HadMemory}
 use Rattle.board_server.proofs.Acts.{says_more}
-use Rattle.board_server.proofs.Ran.{waits_have, same_error}
+use Rattle.board_server.proofs.PolledRuns.{waits_have, same_error}
 use Rattle.board_server.proofs.Requests.{last_of}
 
 -- then none is the last one

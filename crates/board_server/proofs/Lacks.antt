@@ -10,7 +10,7 @@ use Rattle.model_h1.specs.Event as on
 use Rattle.model_h1.specs.Sums as sums
 use Rattle.model_h1.specs.Sums.{step_taken, step_written, taken, written}
 use Rattle.model_h1.specs.Trace.{IsTrace}
-use Rattle.h1_connection.specs.Meaning.{setting_of}
+use Rattle.h1_connection.specs.EventMeaning.{setting_of}
 use Rattle.h1_connection.specs.Steps.{Pair}
 use Rattle.h1_traced.specs.Traced.{TracedView, SaysNoted, TracedStands}
 use Rattle.h1_dispatcher.specs.View.{View}

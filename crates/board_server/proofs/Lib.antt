@@ -1,7 +1,7 @@
 pub mod Acts
 pub mod Steps
 pub mod Bodiless
-pub mod Ran
+pub mod PolledRuns
 pub mod Shows
 pub mod Lacks
 pub mod Requests

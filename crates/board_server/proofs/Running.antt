@@ -10,7 +10,7 @@ use Rattle.board_server.specs.declared.visit.Report.{Report}
 use Rattle.board_server.specs.declared.visit.ServeFault.{ServeFault}
 use Rattle.board_server.specs.declared.visit.ServeFault.TheVariants.{Acceptor, Unlike, NoMemory}
 use Rattle.board_server.specs.Reports.{SaysRan}
-use Rattle.board_server.specs.Runs.{SaysAnswer, SaysTold, reported, usage, acceptor_fault, unlike, no_memory}
+use Rattle.board_server.specs.ServerRuns.{SaysAnswer, SaysTold, reported, usage, acceptor_fault, unlike, no_memory}
 use Rattle.board_server.specs.Texts.{usage_text, acceptor_text, memory_text, unlike_text}
 use Rattle.board_server.specs.Words.{AreWords, IsCall}
 use Rattle.board_server.specs.Writing.{Says}

@@ -15,7 +15,7 @@ use Rattle.board_server.specs.declared.error.ServeError.{ServeError}
 use Rattle.board_server.specs.declared.error.ServeError.TheVariants.{Dispatch, Budget, NoMemory}
 use Rattle.board_server.specs.Serves.{EndsAt, Ends}
 use Rattle.board_server.specs.Told.{Shows}
-use Rattle.board_server.proofs.Ran.{waits_have}
+use Rattle.board_server.proofs.PolledRuns.{waits_have}
 use Rattle.board_server.proofs.Steps.{run_kept}
 
 -- the cause of the last poll's answer

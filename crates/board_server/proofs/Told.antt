@@ -11,7 +11,7 @@ use Rattle.model_h1.specs.Event as on
 use Rattle.model_h1.specs.Sums as sums
 use Rattle.model_h1.specs.Sums.{taken, written}
 use Rattle.model_h1.specs.Trace.{IsTrace}
-use Rattle.h1_connection.specs.Meaning.{setting_of}
+use Rattle.h1_connection.specs.EventMeaning.{setting_of}
 use Rattle.h1_connection.specs.Steps as noted
 use Rattle.h1_traced.specs.Traced.{SaysNoted, TracedStands}
 use Rattle.h1_dispatcher.specs.View.{View, Answer, told_result, told_service, is_replying}
@@ -27,7 +27,7 @@ use Rattle.board_server.specs.declared.error.ServeError.{ServeError}
 use Rattle.board_server.specs.declared.error.ServeError.TheVariants.{Dispatch, Budget, NoMemory}
 use Rattle.board_server.specs.Serves.{begun_view, Ends, HasServed}
 use Rattle.board_server.specs.Told.{HadMemory, Shows, AreHeads, heads_in, event_of, IsTold}
-use Rattle.board_server.proofs.Ran.{Ran, ends_ran}
+use Rattle.board_server.proofs.PolledRuns.{Ran, ends_ran}
 use Rattle.board_server.proofs.Steps.{results, value_of, asked_in, AllKept, run_kept}
 use Rattle.board_server.proofs.Bodiless.{IsBodiless, hand_of, run_hands_on}
 use Rattle.board_server.proofs.Requests.{are_heads, told_of, values_are, all_bodiless, events_are, last_of, last_is, not_lost, waits_count, OneWaits, one_waits}

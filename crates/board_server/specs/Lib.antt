@@ -6,4 +6,4 @@ pub mod Reports
 pub mod Texts
 pub mod Words
 pub mod Writing
-pub mod Runs
+pub mod ServerRuns

@@ -39,10 +39,10 @@ pub record IsReportText (journal : List Entry) (text : List ℕ) : Type 0 where
   pub text_is : text ≡ number_line (codes "calls ") (length journal) ++ count_lines rows
 
 abbrev pub usage_text : List ℕ
-usage_text = codes "usage: app_counters PORT N POLLS\n"
+usage_text = codes "usage: h1_serve PORT N POLLS\n"
 
 abbrev pub acceptor_text : List ℕ
-acceptor_text = codes "acceptor fault\n"
+acceptor_text = codes "door fault\n"
 
 abbrev pub memory_text : List ℕ
 memory_text = codes "no memory\n"

@@ -14,7 +14,7 @@ use Rattle.model_h1.specs.Request.{Head}
 use Rattle.model_h1.specs.Sums as sums
 use Rattle.model_h1.specs.Sums.{taken, written}
 use Rattle.model_h1.specs.Trace.{IsTrace}
-use Rattle.h1_connection.specs.Meaning.{setting_of}
+use Rattle.h1_connection.specs.EventMeaning.{setting_of}
 use Rattle.h1_connection.specs.Steps as noted
 use Rattle.h1_traced.specs.Traced.{SaysNoted}
 use Rattle.h1_dispatcher.specs.Traces.{HasHead, answers_in, requests_in}

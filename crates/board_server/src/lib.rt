@@ -25,6 +25,7 @@
 #![tactic(auto)]
 
 mod accept;
+mod acceptor_loop;
 mod connection;
 mod error;
 mod gated_acceptor;
@@ -33,12 +34,12 @@ mod mem_acceptor;
 mod recorders;
 mod report;
 mod run;
-mod server;
 mod text;
 mod visit;
 mod words;
 mod write;
 
+pub use acceptor_loop::{serve, serve_by};
 pub use board::{Gate, OpenGate};
 pub use connection::{Served, serve_connection};
 pub use error::ServeError;
@@ -49,5 +50,4 @@ pub use net_sockets::{Gated, Linger, TcpAcceptor, TcpTransport};
 pub use recorders::{NoRecords, Recorders};
 pub use report::print_report;
 pub use run::{Run, serve_run};
-pub use server::{serve, serve_by};
 pub use visit::{Differing, Ran, Report, ServeFault, Visit};

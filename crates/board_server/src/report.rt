@@ -1,5 +1,5 @@
 //! The report of a board, written.
-ghost use Rattle.board_server.specs.Runs.{SaysReport};
+ghost use Rattle.board_server.specs.ServerRuns.{SaysReport};
 
 use crate::text::report_text;
 use crate::visit::Report;

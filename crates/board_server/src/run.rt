@@ -1,11 +1,11 @@
 //! The program but for `main`.
 ghost use Rattle.std.specs.Prelude.{◌≡◌, ◌⊎◌, map, string_bytes};
-ghost use Rattle.board_server.specs.Runs.{SaysEnd, SaysAnswer, SaysTold};
+ghost use Rattle.board_server.specs.ServerRuns.{SaysEnd, SaysAnswer, SaysTold};
 ghost use Rattle.board_server.specs.Texts.{memory_text, unlike_text};
 ghost use Rattle.board_server.specs.Writing.{Says};
 
+use crate::acceptor_loop::serve;
 use crate::report::print_report;
-use crate::server::serve;
 use crate::text::number_line;
 use crate::visit::{Report, ServeFault};
 use crate::words::read_words;
@@ -66,7 +66,7 @@ where
 {
     let Some(words) = read_words(words) else {
         return Run {
-            status: say(output, b"usage: app_counters PORT N POLLS\n", 1),
+            status: say(output, b"usage: h1_serve PORT N POLLS\n", 1),
             acceptor,
             end: None,
         };
@@ -74,7 +74,7 @@ where
     let mut acceptor = acceptor;
     if acceptor.open(words.port).is_err() {
         return Run {
-            status: say(output, b"acceptor fault\n", 2),
+            status: say(output, b"door fault\n", 2),
             acceptor,
             end: None,
         };
@@ -108,7 +108,7 @@ fn tell<W, L, M: Ledger, O: Sink>(
 {
     match end {
         Ok(report) => print_report(alloc, report, output),
-        Err(ServeFault::Acceptor(_)) => say(output, b"acceptor fault\n", 2),
+        Err(ServeFault::Acceptor(_)) => say(output, b"door fault\n", 2),
         Err(ServeFault::Unlike(differing)) => tell_unlike(alloc, differing.unlike.number, output),
         Err(ServeFault::NoMemory) => say(output, b"no memory\n", 7),
     }

@@ -14,7 +14,7 @@ use Rattle.model_h1.specs.LengthTable.{values_of, is_there, named_type, default_
 use Rattle.h1_decoder.specs.HeadItem.{version_of}
 use Rattle.http_framing.specs.HeaderLines.{header_map}
 use Rattle.model_client.specs.AnswerReading.{Answer, answer_is, IsTextOf, IsAnswerReading}
-use Rattle.model_client.specs.ClientKept.{is_kept_alive}
+use Rattle.model_h1.specs.Closing.{is_kept}
 use Rattle.h1_client.proofs.ValueLemmas.{value_bytes, head_values, last_value, trimmed_last}
 
 -- ---- the text that was read
@@ -38,11 +38,11 @@ pub old_minor : (minor : ℕ) → is_below_http11 (version_of minor) ≡ (minor 
 old_minor zero = refl
 old_minor (suc n) = sym (ne_eqb (suc n) 0 (λ e. omega (arith, e)))
 
-pub kept_by_version : (minor : ℕ) → is_kept_alive (default_type minor) ≡ not (minor == 0)
+pub kept_by_version : (minor : ℕ) → is_kept (default_type minor) ≡ not (minor == 0)
 kept_by_version zero = refl
 kept_by_version (suc n) = kept_by_test (suc n == 0)
   where
-    kept_by_test : (t : Bool) → is_kept_alive (if t then close else keep_alive) ≡ not t
+    kept_by_test : (t : Bool) → is_kept (if t then close else keep_alive) ≡ not t
     kept_by_test true = refl
     kept_by_test false = refl
 
@@ -75,11 +75,11 @@ by_last a o is = ap (λ (o : Option (List ℕ)). unwrap_or (option_and_then name
 -- ---- all of it
 
 -- the request asks for it, the body's end does, the lines do, or nothing but a doubt is left
-pub closed_by_request : (c e : Bool) (k : ConnectionType) (m : Bool) → c ≡ true → true ≡ (c || not (is_kept_alive (if e then close else k)) || m)
+pub closed_by_request : (c e : Bool) (k : ConnectionType) (m : Bool) → c ≡ true → true ≡ (c || not (is_kept (if e then close else k)) || m)
 closed_by_request true e k m is = refl
 closed_by_request false e k m is = absurd (cc is)
 
-pub closed_by_end : (c e : Bool) (k : ConnectionType) (m : Bool) → e ≡ true → true ≡ (c || not (is_kept_alive (if e then close else k)) || m)
+pub closed_by_end : (c e : Bool) (k : ConnectionType) (m : Bool) → e ≡ true → true ≡ (c || not (is_kept (if e then close else k)) || m)
 closed_by_end true true k m is = refl
 closed_by_end false true k m is = refl
 closed_by_end c false k m is = absurd (cc is)
@@ -88,20 +88,20 @@ lost_test : (t m : Bool) → t ≡ false → true ≡ (not t || m)
 lost_test true m is = absurd (cc is)
 lost_test false m is = refl
 
-pub closed_by_lines : (c e : Bool) (k : ConnectionType) (m : Bool) → is_kept_alive k ≡ false → true ≡ (c || not (is_kept_alive (if e then close else k)) || m)
+pub closed_by_lines : (c e : Bool) (k : ConnectionType) (m : Bool) → is_kept k ≡ false → true ≡ (c || not (is_kept (if e then close else k)) || m)
 closed_by_lines true e k m is = refl
 closed_by_lines false true k m is = refl
-closed_by_lines false false k m is = lost_test (is_kept_alive k) m is
+closed_by_lines false false k m is = lost_test (is_kept k) m is
 
 kept_test : (t m : Bool) → t ≡ true → m ≡ (not t || m)
 kept_test true m is = refl
 kept_test false m is = absurd (cc is)
 
-pub closed_by_doubt : (c e : Bool) (k : ConnectionType) (m : Bool) → c ≡ false → e ≡ false → is_kept_alive k ≡ true
-    → m ≡ (c || not (is_kept_alive (if e then close else k)) || m)
+pub closed_by_doubt : (c e : Bool) (k : ConnectionType) (m : Bool) → c ≡ false → e ≡ false → is_kept k ≡ true
+    → m ≡ (c || not (is_kept (if e then close else k)) || m)
 closed_by_doubt true e k m stays goes_on is = absurd (cc stays)
 closed_by_doubt false true k m stays goes_on is = absurd (cc goes_on)
-closed_by_doubt false false k m stays goes_on is = kept_test (is_kept_alive k) m is
+closed_by_doubt false false k m stays goes_on is = kept_test (is_kept k) m is
 
 -- a coding in HTTP/1.0, beside a length, or in neither
 pub doubt_old : (h o l : Bool) → o ≡ true → h ≡ (h && (o || l))

@@ -24,7 +24,7 @@ use Rattle.model_client.specs.ClientKept.{Waiting, ClientKept, client_closing, i
 use Rattle.model_client.specs.ClientStep.{ClientChange, IsClientChange, IsNext, IsUpcoming, behind_head, behind_answer, behind_final, without_head, fault_end, is_closed_after, new_body}
 use Rattle.h1_client.specs.Answers.{SaysNext, IsNexted, IsAnswered, IsBegun, NeedsNoMemory}
 use Rattle.h1_client.specs.Incoming.{Incoming, is_coming_in, IsFound, IsFoundIn, place_in}
-use Rattle.h1_client.specs.Meaning.{end_of}
+use Rattle.h1_client.specs.ClientMeaning.{end_of}
 use Rattle.h1_client.specs.Parts.{kept_of, AreFirst, IsFirst, FitsIn, MayBeSearched, IsSound, IsSettled, IsSettledAs, Steps}
 use Rattle.h1_client.specs.declared.connection.parts.Parts.{Parts}
 use Rattle.h1_client.specs.declared.connection.queue.First.{First}

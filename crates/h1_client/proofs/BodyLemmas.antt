@@ -12,7 +12,7 @@ use Rattle.model_client.specs.ClientEvent as on
 use Rattle.model_client.specs.ClientKept.{ReadingBody, ClientKept, is_free, is_last}
 use Rattle.model_client.specs.ClientStep.{is_broken, passed_body, passing, pass, dropping, body_at_end, ending_input, doing, IsClientChange}
 use Rattle.h1_client.specs.Incoming.{Incoming, is_coming_in}
-use Rattle.h1_client.specs.Meaning.{end_of}
+use Rattle.h1_client.specs.ClientMeaning.{end_of}
 use Rattle.h1_client.specs.Bodies.{dropped_reading, ended_reading, failing, passed_is_done, passed_breaks, IsPassedBody}
 use Rattle.h1_client.specs.Parts.{kept_of, reading_of, FitsIn, MayBeSearched, IsSound, IsSettled, Steps}
 use Rattle.h1_client.specs.declared.connection.bodies.Reading.{Reading}

@@ -14,7 +14,7 @@ use Rattle.model_client.specs.ClientTrace.{Happened}
 use Rattle.h1_encoder.specs.RequestMeaning.{has_text}
 use Rattle.h1_client.specs.Bodies.{is_dropped_in, SaysPulled, IsPulledIn}
 use Rattle.h1_client.specs.Answers.{SaysNext, IsNexted}
-use Rattle.h1_client.specs.Meaning.{setting_of, request_of}
+use Rattle.h1_client.specs.ClientMeaning.{setting_of, request_of}
 use Rattle.h1_client.specs.Parts.{kept_of, reading_of, IsSound, Steps}
 use Rattle.h1_client.specs.State.{State, IsAllowed, Stands, GoesOn, Is}
 use Rattle.h1_client.specs.declared.connection.bodies.Reading.{Reading}

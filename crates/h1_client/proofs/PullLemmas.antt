@@ -19,7 +19,7 @@ use Rattle.model_client.specs.ClientEvent.{ClientEnd}
 use Rattle.model_client.specs.ClientKept.{ClientKept, ReadingBody, is_free}
 use Rattle.model_client.specs.ClientStep.{outcome_of, end_of, pulled_from, IsPulling, IsClientChange}
 use Rattle.h1_client.specs.Incoming.{Incoming, is_coming_in}
-use Rattle.h1_client.specs.Meaning as meaning
+use Rattle.h1_client.specs.ClientMeaning as meaning
 use Rattle.h1_client.specs.Bodies.{SaysPulled, tells_done, breaks_body, failing, is_dropped_in, IsPulledFrom, IsPulledIn, IsLightPull}
 use Rattle.h1_client.specs.Parts.{kept_of, reading_of, FitsIn, MayBeSearched, IsSound, IsSettled, Steps}
 use Rattle.h1_client.specs.declared.connection.bodies.Reading.{Reading}

@@ -13,7 +13,7 @@ use Rattle.model_client.specs.RequestText.{request_text, asked_shape}
 use Rattle.model_client.specs.ClientEvent as on
 use Rattle.model_client.specs.ClientKept.{Waiting, SendingBody, ClientKept, waiting_of, is_last}
 use Rattle.model_client.specs.ClientStep.{begun_body, asking, piece_of, sending_piece, ending_body, doing}
-use Rattle.h1_client.specs.Meaning.{request_of, end_of}
+use Rattle.h1_client.specs.ClientMeaning.{request_of, end_of}
 use Rattle.h1_client.specs.Bodies.{failing}
 use Rattle.h1_client.specs.Requests.{SendsNoPiece, SendsNoEnd}
 use Rattle.h1_client.specs.Parts.{kept_of, sending_of, IsSound, Steps}

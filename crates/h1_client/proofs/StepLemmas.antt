@@ -11,7 +11,7 @@ use Rattle.model_client.specs.ClientEvent as on
 use Rattle.model_client.specs.ClientKept.{ClientKept, is_free, is_last}
 use Rattle.model_client.specs.ClientStep.{ClientChange, IsClientChange}
 use Rattle.h1_client.specs.Incoming.{Incoming, is_coming_in, IsFoundIn, IsFound}
-use Rattle.h1_client.specs.Meaning.{end_of}
+use Rattle.h1_client.specs.ClientMeaning.{end_of}
 use Rattle.h1_client.specs.Bodies.{failing}
 use Rattle.h1_client.specs.Parts.{kept_of, FitsIn, MayBeSearched, IsSound, IsSettled, IsSettledAs, Steps}
 use Rattle.h1_client.specs.declared.event.ClientEnd.{ClientEnd}

@@ -13,7 +13,7 @@ use Rattle.model_client.specs.AnswerReading.{Answer, answer_is, IsAnswerReading}
 use Rattle.model_client.specs.ClientEvent as on
 use Rattle.model_client.specs.ClientKept.{Waiting, ClientKept, client_closing}
 use Rattle.model_client.specs.ClientStep.{is_closed_after}
-use Rattle.h1_client.specs.Meaning.{end_of}
+use Rattle.h1_client.specs.ClientMeaning.{end_of}
 use Rattle.h1_client.specs.Parts.{IsFirst, Steps}
 use Rattle.h1_client.specs.declared.connection.parts.Parts.{Parts}
 use Rattle.h1_client.specs.declared.connection.queue.First.{First}

@@ -1,5 +1,5 @@
 pub mod HeadMeaning
-pub mod Meaning
+pub mod ClientMeaning
 pub mod Incoming
 pub mod Parts
 pub mod Bodies

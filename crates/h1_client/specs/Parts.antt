@@ -8,7 +8,7 @@ use Rattle.model_client.specs.ClientEvent as on
 use Rattle.model_client.specs.ClientKept.{Waiting, SendingBody, ReadingBody, ClientKept, is_free, is_last}
 use Rattle.model_client.specs.ClientStep.{IsClientStep}
 use Rattle.h1_client.specs.Incoming.{is_coming_in, IsFound}
-use Rattle.h1_client.specs.Meaning.{end_of}
+use Rattle.h1_client.specs.ClientMeaning.{end_of}
 use Rattle.h1_client.specs.declared.connection.bodies.Reading.{Reading}
 use Rattle.h1_client.specs.declared.connection.parts.Parts.{Parts}
 use Rattle.h1_client.specs.declared.connection.queue.First.{First}

@@ -11,7 +11,8 @@ ghost use Rattle.model_h1.specs.Request.{ConnectionType, Header};
 ghost use Rattle.model_client.specs.AnswerParse.{is_interim};
 ghost use Rattle.model_client.specs.AnswerReading.{Answer, answer_is, IsAnswerReading};
 ghost use Rattle.model_client.specs.AnswerTable.{body_to, ends_with_input};
-ghost use Rattle.model_client.specs.ClientKept.{Waiting, is_kept_alive};
+ghost use Rattle.model_h1.specs.Closing.{is_kept};
+ghost use Rattle.model_client.specs.ClientKept.{Waiting};
 ghost use Rattle.model_client.specs.ClientStep.{is_ambiguous, is_closed_after, is_last_answer};
 ghost use Rattle.h1_decoder.specs.ResponseItem.{SaysAnswer};
 
@@ -91,7 +92,7 @@ fn ends_with_input(is_head: bool, item: &ResponseItem) -> bool
 // The last Connection line keeps it, or without one of the words the version does.
 fn keeps_by_lines(item: &ResponseItem) -> bool
     ensures { (piece : List ℕ) (a : Answer) → IsAnswerReading piece (answer_is a) → SaysAnswer item.now a
-        → result ≡ is_kept_alive (connection_of a.minor a.headers) }
+        → result ≡ is_kept (connection_of a.minor a.headers) }
 {
     let keeps = !is_old(item);
     match last_line(&item.head.headers) {
@@ -123,8 +124,8 @@ fn is_below_http11(version: Version) -> bool
 
 // What the value of that line keeps, and otherwise the version does.
 fn keeps_by(value: &HeaderValue, otherwise: bool) -> bool
-    ensures { (kind : ConnectionType) → trim_ows value.now.bytes ≡ value.now.bytes → is_kept_alive kind ≡ otherwise
-        → result ≡ is_kept_alive (unwrap_or (named_type value.now.bytes) kind) }
+    ensures { (kind : ConnectionType) → trim_ows value.now.bytes ≡ value.now.bytes → is_kept kind ≡ otherwise
+        → result ≡ is_kept (unwrap_or (named_type value.now.bytes) kind) }
 {
     let value = value.as_bytes();
     if is_word(value, b"close") {

@@ -6,7 +6,7 @@ ghost use Rattle.model_client.specs.ClientEvent as on;
 ghost use Rattle.model_client.specs.ClientKept.{client_closing, is_reusable};
 ghost use Rattle.h1_client.specs.Answers.{SaysNext, NeedsNoMemory};
 ghost use Rattle.h1_client.specs.Bodies.{SaysPulled, IsLightPull};
-ghost use Rattle.h1_client.specs.Meaning.{request_of, end_of};
+ghost use Rattle.h1_client.specs.ClientMeaning.{request_of, end_of};
 ghost use Rattle.h1_client.specs.Requests.{SendsNoPiece, SendsNoEnd};
 ghost use Rattle.h1_client.specs.State.{fresh_state, IsAllowed, HasWriteRoom, Stands, GoesOn, Is};
 

@@ -14,7 +14,7 @@ use Rattle.h1_codec.proofs.OpenBodies.{piece_came}
 use Rattle.h1_codec.specs.ClientAnswers.{IsChunked}
 use Rattle.h1_codec.specs.ClientPieces.{as_message, as_answered}
 use Rattle.h1_codec.specs.ClientState.{client_standing}
-use Rattle.h1_codec.specs.declared.client.Client.{Client}
+use Rattle.h1_codec.specs.declared.client_state.Client.{Client}
 use Rattle.h1_codec.specs.declared.client_error.ClientError.TheVariants.{Parse, Misplaced}
 
 -- the other codec reads what comes next

@@ -9,7 +9,7 @@ use Rattle.http_types.specs.declared.requests.head_type.RequestHeadType.{Request
 use Rattle.model_client.specs.RequestText.{AskedHead}
 use Rattle.h1_encoder.specs.declared.error.EncodeError.{EncodeError}
 use Rattle.h1_codec.specs.Writing.{IsRequestWritten, sent_head, sent_headers, with_headers}
-use Rattle.h1_codec.specs.declared.client.Client.{Client}
+use Rattle.h1_codec.specs.declared.client_state.Client.{Client}
 
 module _ (old new : Client) (size : BodySize) (dst after : List ℕ) where
   -- the text of a head, of which this goes out, is put after the others

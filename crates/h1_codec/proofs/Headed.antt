@@ -13,7 +13,7 @@ use Rattle.h1_codec.specs.ServerAnswers.{IsNexted, IsHeadGiven, IsHeadBeside, as
 use Rattle.h1_codec.proofs.NextHeads.{head_given}
 use Rattle.h1_codec.specs.ClientAnswers.{HasNoted, IsHeaded}
 use Rattle.h1_codec.specs.ClientState.{client_standing}
-use Rattle.h1_codec.specs.declared.client.Client.{Client}
+use Rattle.h1_codec.specs.declared.client_state.Client.{Client}
 use Rattle.h1_codec.specs.declared.client_error.ClientError.TheVariants.{Parse, Misplaced}
 
 -- no body is open where one is

@@ -17,7 +17,7 @@ use Rattle.h1_codec.proofs.Stepping.{open_step, idle_step}
 use Rattle.h1_codec.specs.ClientAnswers.{IsChunkStep}
 use Rattle.h1_codec.specs.ClientPieces.{as_message, as_answered}
 use Rattle.h1_codec.specs.ClientState.{client_standing}
-use Rattle.h1_codec.specs.declared.client.Client.{Client}
+use Rattle.h1_codec.specs.declared.client_state.Client.{Client}
 
 module _ (old new : Search) (bytes rest : List ℕ) (was body : Option Decoding) where
   -- a head is no piece of a body

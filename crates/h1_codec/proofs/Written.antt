@@ -8,7 +8,7 @@ use Rattle.h1_codec.proofs.Writing.{none_missing}
 use Rattle.h1_codec.specs.declared.framed_message.Message.TheVariants.{Chunk}
 use Rattle.h1_codec.specs.ClientState.{client_encoding}
 use Rattle.h1_codec.specs.Writing.{Sent, HasWritten, Refuses, with_encoding}
-use Rattle.h1_codec.specs.declared.client.Client.{Client}
+use Rattle.h1_codec.specs.declared.client_state.Client.{Client}
 
 -- an end is refused where bytes are missing, and else only where memory ran out
 pub end_refused : (old : Client) (item : Sent) (result : Result Unit EncodeError) → item ≡ Chunk None

@@ -11,7 +11,7 @@ use Rattle.h1_codec.specs.Steps.{IsStep}
 use Rattle.h1_codec.specs.declared.framed_message.Message.TheVariants.{Item, Chunk}
 use Rattle.h1_codec.specs.ClientPieces.{as_chunk, as_head}
 use Rattle.h1_codec.specs.ClientState.{ClientReads, ClientLooked, ClientBreaks, answered, passes_on, client_standing, client_trailers, client_connection, client_passes_on, client_asking}
-use Rattle.h1_codec.specs.declared.client.Client.{Client}
+use Rattle.h1_codec.specs.declared.client_state.Client.{Client}
 use Rattle.h1_codec.specs.declared.client_error.ClientError.{ClientError}
 use Rattle.h1_codec.specs.declared.client_error.ClientError.TheVariants.{Parse, Misplaced}
 

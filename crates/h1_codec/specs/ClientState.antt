@@ -12,7 +12,7 @@ use Rattle.h1_payload.specs.Decoding.{Decoding}
 use Rattle.h1_codec.specs.FramedMessages.{Messages, Standing, Reads, HasLooked, Breaks}
 use Rattle.h1_codec.specs.declared.framed_message.MessageType.{MessageType}
 use Rattle.h1_codec.specs.declared.framed_message.MessageType.TheVariants as kind
-use Rattle.h1_codec.specs.declared.client.Client.{Client}
+use Rattle.h1_codec.specs.declared.client_state.Client.{Client}
 use Rattle.h1_codec.specs.declared.client_codec.ClientCodec.{ClientCodec}
 use Rattle.h1_codec.specs.declared.payload.ClientPayloadCodec.{ClientPayloadCodec}
 use Rattle.h1_codec.specs.declared.client_codec.TheConstants.{LAST_MOMENT}

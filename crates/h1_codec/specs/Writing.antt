@@ -19,7 +19,7 @@ use Rattle.h1_codec.specs.declared.framed_message.Message.{Message}
 use Rattle.h1_codec.specs.declared.framed_message.Message.TheVariants.{Item, Chunk}
 use Rattle.h1_encoder.specs.RequestMeaning.{asked_head, has_text}
 use Rattle.h1_codec.specs.ClientState.{client_settings, client_moment, client_encoding, of_codec}
-use Rattle.h1_codec.specs.declared.client.Client.{Client}
+use Rattle.h1_codec.specs.declared.client_state.Client.{Client}
 use Rattle.h1_codec.specs.declared.client_codec.ClientCodec.{ClientCodec}
 
 abbrev pub with_now : ℕ → Client → Client

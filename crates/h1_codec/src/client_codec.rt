@@ -32,7 +32,7 @@ ghost use Rattle.h1_codec.specs.ClientState.{
 };
 ghost use Rattle.h1_codec.specs.Writing.{Refuses, HasWritten, IsRequestWritten, merged, sent_head, with_headers, with_now, without_trailers};
 
-use crate::client::Client;
+use crate::client_state::Client;
 use crate::merged::merged;
 use crate::request::{allowed, encoding_of, is_enabled, is_head};
 use crate::{ClientError, ClientPayloadCodec, Message, MessageType};

@@ -7,7 +7,7 @@ ghost use Rattle.h1_codec.specs.ClientAnswers.{IsChunked, IsChunkStep};
 ghost use Rattle.h1_codec.specs.ClientPieces.{as_message, as_answered};
 ghost use Rattle.h1_codec.specs.ClientState.{client_standing};
 
-use crate::client::Client;
+use crate::client_state::Client;
 use crate::{ClientError, Piece, next_piece};
 use bytes::{Bytes, BytesMut};
 use h1_payload::{DecodeError, PayloadDecoder};

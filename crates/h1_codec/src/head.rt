@@ -6,7 +6,7 @@ ghost use Rattle.http_types.specs.Flags.{type_of_flags};
 ghost use Rattle.h1_codec.specs.ClientState.{answered, passes_on, client_standing};
 ghost use Rattle.h1_codec.specs.ClientAnswers.{IsHeaded, IsHeadStep};
 
-use crate::client::Client;
+use crate::client_state::Client;
 use crate::{ClientError, next_head};
 use bytes::BytesMut;
 use h1_decoder::ResponseItem;

@@ -23,12 +23,12 @@
 //! stays broken. A sender writes the head, each chunk once and in order, and the end ([`send_laws`]).
 #![tactic(auto)]
 
-mod client;
 mod client_codec;
 mod client_error;
 mod client_framing;
 pub mod client_laws;
 mod client_piece;
+mod client_state;
 mod decoder;
 mod framed_message;
 mod head;

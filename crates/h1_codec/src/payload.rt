@@ -24,7 +24,7 @@ ghost use Rattle.h1_codec.specs.ClientState.{
 };
 ghost use Rattle.h1_codec.specs.Writing.{without_trailers};
 
-use crate::client::Client;
+use crate::client_state::Client;
 use crate::{ClientCodec, ClientError, MessageType};
 use bytes::{Bytes, BytesMut};
 use http_types::{ConnectionType, HeaderMap};

@@ -20,7 +20,7 @@ use Rattle.model_state.specs.Reply.{stated, completing, piece_sent, short_end}
 use Rattle.model_state.specs.Change.{IsChange}
 use Rattle.h1_decoder.specs.declared.scan.HeadScan.{HeadScan}
 use Rattle.h1_output.specs.Queued.{Queued}
-use Rattle.h1_connection.specs.Meaning.{setting_of, end_of}
+use Rattle.h1_connection.specs.EventMeaning.{setting_of, end_of}
 use Rattle.h1_connection.specs.Parts.{kept_of, exchange_of, reply_of, asked_in, sending_in, sending_by, replied, completed, HasNoneBehind, MayBeSearched, IsSettled, IsSound, Steps}
 use Rattle.h1_connection.specs.Unsent.{NoPieceBy, NoPieceOf, SendsNoPiece, NoEndBy, NoEndOf, SendsNoEnd}
 use Rattle.h1_connection.specs.declared.connection.clock.Clock.{Clock}

@@ -6,7 +6,7 @@ use Rattle.model_h1.specs.End as ends
 use Rattle.model_h1.specs.Setting.{Setting}
 use Rattle.model_state.specs.Kept.{Kept, is_open, is_upgraded}
 use Rattle.model_state.specs.Local.{drained_end, input_end, closing_by, answered_end}
-use Rattle.h1_connection.specs.Meaning.{end_of}
+use Rattle.h1_connection.specs.EventMeaning.{end_of}
 use Rattle.h1_connection.specs.Parts.{kept_of, IsNoted}
 use Rattle.h1_connection.specs.declared.connection.parts.Parts.{Parts}
 use Rattle.h1_connection.specs.declared.event.End.{End}

@@ -11,7 +11,7 @@ use Rattle.model_state.specs.Kept.{Kept, now}
 use Rattle.model_state.specs.Local.{closing_by}
 use Rattle.model_state.proofs.DeadlineLemmas.{deadline_of_trace}
 use Rattle.model_state.specs.Deadline.{times_out_at, deadline_by}
-use Rattle.h1_connection.specs.Meaning.{setting_of}
+use Rattle.h1_connection.specs.EventMeaning.{setting_of}
 use Rattle.h1_connection.specs.State.{State, Stands}
 use Rattle.h1_connection.specs.Ticks.{clipped}
 

@@ -15,7 +15,7 @@ use Rattle.model_state.specs.Change.{IsChange, noting_since, ending_input, excha
 use Rattle.h1_output.specs.Queued.{Queued}
 use Rattle.h1_connection.specs.Incoming.{is_coming_in}
 use Rattle.h1_connection.specs.Stock.{Stock, IsFoundOf}
-use Rattle.h1_connection.specs.Meaning.{setting_of}
+use Rattle.h1_connection.specs.EventMeaning.{setting_of}
 use Rattle.h1_connection.specs.Parts.{kept_of, exchange_of, reply_of, ended_exchange, dropped, with_continue, leaves_body, HasNoneBehind, MayBeSearched, IsNoted, IsSound, IsSettled, Steps, StepsIn}
 use Rattle.h1_connection.specs.declared.connection.exchange.Exchange.{Exchange}
 use Rattle.h1_connection.specs.declared.connection.exchange.Reply.{Reply}

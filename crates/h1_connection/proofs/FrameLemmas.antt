@@ -24,7 +24,7 @@ use Rattle.ws_session.specs.declared.verify.HandshakeError.{HandshakeError}
 use Rattle.h1_connection.specs.Frames.{with_frames, is_raw_request, SaysFrame, frame_end, IsFrameFrom, IsLightFrame, sends_nothing}
 use Rattle.h1_connection.specs.Incoming.{is_coming_in, IsFoundIn}
 use Rattle.h1_connection.specs.Stock.{Stock, IsFoundOf}
-use Rattle.h1_connection.specs.Meaning.{setting_of, end_of, failing_of, SaysRule}
+use Rattle.h1_connection.specs.EventMeaning.{setting_of, end_of, failing_of, SaysRule}
 use Rattle.h1_connection.specs.Parts.{key_or_zeros, key_bytes, exchange_of, kept_of, reply_of, request_in, leaves_body, HasNoneBehind, MayBeSearched, IsSound, Steps}
 use Rattle.h1_connection.specs.Pulls.{IsLightPull}
 use Rattle.h1_connection.specs.declared.connection.exchange.Exchange.{Exchange}

@@ -14,7 +14,7 @@ use Rattle.model_state.specs.Kept.{Rest, no_rest, raw_rest, fixed_rest, chunks_r
 use Rattle.model_state.specs.Local.{closing_by, allowed_by, has_body_left, is_answering, is_allowed_running, is_allowed_closing}
 use Rattle.model_state.specs.Reply.{stated, answering, completing, piece_sent, sending_piece}
 use Rattle.model_state.specs.Change.{IsStep, IsChange, noting_since, doing_with}
-use Rattle.h1_connection.specs.Meaning.{setting_of}
+use Rattle.h1_connection.specs.EventMeaning.{setting_of}
 use Rattle.h1_connection.specs.Parts.{kept_of, Steps}
 use Rattle.h1_connection.specs.Given.{frame_allowed, HasOpened}
 use Rattle.h1_connection.specs.State.{State, IsAllowed, IsNextAllowed, HasWriteRoom}

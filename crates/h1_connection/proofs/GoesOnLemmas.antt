@@ -28,7 +28,7 @@ use Rattle.h1_payload.specs.declared.pulled.Pulled.{Pulled as Answer}
 use Rattle.std.proofs.lemmas.Bool.{ltb-true}
 use Rattle.model_h1.specs.Answer.{AnswerHead, BodySize}
 use Rattle.model_h1.specs.Limits.{MAX_FRAME_HEAD, MAX_MOMENT}
-use Rattle.h1_connection.specs.Meaning.{setting_of, end_of, fault_of}
+use Rattle.h1_connection.specs.EventMeaning.{setting_of, end_of, fault_of}
 use Rattle.h1_connection.specs.Parts.{kept_of, IsSound, Steps, StepsIn}
 use Rattle.h1_connection.specs.Frames.{is_raw_request}
 use Rattle.h1_connection.specs.Pulls.{IsPullFrom, IsPullOf}

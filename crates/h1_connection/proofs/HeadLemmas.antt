@@ -30,7 +30,7 @@ use Rattle.h1_decoder.specs.declared.scan.HeadScan.{HeadScan}
 use Rattle.h1_decoder.specs.declared.scan.HeadScan.TheVariants.{Open, Piece}
 use Rattle.h1_connection.specs.Incoming.{Incoming, is_coming_in, IsFoundIn, IsHeadIn, IsHeadOf}
 use Rattle.h1_connection.specs.Stock.{Stock, incoming_of, is_bare, IsHeadAhead, IsPassedTo, HandsOut}
-use Rattle.h1_connection.specs.Meaning.{setting_of, end_of, fault_of, failing_of}
+use Rattle.h1_connection.specs.EventMeaning.{setting_of, end_of, fault_of, failing_of}
 use Rattle.h1_connection.specs.Parts.{key_bytes, kept_of, exchange_of, reply_of, leaves_body, HasNoneBehind, IsNoted, IsSound, IsSettled, Steps}
 use Rattle.h1_connection.specs.Given.{HasOpened, is_head_kind}
 use Rattle.h1_connection.specs.Heads.{IsAsked, IsFresh, after_head, refused, with_head, IsHeld, IsNexted, MayAsk, NumberGoes}

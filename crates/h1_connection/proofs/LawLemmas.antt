@@ -10,7 +10,7 @@ use Rattle.model_h1.specs.Sums as sums
 use Rattle.model_h1.specs.Laws.Runs as runs
 use Rattle.model_h1.proofs.EventLemmas.{same_events}
 use Rattle.model_h1.proofs.EventRuns.{one_stop, whole_or_stopped}
-use Rattle.h1_connection.specs.Meaning.{setting_of, event_of}
+use Rattle.h1_connection.specs.EventMeaning.{setting_of, event_of}
 use Rattle.h1_connection.specs.Run.{SaySteps, IsDriven, IsWhole, IsMisplaced, AreAllowed, IsFirstRefused}
 use Rattle.h1_connection.specs.declared.event.Event.{Event}
 use Rattle.h1_connection.specs.declared.trace.Step.{Step}

@@ -18,7 +18,7 @@ use Rattle.h1_payload.specs.declared.pulled.Pulled.TheVariants as answers
 use Rattle.h1_decoder.specs.declared.scan.HeadScan.{HeadScan}
 use Rattle.h1_connection.specs.Incoming.{IsFoundIn}
 use Rattle.h1_connection.specs.Stock.{Stock}
-use Rattle.h1_connection.specs.Meaning.{setting_of}
+use Rattle.h1_connection.specs.EventMeaning.{setting_of}
 use Rattle.h1_connection.specs.Parts.{kept_of, reply_of, IsSound, Steps}
 use Rattle.h1_connection.specs.Pulls.{tells_done, IsPulledFrom, IsPullOf}
 use Rattle.h1_connection.specs.declared.connection.exchange.Exchange.{Exchange}

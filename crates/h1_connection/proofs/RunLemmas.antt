@@ -15,7 +15,7 @@ use Rattle.model_state.proofs.Stands.{fresh_stands, misplaced_of_trace}
 use Rattle.model_state.specs.Runs.{runs_behind}
 use Rattle.model_state.specs.Marks.{body_runs}
 use Rattle.h1_connection.proofs.GoesOnLemmas.{buffered_traced, closing_traced}
-use Rattle.h1_connection.specs.Meaning.{setting_of, event_of, end_of, SaysOutcome}
+use Rattle.h1_connection.specs.EventMeaning.{setting_of, event_of, end_of, SaysOutcome}
 use Rattle.h1_connection.specs.State.{State, fresh_state, Stands, IsMarked, GoesOn}
 use Rattle.h1_connection.specs.Run.{SaysStep, SaySteps, IsDriven, IsWhole, IsMisplaced}
 use Rattle.h1_connection.specs.Steps.{paired, Notes}

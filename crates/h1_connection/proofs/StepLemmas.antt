@@ -16,7 +16,7 @@ use Rattle.h1_decoder.specs.declared.scan.HeadScan.TheVariants.{Open, Piece}
 use Rattle.h1_output.specs.Queued.{Queued}
 use Rattle.h1_connection.specs.Incoming.{is_coming_in, IsFoundIn}
 use Rattle.h1_connection.specs.Stock.{Stock, IsFoundOf}
-use Rattle.h1_connection.specs.Meaning.{setting_of}
+use Rattle.h1_connection.specs.EventMeaning.{setting_of}
 use Rattle.h1_connection.specs.Parts.{kept_of, passed_by, leaves_body, HasNoneBehind, MayBeSearched, IsNoted, IsSound, IsSearchedFor, IsSettled, Steps}
 use Rattle.h1_connection.specs.declared.connection.clock.Clock.{Clock}
 use Rattle.h1_connection.specs.declared.connection.exchange.Exchange.{Exchange}

@@ -16,7 +16,7 @@ use Rattle.model_state.specs.Local.{closing_by}
 use Rattle.model_state.specs.Clock.{expiring, at_moment}
 use Rattle.model_state.specs.Change.{noting_since}
 use Rattle.h1_connection.specs.Stock.{Stock, IsFoundOf}
-use Rattle.h1_connection.specs.Meaning.{setting_of, end_of}
+use Rattle.h1_connection.specs.EventMeaning.{setting_of, end_of}
 use Rattle.h1_connection.specs.Parts.{kept_of, leaves_body, HasNoneBehind, MayBeSearched, IsSound, Steps}
 use Rattle.h1_connection.specs.Ticks.{expiry_of}
 use Rattle.h1_connection.specs.declared.connection.clock.Clock.{Clock}

@@ -11,7 +11,7 @@ use Rattle.model_state.specs.Pull.{IsPull}
 use Rattle.h1_payload.specs.Rests.{IsLight}
 use Rattle.ws_frames.specs.Codec.{frame_says, IsNamed}
 use Rattle.h1_connection.specs.Stock.{Stock}
-use Rattle.h1_connection.specs.Meaning.{failing_of, SaysRule}
+use Rattle.h1_connection.specs.EventMeaning.{failing_of, SaysRule}
 use Rattle.h1_connection.specs.declared.connection.exchange.Exchange.{Exchange}
 use Rattle.h1_connection.specs.declared.connection.frames.Accepted.{Accepted}
 use Rattle.h1_connection.specs.declared.connection.frames.Accepted.TheVariants as accepted

@@ -12,7 +12,7 @@ use Rattle.model_state.specs.Local.{closing_by}
 use Rattle.model_state.specs.Change.{behind_head}
 use Rattle.h1_decoder.specs.HeadItem.{SaysHead, without_headers}
 use Rattle.h1_decoder.specs.declared.decoder.HeadItem.{HeadItem}
-use Rattle.h1_connection.specs.Meaning.{end_of, fault_of, failing_of}
+use Rattle.h1_connection.specs.EventMeaning.{end_of, fault_of, failing_of}
 use Rattle.h1_connection.specs.Parts.{key_bytes, Steps}
 use Rattle.h1_connection.specs.Stock.{CountsOn}
 use Rattle.h1_connection.specs.declared.connection.exchange.Exchange.{Exchange}

@@ -1,4 +1,4 @@
-pub mod Meaning
+pub mod EventMeaning
 pub mod Scan
 pub mod Incoming
 pub mod Ahead

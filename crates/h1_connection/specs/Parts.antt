@@ -14,7 +14,7 @@ use Rattle.model_state.specs.Body.{Passed, pass_rest}
 use Rattle.model_state.specs.Change.{noting_since, IsStep}
 use Rattle.h1_connection.specs.Incoming.{is_coming_in}
 use Rattle.h1_connection.specs.Stock.{IsFoundOf}
-use Rattle.h1_connection.specs.Meaning.{setting_of, end_of, failing_of}
+use Rattle.h1_connection.specs.EventMeaning.{setting_of, end_of, failing_of}
 use Rattle.h1_connection.specs.declared.connection.clock.Clock.{Clock}
 use Rattle.h1_connection.specs.declared.connection.exchange.Exchange.{Exchange}
 use Rattle.h1_connection.specs.declared.connection.exchange.Reply.{Reply}

@@ -12,7 +12,7 @@ use Rattle.model_h1.specs.Closing.{closing}
 use Rattle.model_h1.specs.Trace as traces
 use Rattle.model_h1.specs.Trace.{IsTrace, IsPastOf}
 use Rattle.model_h1.specs.Laws.Runs as runs
-use Rattle.h1_connection.specs.Meaning.{setting_of, event_of, end_of, SaysOutcome}
+use Rattle.h1_connection.specs.EventMeaning.{setting_of, event_of, end_of, SaysOutcome}
 use Rattle.h1_connection.specs.declared.error.DriveError.{DriveError}
 use Rattle.h1_connection.specs.declared.error.DriveError.TheVariants.{Misplaced, NoMemory}
 use Rattle.h1_connection.specs.declared.event.Event.{Event}

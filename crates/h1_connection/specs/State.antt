@@ -10,7 +10,7 @@ use Rattle.model_state.specs.Local.{allowed_by}
 use Rattle.model_state.specs.StandsFor.{StandsFor}
 use Rattle.model_state.specs.Marks.{buffered_runs}
 use Rattle.model_state.specs.Ahead.{IsAhead}
-use Rattle.h1_connection.specs.Meaning.{setting_of}
+use Rattle.h1_connection.specs.EventMeaning.{setting_of}
 use Rattle.h1_connection.specs.Heads.{NeedsNoMemory}
 use Rattle.h1_connection.specs.Given.{next_allowed, frame_allowed}
 use Rattle.h1_connection.specs.Frames.{is_refused, sends_nothing}

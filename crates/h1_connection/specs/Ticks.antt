@@ -5,7 +5,7 @@ use Rattle.model_h1.specs.Event as on
 use Rattle.model_state.specs.Kept.{Kept}
 use Rattle.model_state.specs.Local.{closing_by}
 use Rattle.model_state.specs.Clock.{is_slow}
-use Rattle.h1_connection.specs.Meaning.{end_of}
+use Rattle.h1_connection.specs.EventMeaning.{end_of}
 use Rattle.h1_connection.specs.declared.connection.ticks.Expiry.{Expiry}
 use Rattle.h1_connection.specs.declared.connection.ticks.Expiry.TheVariants as expiry
 

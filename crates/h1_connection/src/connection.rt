@@ -17,7 +17,7 @@ ghost use Rattle.model_state.specs.Ahead.{IsAhead};
 ghost use Rattle.model_state.specs.Runs.{first_segment, IsFirstSegment};
 ghost use Rattle.model_state.specs.Marks.{front_of};
 ghost use Rattle.h1_payload.specs.Rests.{SaysPulled};
-ghost use Rattle.h1_connection.specs.Meaning.{setting_of, event_of, end_of};
+ghost use Rattle.h1_connection.specs.EventMeaning.{setting_of, event_of, end_of};
 ghost use Rattle.h1_connection.specs.Heads.{SaysNext, NeedsNoMemory, with_head, KeepsItem, LosesAtMostHeaders};
 ghost use Rattle.ws_frames.specs.Sent.{message_says};
 ghost use Rattle.h1_connection.specs.Frames.{accepted_of, is_done, is_refused, SaysFrame, IsPulledNamed, SaysSent, sends_nothing};

@@ -1,7 +1,7 @@
 //! A connection's answers to a list of events.
 ghost use Rattle.std.specs.Prelude.{◌≡◌, ◌≤◌, ℕ, length, vec_len, option_map, IfOk, IfErr, OnOk};
 ghost use Rattle.model_state.specs.Local.{closing_by};
-ghost use Rattle.h1_connection.specs.Meaning.{setting_of, end_of};
+ghost use Rattle.h1_connection.specs.EventMeaning.{setting_of, end_of};
 ghost use Rattle.h1_connection.specs.Run.{IsWhole, IsStop, AreAllowed, IsFirstRefused, AnswersAll, RefusesAt};
 ghost use Rattle.h1_connection.specs.Steps.{paired, Notes};
 

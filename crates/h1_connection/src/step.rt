@@ -2,7 +2,7 @@
 ghost use Rattle.std.specs.Prelude.{◌≡◌, IfOk, IsOk, OnErr};
 ghost use Rattle.model_h1.specs.Event as on;
 ghost use Rattle.h1_payload.specs.Rests.{SaysPulled};
-ghost use Rattle.h1_connection.specs.Meaning.{event_of, SaysOutcome};
+ghost use Rattle.h1_connection.specs.EventMeaning.{event_of, SaysOutcome};
 ghost use Rattle.h1_connection.specs.Frames.{accepted_of, SaysFrame, IsPulledNamed, SaysSent};
 ghost use Rattle.h1_connection.specs.Heads.{SaysNext};
 ghost use Rattle.h1_connection.specs.Pulls.{IsLightPull};

@@ -9,7 +9,7 @@ use Rattle.model_h1.specs.Event as on
 use Rattle.h1_dispatcher.specs.View.{View, Asking, Stage, free, waiting, calling, replying, sending, is_sending, is_replying, closes, has_write_room, asks_next, allows_answer, is_held, allows_chunk}
 use Rattle.h1_dispatcher.specs.Steps.{Step, IsStep, IsRun, ticked, drained, shut, failed, asked_to_drain}
 use Rattle.h1_dispatcher.specs.Traces.{IsNoted, AllNoted}
-use Rattle.h1_dispatcher.specs.Polls.{EndsWith, IsShut, IsIo, IsStuck, IsHeld, IsIdle, Reads, Feeds, Writes, Serves, Sends, Asks, Awaits, Looks, Ended, GoesOn, Ticks, Drains, IsBegun, BeginFails, TurnsSay, PollRuns, PollSays}
+use Rattle.h1_dispatcher.specs.Polls.{EndsWith, IsShut, IsIo, IsStuck, IsHeld, IsIdle, ReadsNothing, Feeds, Writes, Serves, Sends, Asks, Awaits, Looks, Ended, GoesOn, Ticks, Drains, IsBegun, BeginFails, TurnsSay, PollRuns, PollSays}
 use Rattle.h1_dispatcher.specs.Acts.{Act, polled, asked, ActSays, ActsSay, HasMemory, AreOneRun}
 use Rattle.h1_dispatcher.specs.Replies.{HasNoReply, HandsOn}
 use Rattle.h1_dispatcher.proofs.Traces.{run_follows}
@@ -94,7 +94,7 @@ feeds_quiet u feeding (inl is) = subst (λ l. AllQuiet l) (sym is) (tt, tt)
 feeds_quiet u feeding (inr (inl is)) = subst (λ l. AllQuiet l) (sym is) (tt, tt)
 feeds_quiet u feeding (inr (inr is)) = subst (λ l. AllQuiet l) (sym is.0) tt
 
-reads_quiet : (x : View) (reading : List Step) → Reads x reading → AllQuiet reading
+reads_quiet : (x : View) (reading : List Step) → ReadsNothing x reading → AllQuiet reading
 reads_quiet x reading (inl is) = subst (λ l. AllQuiet l) (sym is) (tt, tt)
 reads_quiet x reading (inr is) = subst (λ l. AllQuiet l) (sym is.0) tt
 

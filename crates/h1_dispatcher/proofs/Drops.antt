@@ -9,7 +9,7 @@ use Rattle.model_state.specs.Kept.{Rest, no_rest, raw_rest, fixed_rest, chunks_r
 use Rattle.model_state.specs.Local.{closing_by, allowed_by}
 use Rattle.model_state.specs.Change.{doing_with, noting_since}
 use Rattle.model_state.specs.Change.{IsStep as Machine}
-use Rattle.h1_connection.specs.Meaning.{setting_of}
+use Rattle.h1_connection.specs.EventMeaning.{setting_of}
 use Rattle.h1_dispatcher.specs.View.{any_answer}
 
 -- the parts after it, as a step leaves them

@@ -17,7 +17,7 @@ use Rattle.model_state.specs.Clock.{is_abandoned, is_slow, is_idle, expiring, ti
 use Rattle.model_state.specs.Change.{IsNext}
 use Rattle.model_state.specs.Change.{IsStep as Machine}
 use Rattle.h1_connection.specs.Heads.{SaysNext}
-use Rattle.h1_connection.specs.Meaning.{setting_of, end_of}
+use Rattle.h1_connection.specs.EventMeaning.{setting_of, end_of}
 use Rattle.h1_connection.specs.State.{Is}
 use Rattle.h1_connection.specs.Ticks.{expiry_of}
 use Rattle.h1_traced.specs.Traced.{TracedView, TracedStands}

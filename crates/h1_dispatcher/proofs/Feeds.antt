@@ -25,7 +25,7 @@ use Rattle.model_state.specs.Change.{IsPulling}
 use Rattle.h1_payload.specs.Rests.{SaysPulled}
 use Rattle.h1_payload.specs.declared.pulled.Pulled.{Pulled}
 use Rattle.h1_payload.specs.declared.pulled.Pulled.TheVariants as pieces
-use Rattle.h1_connection.specs.Meaning.{setting_of}
+use Rattle.h1_connection.specs.EventMeaning.{setting_of}
 use Rattle.h1_connection.specs.declared.connection.heads.NextHead.{NextHead}
 use Rattle.h1_connection.specs.declared.connection.heads.NextHead.TheVariants as next_head
 use Rattle.h1_traced.specs.Traced.{TracedView, TracedStands}

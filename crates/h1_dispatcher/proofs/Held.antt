@@ -7,7 +7,7 @@ use Rattle.model_h1.specs.Setting.{Setting}
 use Rattle.model_state.specs.Kept.{Exchange, Kept, Change}
 use Rattle.model_state.specs.Change.{accepting, accepting_with}
 use Rattle.model_state.specs.Change.{IsStep as Machine}
-use Rattle.h1_connection.specs.Meaning.{setting_of, SaysOutcome}
+use Rattle.h1_connection.specs.EventMeaning.{setting_of, SaysOutcome}
 use Rattle.h1_connection.specs.State.{Is}
 use Rattle.h1_connection.specs.declared.event.Outcome.{Outcome}
 use Rattle.h1_connection.specs.declared.event.Outcome.TheVariants as outcomes

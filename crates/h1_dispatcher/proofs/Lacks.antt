@@ -9,7 +9,7 @@ use Rattle.http_bodies.proofs.Histories.{grown-none}
 use Rattle.model_h1.specs.Event as on
 use Rattle.model_h1.specs.Sums as sums
 use Rattle.model_h1.specs.Trace.{IsTrace}
-use Rattle.h1_connection.specs.Meaning.{setting_of}
+use Rattle.h1_connection.specs.EventMeaning.{setting_of}
 use Rattle.h1_connection.specs.Steps.{Pair}
 use Rattle.h1_traced.specs.Traced.{TracedView, SaysNoted, TracedStands}
 use Rattle.h1_dispatcher.specs.View.{View}

@@ -12,7 +12,7 @@ use Rattle.model_state.specs.Kept.{Kept, Change}
 use Rattle.model_state.specs.Local.{closing_by}
 use Rattle.model_state.specs.Change.{behind_head, without_head, IsUpcoming, IsNext}
 use Rattle.h1_connection.specs.Heads.{SaysNext}
-use Rattle.h1_connection.specs.Meaning.{setting_of}
+use Rattle.h1_connection.specs.EventMeaning.{setting_of}
 use Rattle.h1_connection.specs.declared.connection.heads.NextHead.{NextHead}
 use Rattle.h1_connection.specs.declared.connection.heads.NextHead.TheVariants as next_head
 use Rattle.h1_traced.specs.Traced.{TracedStands}

@@ -32,7 +32,7 @@ use Rattle.model_state.specs.Change.{IsStep as Machine}
 use Rattle.h1_payload.specs.Rests.{SaysPulled}
 use Rattle.h1_encoder.specs.Meaning.{answer_of, size_of}
 use Rattle.h1_connection.specs.Heads.{SaysNext}
-use Rattle.h1_connection.specs.Meaning.{setting_of, end_of}
+use Rattle.h1_connection.specs.EventMeaning.{setting_of, end_of}
 use Rattle.h1_connection.specs.State.{Is}
 use Rattle.h1_connection.specs.Ticks.{expiry_of}
 use Rattle.h1_connection.specs.declared.connection.heads.NextHead.{NextHead}

@@ -15,15 +15,15 @@ use Rattle.model_h1.specs.Sums as sums
 use Rattle.model_state.specs.Kept.{Kept, is_open}
 use Rattle.model_state.specs.Local.{closing_by, allowed_by}
 use Rattle.h1_connection.specs.Given.{next_allowed}
-use Rattle.h1_connection.specs.Meaning.{setting_of, end_of}
+use Rattle.h1_connection.specs.EventMeaning.{setting_of, end_of}
 use Rattle.h1_connection.specs.declared.connection.heads.NextHead.TheVariants as next_head
 use Rattle.h1_connection.specs.declared.event.End.{End}
 use Rattle.h1_connection.specs.declared.event.End.TheVariants as ends
 use Rattle.h1_traced.specs.Traced.{TracedView, TracedStands}
 use Rattle.http_types.specs.declared.error.DispatchError.{DispatchError}
 use Rattle.h1_dispatcher.specs.declared.dispatcher.Ending.TheVariants.{Closed}
-use Rattle.h1_dispatcher.specs.declared.dispatcher.Turn.{Turn}
-use Rattle.h1_dispatcher.specs.declared.dispatcher.Turn.TheVariants.{Counted, Idle, Over}
+use Rattle.h1_dispatcher.specs.declared.dispatcher.DispatcherTurn.{DispatcherTurn}
+use Rattle.h1_dispatcher.specs.declared.dispatcher.DispatcherTurn.TheVariants.{Counted, Idle, Over}
 use Rattle.h1_dispatcher.specs.View.{View, Asking, Stage, free, waiting, calling, replying, sending, is_busy, is_waiting, is_calling, is_awaiting, is_sending, allows_chunk, closes, allows, allows_next, has_write_room, asks_next, allows_answer, is_held, awaits_body, buffered, HasNoByte, HasNoOutput, HasNoInput}
 use Rattle.h1_dispatcher.specs.Steps.{Step, IsStep, written, shut, next, ready, called, answered, sent}
 use Rattle.h1_dispatcher.specs.Polls.{Continues, IsShut, Ended, result_of, counts, Asks, Awaits, Looks, Sends, Serves, Feeds, IsHeld, GoesOn, Ends, WritesFirst, TurnSays, ServeSays, AfterSays, EndSays, StepSays, Handed, ReadingSays, FeedingSays, TurnsSay}
@@ -64,7 +64,7 @@ shut_over v w end result is ending step =
 -- ---- one step before what follows
 
 -- an answer of the service, which is handed on
-pub step_then : (most : ℕ) → 3 ≤ most → (v u w : View) (d : Step) (turn : Turn) → IsStep v d u → Continues d → u.traced ≡ v.traced → EndSays 2 u w turn
+pub step_then : (most : ℕ) → 3 ≤ most → (v u w : View) (d : Step) (turn : DispatcherTurn) → IsStep v d u → Continues d → u.traced ≡ v.traced → EndSays 2 u w turn
     → ((trace : List sums.Step) → TracedStands u.traced trace → Handed w turn) → ServeSays most v w turn
 step_then most fits v u w d Counted is goes same says handed = record {
   steps = d ∷ says.steps;
@@ -83,7 +83,7 @@ step_then most fits v u w d (Over result) is goes same says handed = record {
   handed = λ trace stands none. inl (handed trace (subst (λ (l : TracedView). TracedStands l trace) (sym same) stands));
 }
 
-pub drop_then : (v u w : View) (d : Step) (turn : Turn) → IsStep v d u → Quiet d → 1 ≤ counts d → StepSays u w turn → EndSays 2 v w turn
+pub drop_then : (v u w : View) (d : Step) (turn : DispatcherTurn) → IsStep v d u → Quiet d → 1 ≤ counts d → StepSays u w turn → EndSays 2 v w turn
 drop_then v u w d Counted is goes one says = goes_after v u w 1 0 1 (omega arith) 1 1 2 (omega arith) (goes_by 1 (omega arith) v u d 1 is goes one) says
 drop_then v u w d Idle is goes one says = absurd says
 drop_then v u w d (Over result) is goes one says = ends_after v u w 0 result 1 1 2 (omega arith) (goes_by 1 (omega arith) v u d 0 is goes (omega arith)) says
@@ -91,28 +91,28 @@ drop_then v u w d (Over result) is goes one says = ends_after v u w 0 result 1 1
 less : (v w : View) → GoesOn v w 1 1 → GoesOn v w 0 1
 less v w g = record { steps = g.steps; run = g.run; go_on = g.go_on; enough = omega arith; few = g.few; handed = g.handed }
 
-pub left_step : (v w : View) (turn : Turn) → EndSays 1 v w turn → StepSays v w turn
+pub left_step : (v w : View) (turn : DispatcherTurn) → EndSays 1 v w turn → StepSays v w turn
 left_step v w Counted says = less v w says
 left_step v w Idle says = absurd says
 left_step v w (Over result) says = says
 
-pub more_end : (v w : View) (turn : Turn) → EndSays 1 v w turn → EndSays 2 v w turn
+pub more_end : (v w : View) (turn : DispatcherTurn) → EndSays 1 v w turn → EndSays 2 v w turn
 more_end v w Counted says = more_goes v w 1 1 2 (omega arith) says
 more_end v w Idle says = absurd says
 more_end v w (Over result) says = more_ends v w result 1 2 (omega arith) says
 
-pub only_end : (v w : View) (turn : Turn) → EndSays 2 v w turn → ServeSays 4 v w turn
+pub only_end : (v w : View) (turn : DispatcherTurn) → EndSays 2 v w turn → ServeSays 4 v w turn
 only_end v w Counted says = more_goes v w 1 2 4 (omega arith) says
 only_end v w Idle says = absurd says
 only_end v w (Over result) says = more_ends v w result 2 4 (omega arith) says
 
-pub more_serve : (v w : View) (turn : Turn) → ServeSays 3 v w turn → ServeSays 4 v w turn
+pub more_serve : (v w : View) (turn : DispatcherTurn) → ServeSays 3 v w turn → ServeSays 4 v w turn
 more_serve v w Counted says = more_goes v w 1 3 4 (omega arith) says
 more_serve v w Idle says = says
 more_serve v w (Over result) says = more_ends v w result 3 4 (omega arith) says
 
 -- what was pending, and then the input, where no body of a request may come
-pub pending_then : (most : ℕ) → 2 ≤ most → (v u w : View) (d : Step) (turn : Turn) → IsStep v d u → Quiet d → awaits_body u ≡ false → Serves v (is_sending v.stage) (allows_answer v) (d ∷ [])
+pub pending_then : (most : ℕ) → 2 ≤ most → (v u w : View) (d : Step) (turn : DispatcherTurn) → IsStep v d u → Quiet d → awaits_body u ≡ false → Serves v (is_sending v.stage) (allows_answer v) (d ∷ [])
     → ReadingSays u w turn → ServeSays most v w turn
 pending_then most fits v u w d Counted is goes none waits says = goes_after v u w 0 1 1 (omega arith) 1 1 most (omega (arith, fits)) (goes_by 1 (omega arith) v u d 0 is goes (omega arith)) says
 pending_then most fits v u w d Idle is goes none waits says =
@@ -132,7 +132,7 @@ pending_then most fits v u w d Idle is goes none waits says =
 pending_then most fits v u w d (Over result) is goes none waits says = ends_after v u w 0 result 1 1 most (omega (arith, fits)) (goes_by 1 (omega arith) v u d 0 is goes (omega arith)) says
 
 -- and then the body of a request, and the input
-pub feed_then : (most : ℕ) → 3 ≤ most → (v u w : View) (d : Step) (turn : Turn) → IsStep v d u → Quiet d → Serves v (is_sending v.stage) (allows_answer v) (d ∷ []) → FeedingSays u w turn
+pub feed_then : (most : ℕ) → 3 ≤ most → (v u w : View) (d : Step) (turn : DispatcherTurn) → IsStep v d u → Quiet d → Serves v (is_sending v.stage) (allows_answer v) (d ∷ []) → FeedingSays u w turn
     → ServeSays most v w turn
 feed_then most fits v u w d Counted is goes waits says = goes_after v u w 0 1 1 (omega arith) 1 2 most (omega (arith, fits)) (goes_by 1 (omega arith) v u d 0 is goes (omega arith)) says
 feed_then most fits v u w d Idle is goes waits says =
@@ -152,7 +152,7 @@ feed_then most fits v u w d Idle is goes waits says =
 feed_then most fits v u w d (Over result) is goes waits says = ends_after v u w 0 result 1 2 most (omega (arith, fits)) (goes_by 1 (omega arith) v u d 0 is goes (omega arith)) says
 
 -- the input alone
-pub input_then : (v w : View) (turn : Turn) → awaits_body v ≡ false → Serves v (is_sending v.stage) (allows_answer v) [] → ReadingSays v w turn → ServeSays 4 v w turn
+pub input_then : (v w : View) (turn : DispatcherTurn) → awaits_body v ≡ false → Serves v (is_sending v.stage) (allows_answer v) [] → ReadingSays v w turn → ServeSays 4 v w turn
 input_then v w Counted none waits says = more_goes v w 1 1 4 (omega arith) says
 input_then v w Idle none waits says =
     record {
@@ -173,7 +173,7 @@ input_then v w (Over result) none waits says = more_ends v w result 1 4 (omega a
 -- ---- the body of a request
 
 -- where none of the request's answer was tried
-pub fed_then : (v w : View) (turn : Turn) → Serves v (is_sending v.stage) (allows_answer v) [] → FeedingSays v w turn → ServeSays 4 v w turn
+pub fed_then : (v w : View) (turn : DispatcherTurn) → Serves v (is_sending v.stage) (allows_answer v) [] → FeedingSays v w turn → ServeSays 4 v w turn
 fed_then v w Counted waits says = more_goes v w 1 2 4 (omega arith) says
 fed_then v w Idle waits says =
     record {
@@ -192,21 +192,21 @@ fed_then v w Idle waits says =
 fed_then v w (Over result) waits says = more_ends v w result 2 4 (omega arith) says
 
 -- none comes, or nobody wants it
-pub unfed_then : (v w : View) (turn : Turn) → (awaits_body v ≡ false) ⊎ ((status_of v.queue ≡ status.Dropped) ⊎ (is_held v ≡ true)) → ReadingSays v w turn → FeedingSays v w turn
+pub unfed_then : (v w : View) (turn : DispatcherTurn) → (awaits_body v ≡ false) ⊎ ((status_of v.queue ≡ status.Dropped) ⊎ (is_held v ≡ true)) → ReadingSays v w turn → FeedingSays v w turn
 unfed_then v w Counted none says = more_goes v w 1 1 2 (omega arith) says
 unfed_then v w Idle none says =
     record { feeding = []; fed = v; feeds = refl; reading = says.reading; reads = says.reads; no_body = inr (inr (refl, none)); no_input = says.no_input }
 unfed_then v w (Over result) none says = more_ends v w result 1 2 (omega arith) says
 
 -- it was pending, or its queue was
-pub waited_then : (v u w : View) (d : Step) (turn : Turn) → IsStep v d u → Quiet d → Feeds v (d ∷ []) → ReadingSays u w turn → FeedingSays v w turn
+pub waited_then : (v u w : View) (d : Step) (turn : DispatcherTurn) → IsStep v d u → Quiet d → Feeds v (d ∷ []) → ReadingSays u w turn → FeedingSays v w turn
 waited_then v u w d Counted is goes waits says = goes_after v u w 0 1 1 (omega arith) 1 1 2 (omega arith) (goes_by 1 (omega arith) v u d 0 is goes (omega arith)) says
 waited_then v u w d Idle is goes waits says =
     record { feeding = d ∷ []; fed = u; feeds = one v u d is; reading = says.reading; reads = says.reads; no_body = waits; no_input = says.no_input }
 waited_then v u w d (Over result) is goes waits says = ends_after v u w 0 result 1 1 2 (omega arith) (goes_by 1 (omega arith) v u d 0 is goes (omega arith)) says
 
 -- nothing of a request that is held back is asked for
-pub held_then : (v w : View) (turn : Turn) → is_held v ≡ true → Serves v (is_sending v.stage) (allows_answer v) [] → ReadingSays v w turn → ServeSays 4 v w turn
+pub held_then : (v w : View) (turn : DispatcherTurn) → is_held v ≡ true → Serves v (is_sending v.stage) (allows_answer v) [] → ReadingSays v w turn → ServeSays 4 v w turn
 held_then v w turn held waits says = fed_then v w turn waits (unfed_then v w turn (inr (inr held)) says)
 
 -- ---- how far the last request is
@@ -369,7 +369,7 @@ awaits_called s held room request served is unheld some so =
     subst (λ x. Awaits x held room (called request ∷ served)) (sym is)
     (subst (λ h. Asks h room request (called request ∷ served)) (sym unheld) (subst (λ b. Asks false b request (called request ∷ served)) (sym some) (inr (ap (λ l. called request ∷ l) so))))
 
-pub called_then : (v u w : View) (request : Asking) (took : Option Took) (turn : Turn) → IsStep v (called request) u → allows_answer v ≡ true → has_write_room v ≡ true → is_held v ≡ false → allows_answer u ≡ true
+pub called_then : (v u w : View) (request : Asking) (took : Option Took) (turn : DispatcherTurn) → IsStep v (called request) u → allows_answer v ≡ true → has_write_room v ≡ true → is_held v ≡ false → allows_answer u ≡ true
     → v.stage ≡ waiting request → u.stage ≡ calling took → ServeSays 3 u w turn → ServeSays 4 v w turn
 called_then v u w request took Counted is may some unheld allowed waits now says = goes_after v u w 0 1 1 (omega arith) 1 3 4 (omega arith) (goes_by 1 (omega arith) v u (called request) 0 is tt (omega arith)) says
 called_then v u w request took Idle is may some unheld allowed waits now says =
@@ -391,23 +391,23 @@ called_then v u w request took (Over result) is may some unheld allowed waits no
 
 -- ---- after the writing
 
-pub open_then : (v w : View) (turn : Turn) → closes v ≡ false → ServeSays 4 v w turn → AfterSays v w turn
+pub open_then : (v w : View) (turn : DispatcherTurn) → closes v ≡ false → ServeSays 4 v w turn → AfterSays v w turn
 open_then v w Counted so says = says
 open_then v w Idle so says = inr (so, says)
 open_then v w (Over result) so says = says
 
-pub end_then : (v w : View) (turn : Turn) → EndSays 1 v w turn → AfterSays v w turn
+pub end_then : (v w : View) (turn : DispatcherTurn) → EndSays 1 v w turn → AfterSays v w turn
 end_then v w Counted says = more_goes v w 1 1 4 (omega arith) says
 end_then v w Idle says = absurd says
 end_then v w (Over result) says = more_ends v w result 1 4 (omega arith) says
 
-pub quiet_then : (v w : View) (turn : Turn) → v.ending ≡ None → HasNoOutput v → AfterSays v w turn → TurnSays v w turn
+pub quiet_then : (v w : View) (turn : DispatcherTurn) → v.ending ≡ None → HasNoOutput v → AfterSays v w turn → TurnSays v w turn
 quiet_then v w Counted running none says = (more_goes v w 1 4 5 (omega arith) says, inl none)
 quiet_then v w Idle running none says =
     inl (record { running = running; writing = []; after = v; writes = refl; no_output = inr (refl, none); waits = says })
 quiet_then v w (Over result) running none says = more_ends v w result 4 5 (omega arith) says
 
-pub written_then : (v u w : View) (turn : Turn) → v.ending ≡ None → IsStep v (written Pending) u → AfterSays u w turn → TurnSays v w turn
+pub written_then : (v u w : View) (turn : DispatcherTurn) → v.ending ≡ None → IsStep v (written Pending) u → AfterSays u w turn → TurnSays v w turn
 written_then v u w Counted running is says = (
   record {
     steps = written Pending ∷ says.steps;
@@ -484,10 +484,10 @@ turns_on v u w n turns says = record {
 
 -- ---- nothing to be done
 
-pub held_idle : (v : View) (turn : Turn) → turn ≡ Idle → IsHeld v v → AfterSays v v turn
+pub held_idle : (v : View) (turn : DispatcherTurn) → turn ≡ Idle → IsHeld v v → AfterSays v v turn
 held_idle v turn is held = subst (λ t. AfterSays v v t) (sym is) (inl held)
 
-pub nothing_read : (v : View) (turn : Turn) → turn ≡ Idle → HasNoInput v → ReadingSays v v turn
+pub nothing_read : (v : View) (turn : DispatcherTurn) → turn ≡ Idle → HasNoInput v → ReadingSays v v turn
 nothing_read v turn is none = subst (λ t. ReadingSays v v t) (sym is) (record { reading = []; reads = refl; no_input = inr (refl, none) })
 
 -- ---- closing

@@ -2,7 +2,7 @@
 use Rattle.std.specs.Prelude.{◌≡◌, List, true, false}
 use Rattle.model_h1.specs.Sums as sums
 use Rattle.model_state.specs.Local.{waits_for_answer, is_answering, has_room}
-use Rattle.h1_connection.specs.Meaning.{setting_of}
+use Rattle.h1_connection.specs.EventMeaning.{setting_of}
 use Rattle.h1_traced.specs.Traced.{TracedStands}
 use Rattle.h1_dispatcher.specs.View.{View, is_unanswered, is_sending, closes, allows_answer, allows_chunk}
 

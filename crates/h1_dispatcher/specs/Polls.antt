@@ -22,8 +22,8 @@ use Rattle.h1_connection.specs.declared.connection.ticks.Expiry.{Expiry}
 use Rattle.h1_connection.specs.declared.event.End.{End}
 use Rattle.h1_connection.specs.declared.event.End.TheVariants as ends
 use Rattle.h1_dispatcher.specs.declared.dispatcher.Ending.TheVariants.{Closed, Abandoned, Broken}
-use Rattle.h1_dispatcher.specs.declared.dispatcher.Turn.{Turn}
-use Rattle.h1_dispatcher.specs.declared.dispatcher.Turn.TheVariants.{Counted, Idle, Over}
+use Rattle.h1_dispatcher.specs.declared.dispatcher.DispatcherTurn.{DispatcherTurn}
+use Rattle.h1_dispatcher.specs.declared.dispatcher.DispatcherTurn.TheVariants.{Counted, Idle, Over}
 use Rattle.h1_dispatcher.specs.View.{View, Asking, Stage, free, waiting, calling, replying, sending, is_sending, is_broken, closes, allows, allows_next, has_write_room, asks_next, allows_answer, is_held, awaits_body, allows_chunk, HasNoByte, HasNoOutput, HasNoInput}
 use Rattle.h1_dispatcher.specs.Steps.{Step, IsStep, IsRun, ticked, drained, written, read, shut, next, closed, continued, ready, called, answered, pulled, paused, dropped, replied, sent, failed, failed_write, failed_read, failed_fed, failed_sent, asked_to_drain, asked_to_hold, declined, let_on, turned_away, refused}
 use Rattle.h1_dispatcher.specs.Replies.{HasNoReply, HandsOn}
@@ -221,8 +221,8 @@ Feeds u feeding =
     ⊎ ((feeding ≡ paused ∷ []) ⊎ ((feeding ≡ []) × ((awaits_body u ≡ false) ⊎ ((status_of u.queue ≡ status.Dropped) ⊎ (is_held u ≡ true)))))
 
 -- the transport had no bytes, or none may be read
-abbrev pub Reads : View → List Step → Type 0
-Reads x reading =
+abbrev pub ReadsNothing : View → List Step → Type 0
+ReadsNothing x reading =
     (reading ≡ read [] Pending ∷ []) ⊎ ((reading ≡ []) × HasNoInput x)
 
 -- Nothing more can be done for the requests and the input of a connection that doesn't close. What was tried was pending,
@@ -238,7 +238,7 @@ pub record IsIdle (v w : View) : Type 0 where
   pub reads : IsRun fed reading w
   pub waits : Serves v (is_sending v.stage) (allows_answer v) served
   pub no_body : Feeds between feeding
-  pub no_input : Reads fed reading
+  pub no_input : ReadsNothing fed reading
 
 -- The connection closes, and its end may not be told: what is left waits to be written.
 pub record IsHeld (v w : View) : Type 0 where
@@ -294,37 +294,37 @@ WritesFirst v steps = HasNoOutput v ⊎ ((answer : Poll (Result ℕ Failed)) × 
 
 -- a turn, of at most five steps: the transport took nothing, a call was begun and answered, a body dropped, the answer handed on;
 -- or the call was pending, and so was the body or its queue, and the input was read
-abbrev pub TurnSays : View → View → Turn → Type 0
+abbrev pub TurnSays : View → View → DispatcherTurn → Type 0
 TurnSays v w Counted = (goes : GoesOn v w 1 5) × WritesFirst v goes.steps
 TurnSays v w Idle = IsStuck v w
 TurnSays v w (Over result) = Ends v w 5 result
 
 -- a turn after the writing, of at most so many steps, where the connection doesn't close
-abbrev pub ServeSays : ℕ → View → View → Turn → Type 0
+abbrev pub ServeSays : ℕ → View → View → DispatcherTurn → Type 0
 ServeSays most v w Counted = GoesOn v w 1 most
 ServeSays most v w Idle = IsIdle v w
 ServeSays most v w (Over result) = Ends v w most result
 
 -- and where it may
-abbrev pub AfterSays : View → View → Turn → Type 0
+abbrev pub AfterSays : View → View → DispatcherTurn → Type 0
 AfterSays v w Counted = GoesOn v w 1 4
 AfterSays v w Idle = IsHeld v w ⊎ ((closes v ≡ false) × IsIdle v w)
 AfterSays v w (Over result) = Ends v w 4 result
 
 -- the last step of a connection that closes
-abbrev pub EndSays : ℕ → View → View → Turn → Type 0
+abbrev pub EndSays : ℕ → View → View → DispatcherTurn → Type 0
 EndSays most v w Counted = GoesOn v w 1 most
 EndSays most v w Idle = ⊥
 EndSays most v w (Over result) = Ends v w most result
 
 -- the same, of a step that may be left to the next turn
-abbrev pub StepSays : View → View → Turn → Type 0
+abbrev pub StepSays : View → View → DispatcherTurn → Type 0
 StepSays v w Counted = GoesOn v w 0 1
 StepSays v w Idle = ⊥
 StepSays v w (Over result) = Ends v w 1 result
 
 -- the answer that was at hand was handed on, or memory ran out
-abbrev pub Handed : View → Turn → Type 0
+abbrev pub Handed : View → DispatcherTurn → Type 0
 Handed w Counted = HasNoReply w
 Handed w Idle = ⊥
 Handed w (Over result) = result ≡ Err error.NoMemory
@@ -333,9 +333,9 @@ Handed w (Over result) = result ≡ Err error.NoMemory
 pub record IsReadIdle (v w : View) : Type 0 where
   pub reading : List Step
   pub reads : IsRun v reading w
-  pub no_input : Reads v reading
+  pub no_input : ReadsNothing v reading
 
-abbrev pub ReadingSays : View → View → Turn → Type 0
+abbrev pub ReadingSays : View → View → DispatcherTurn → Type 0
 ReadingSays v w Counted = GoesOn v w 1 1
 ReadingSays v w Idle = IsReadIdle v w
 ReadingSays v w (Over result) = Ends v w 1 result
@@ -348,15 +348,15 @@ pub record IsFeedIdle (v w : View) : Type 0 where
   pub reading : List Step
   pub reads : IsRun fed reading w
   pub no_body : Feeds v feeding
-  pub no_input : Reads fed reading
+  pub no_input : ReadsNothing fed reading
 
-abbrev pub FeedingSays : View → View → Turn → Type 0
+abbrev pub FeedingSays : View → View → DispatcherTurn → Type 0
 FeedingSays v w Counted = GoesOn v w 1 2
 FeedingSays v w Idle = IsFeedIdle v w
 FeedingSays v w (Over result) = Ends v w 2 result
 
 -- this holds where nothing more can be done
-abbrev pub OnIdle : Turn → Type 0 → Type 0
+abbrev pub OnIdle : DispatcherTurn → Type 0 → Type 0
 OnIdle Counted P = ⊤
 OnIdle Idle P = P
 OnIdle (Over result) P = ⊤

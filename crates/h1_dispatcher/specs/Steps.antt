@@ -29,7 +29,7 @@ use Rattle.model_h1.specs.Event as on
 use Rattle.model_h1.specs.Handshake.{HandshakeError}
 use Rattle.model_state.specs.Local.{closing_by}
 use Rattle.h1_connection.specs.Heads.{SaysNext}
-use Rattle.h1_connection.specs.Meaning.{setting_of, end_of}
+use Rattle.h1_connection.specs.EventMeaning.{setting_of, end_of}
 use Rattle.h1_connection.specs.State.{Is}
 use Rattle.h1_connection.specs.Ticks.{expiry_of}
 use Rattle.h1_connection.specs.declared.connection.heads.NextHead.{NextHead}

@@ -6,7 +6,7 @@ use Rattle.http_services.specs.Serving.{Serving, Calling}
 use Rattle.http_transport.specs.Wiring.{Wiring}
 use Rattle.model_h1.specs.Event as on
 use Rattle.model_h1.specs.Handshake.{HandshakeError}
-use Rattle.h1_connection.specs.Meaning.{failing_of}
+use Rattle.h1_connection.specs.EventMeaning.{failing_of}
 use Rattle.h1_connection.specs.State.{Is}
 use Rattle.h1_connection.specs.Steps.{Pair}
 use Rattle.h1_connection.specs.declared.event.Outcome.{Outcome}

@@ -12,7 +12,7 @@ use Rattle.model_state.specs.Local.{closing_by, allowed_by, has_room}
 use Rattle.model_h1.specs.Answer.{size_none}
 use Rattle.model_h1.specs.Event as on
 use Rattle.h1_connection.specs.Given.{next_allowed}
-use Rattle.h1_connection.specs.Meaning.{setting_of}
+use Rattle.h1_connection.specs.EventMeaning.{setting_of}
 use Rattle.h1_connection.specs.State.{fresh_state}
 use Rattle.h1_connection.specs.Steps.{Pair}
 use Rattle.h1_traced.specs.Traced.{TracedView, traced_of}

@@ -1,7 +1,7 @@
 //! A dispatcher, and what it keeps.
 ghost use Rattle.std.specs.Prelude.{◌≡◌, ◌≤◌, ◌⊎◌, None, Some, []};
 ghost use Rattle.model_state.specs.Deadline.{deadline_by};
-ghost use Rattle.h1_connection.specs.Meaning.{setting_of};
+ghost use Rattle.h1_connection.specs.EventMeaning.{setting_of};
 ghost use Rattle.h1_traced.specs.Traced.{TracedStands};
 ghost use Rattle.http_services.specs.Serving.{Calling};
 ghost use Rattle.h1_dispatcher.specs.View.{Asking, view_of, view_begun, with_drain, parts_of, told_service, stage_of, is_busy, is_waiting, is_sending, MayBePolled};
@@ -204,7 +204,7 @@ where
 
 /// What a turn came to.
 #[derive(Drop)]
-enum Turn {
+enum DispatcherTurn {
     /// A step was noted; another turn may do more.
     Counted,
 

@@ -11,7 +11,7 @@ ghost use Rattle.http_services.specs.Serving.{Serving};
 ghost use Rattle.http_transport.specs.Wiring.{Wiring};
 ghost use Rattle.model_h1.specs.Sums as sums;
 ghost use Rattle.model_state.specs.Local.{has_room};
-ghost use Rattle.h1_connection.specs.Meaning.{setting_of};
+ghost use Rattle.h1_connection.specs.EventMeaning.{setting_of};
 ghost use Rattle.h1_traced.specs.Traced.{TracedStands};
 ghost use Rattle.h1_connection.specs.declared.connection.heads.NextHead.{NextHead};
 ghost use Rattle.h1_connection.specs.declared.connection.heads.NextHead.TheVariants.{Pending};

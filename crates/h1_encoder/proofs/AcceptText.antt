@@ -9,7 +9,7 @@ use Rattle.model_h1.specs.AnswerText.{appended, date_of, date_line, head_text}
 use Rattle.model_h1.specs.Handshake.{accepting_head}
 use Rattle.model_h1.specs.Text.{answer_head_text}
 use Rattle.h1_encoder.specs.DateText.{date_and_end}
-use Rattle.h1_encoder.specs.Lines.{accept_start}
+use Rattle.h1_encoder.specs.WrittenLines.{accept_start}
 use Rattle.h1_encoder.proofs.Pieces.{four}
 
 -- the date line, and the empty line

@@ -8,7 +8,7 @@ use Rattle.model_h1.specs.Request.{ConnectionType}
 use Rattle.model_h1.specs.Answer.{AnswerHead, BodySize, Shape, is_bodiless, is_raw, has_header}
 use Rattle.model_h1.specs.AnswerText.{camel_rest, date_of, date_line, size_line, framing_line, connection_line, header_text, is_sent, by_name, date_line_unless, head_text}
 use Rattle.h1_encoder.specs.DateText.{date_and_end}
-use Rattle.h1_encoder.specs.Lines.{status_words, pairs_text, has_date}
+use Rattle.h1_encoder.specs.WrittenLines.{status_words, pairs_text, has_date}
 use Rattle.h1_encoder.specs.Meaning.{headers_of}
 use Rattle.h1_encoder.proofs.Pieces.{two, three}
 use Rattle.h1_encoder.proofs.HeaderLines.{sent_lines, date_lines}

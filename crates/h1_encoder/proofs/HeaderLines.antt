@@ -12,7 +12,7 @@ use Rattle.model_h1.specs.Request.{Header}
 use Rattle.model_h1.specs.Answer.{AnswerHead, Shape, is_raw, has_header}
 use Rattle.model_h1.specs.AnswerText.{header_text, is_sent, by_name}
 use Rattle.h1_encoder.specs.Meaning.{lines_of, headers_of}
-use Rattle.h1_encoder.specs.Lines.{line_of, goes_out, is_framing, pairs_text, has_date}
+use Rattle.h1_encoder.specs.WrittenLines.{line_of, goes_out, is_framing, pairs_text, has_date}
 use Rattle.h1_encoder.proofs.ByName.{by_name-map, AreFilled}
 
 -- the pairs of an entry are its lines

@@ -1,7 +1,7 @@
 -- Pieces of a text, one behind the other.
 use Rattle.std.proofs.Common.{◌≡◌, ℕ, List, [], ◌∷◌, ◌++◌, length, take, refl, sym, ap, ◌∙◌, append_assoc}
 use Rattle.std.specs.Prelude.{Result, Ok, Err, OnErr}
-use Rattle.h1_encoder.specs.Lines.{Grows}
+use Rattle.h1_encoder.specs.WrittenLines.{Grows}
 
 -- two pieces behind a text
 pub two : (old a b one all : List ℕ) → one ≡ old ++ a → all ≡ one ++ b → all ≡ old ++ (a ++ b)

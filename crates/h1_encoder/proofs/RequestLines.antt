@@ -11,7 +11,7 @@ use Rattle.model_h1.specs.AnswerText.{name_text, line_text, header_text, by_name
 use Rattle.model_client.specs.WrittenHead.{line_of, stream_lines, size_lines, connection_lines, date_lines}
 use Rattle.model_client.specs.RequestText.{AskedHead, as_answer, asked_shape, request_text}
 use Rattle.h1_encoder.specs.Meaning.{headers_of}
-use Rattle.h1_encoder.specs.Lines.{pairs_text, has_date}
+use Rattle.h1_encoder.specs.WrittenLines.{pairs_text, has_date}
 use Rattle.h1_encoder.proofs.Pieces.{two, three}
 use Rattle.h1_encoder.proofs.HeaderLines as maps
 use Rattle.h1_encoder.specs.RequestLines.{request_words}

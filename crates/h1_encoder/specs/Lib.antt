@@ -1,5 +1,5 @@
 pub mod Meaning
-pub mod Lines
+pub mod WrittenLines
 pub mod DateText
 pub mod Encoding
 pub mod Written

@@ -5,7 +5,7 @@ ghost use Rattle.model_h1.specs.Setting.{Setting};
 ghost use Rattle.model_h1.specs.Handshake.{accepting_head};
 ghost use Rattle.model_h1.specs.Limits.{MAX_MOMENT};
 ghost use Rattle.model_h1.specs.Text.{answer_head_text};
-ghost use Rattle.h1_encoder.specs.Lines.{accept_start};
+ghost use Rattle.h1_encoder.specs.WrittenLines.{accept_start};
 
 use crate::{Asked, DateLine};
 use bytes::BytesMut;

@@ -7,7 +7,7 @@ ghost use Rattle.model_h1.specs.Answer as answers;
 ghost use Rattle.model_h1.specs.AnswerText as texts;
 ghost use Rattle.model_h1.specs.AnswerText.{content_length_line, date_line, head_text};
 ghost use Rattle.h1_encoder.specs.Meaning.{answer_of, size_of, model_type, model_shape};
-ghost use Rattle.h1_encoder.specs.Lines.{Grows, status_words};
+ghost use Rattle.h1_encoder.specs.WrittenLines.{Grows, status_words};
 
 use crate::Asked;
 use crate::date::DateLine;

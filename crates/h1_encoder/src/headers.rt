@@ -4,7 +4,7 @@ ghost use Rattle.http_header.specs.FieldName.{IsHeaderName};
 ghost use Rattle.http_map.specs.HeaderMap.{pairs};
 ghost use Rattle.model_h1.specs.Answer as answers;
 ghost use Rattle.model_h1.specs.AnswerText.{name_text};
-ghost use Rattle.h1_encoder.specs.Lines.{Grows, goes_out, pairs_text, has_date, is_framing};
+ghost use Rattle.h1_encoder.specs.WrittenLines.{Grows, goes_out, pairs_text, has_date, is_framing};
 ghost use Rattle.h1_encoder.specs.Meaning.{model_shape};
 
 use crate::camel::put_camel_case;

@@ -4,7 +4,7 @@ ghost use Rattle.httparse.specs.Ascii.{crlf_bytes};
 ghost use Rattle.model_h1.specs.Limits.{MAX_MOMENT};
 ghost use Rattle.model_h1.specs.AnswerText.{date_line};
 ghost use Rattle.model_client.specs.RequestText.{request_text, asked_shape};
-ghost use Rattle.h1_encoder.specs.Lines.{Grows};
+ghost use Rattle.h1_encoder.specs.WrittenLines.{Grows};
 ghost use Rattle.h1_encoder.specs.Meaning.{size_of, model_type};
 ghost use Rattle.h1_encoder.specs.RequestMeaning.{asked_head, has_text};
 

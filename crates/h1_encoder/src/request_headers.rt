@@ -2,7 +2,7 @@
 ghost use Rattle.std.specs.Prelude.{◌≡◌, ◌++◌, not, ◌&&◌, ◌||◌, bytes_eq, codes, false, IfOk, OnOk, OnErr};
 ghost use Rattle.http_map.specs.HeaderMap.{pairs};
 ghost use Rattle.model_h1.specs.AnswerText.{name_text};
-ghost use Rattle.h1_encoder.specs.Lines.{Grows, goes_out, pairs_text, has_date, is_framing};
+ghost use Rattle.h1_encoder.specs.WrittenLines.{Grows, goes_out, pairs_text, has_date, is_framing};
 
 use crate::request_camel::put_camel_case;
 use bytes::BytesMut;

@@ -2,7 +2,7 @@
 use Rattle.std.proofs.Common.{◌≡◌, ℕ, List, ◌++◌, ap, ◌∙◌, append_assoc, codes}
 use Rattle.std.specs.Prelude.{decimal}
 use Rattle.h1_generated.specs.Generated.{Kind, method_of, framing_line, head_text}
-use Rattle.h1_generated.specs.Meaning.{request_line}
+use Rattle.h1_generated.specs.GeneratedMeaning.{request_line}
 
 -- one part more
 pub longer : {X : Type 0} (old a b xs ys : List X) → a ≡ old ++ xs → b ≡ a ++ ys → b ≡ old ++ (xs ++ ys)

@@ -16,7 +16,7 @@ use Rattle.h1_generated.specs.Generated.{setting, generated}
 use Rattle.h1_generated.specs.Summary.{Counts, counts_of, summary_text}
 use Rattle.h1_generated.proofs.Added.{taken-append, written-append}
 use Rattle.h1_generated.proofs.Runs.{allowed, few_taken, few_body, few_written, all_heads as heads_of_all, all_written, stays_open, not_over}
-use Rattle.h1_connection.specs.Meaning.{event_of, SaysOutcome}
+use Rattle.h1_connection.specs.EventMeaning.{event_of, SaysOutcome}
 use Rattle.h1_connection.specs.Run.{SaysStep, SaySteps, IsWhole, AreAllowed}
 use Rattle.h1_connection.specs.declared.event.Event.{Event}
 use Rattle.h1_connection.specs.declared.event.Event.TheVariants.{Read, Eof, Next, Pull, DropBody, Continue, Answer, Chunk, BodyEnd as EndBody, BodyError, Write, Tick, Drain, Accept, Send}

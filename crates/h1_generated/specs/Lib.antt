@@ -1,4 +1,4 @@
 pub mod Generated
 pub mod Summary
-pub mod Meaning
+pub mod GeneratedMeaning
 pub mod Run

@@ -1,7 +1,7 @@
 //! What is drawn: which exchange comes next, and how many bytes its bodies have.
 ghost use Rattle.std.specs.Prelude.{◌≡◌, ◌≤◌};
 ghost use Rattle.h1_generated.specs.Generated.{next_state, drawn, kind_of, len_of};
-ghost use Rattle.h1_generated.specs.Meaning.{model_kind};
+ghost use Rattle.h1_generated.specs.GeneratedMeaning.{model_kind};
 
 const MULTIPLIER: u64 = 6_364_136_223_846_793_005;
 

@@ -1,10 +1,10 @@
 //! The events of a seed.
 ghost use Rattle.std.specs.Prelude.{◌≡◌, ◌≤◌, ◌++◌, [], ◌∷◌, length, map, IfOk, OnOk};
 ghost use Rattle.h1_encoder.specs.Meaning.{size_of};
-ghost use Rattle.h1_connection.specs.Meaning.{event_of};
+ghost use Rattle.h1_connection.specs.EventMeaning.{event_of};
 ghost use Rattle.model_h1.specs.Event as on;
 ghost use Rattle.h1_generated.specs.Generated.{kind_of, len_of, letters, fine, echo, answering, head_text, body_text, exchange, generated};
-ghost use Rattle.h1_generated.specs.Meaning.{model_kind};
+ghost use Rattle.h1_generated.specs.GeneratedMeaning.{model_kind};
 
 use crate::draw::{Kind, drawn, kind_of, len_of, next_state};
 use crate::request::request;

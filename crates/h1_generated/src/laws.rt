@@ -1,7 +1,7 @@
 //! The law that a new connection with the usual settings takes what is generated.
 ghost use Rattle.std.specs.Prelude.{◌≡◌, ℕ, ◌<◌, ◌^◌, List, map};
 ghost use Rattle.http_config.specs.Config.{default_settings};
-ghost use Rattle.h1_connection.specs.Meaning.{event_of};
+ghost use Rattle.h1_connection.specs.EventMeaning.{event_of};
 ghost use Rattle.h1_connection.specs.Run.{AreAllowed};
 ghost use Rattle.h1_connection.specs.declared.event.Event.{Event};
 ghost use Rattle.h1_generated.specs.Generated.{generated};

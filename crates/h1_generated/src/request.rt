@@ -1,7 +1,7 @@
 //! The texts of requests.
 ghost use Rattle.std.specs.Prelude.{◌≡◌, ◌≤◌, ◌++◌, codes, decimal, length, IfOk, OnOk};
 ghost use Rattle.h1_generated.specs.Generated.{letters, method_of, framing_line, head_text, one_chunk, framed, body_text};
-ghost use Rattle.h1_generated.specs.Meaning.{model_kind, request_line};
+ghost use Rattle.h1_generated.specs.GeneratedMeaning.{model_kind, request_line};
 
 use crate::draw::Kind;
 use bytes::{Bytes, BytesMut};

@@ -1,12 +1,12 @@
 //! The summary of a generated run.
 ghost use Rattle.std.specs.Prelude.{◌≡◌, ◌≤◌, ◌<◌, ◌+◌, ◌++◌, ◌^◌, ℕ, length, map, codes, decimal, IfOk, OnOk};
 ghost use Rattle.http_config.specs.Config.{default_settings};
-ghost use Rattle.h1_connection.specs.Meaning.{event_of};
+ghost use Rattle.h1_connection.specs.EventMeaning.{event_of};
 ghost use Rattle.h1_connection.specs.Run.{IsWhole, AnswersAll};
 ghost use Rattle.h1_connection.specs.Steps.{outcome_of};
 ghost use Rattle.h1_generated.specs.Generated.{generated};
 ghost use Rattle.h1_generated.specs.Summary.{count_line, summary_text};
-ghost use Rattle.h1_generated.specs.Meaning.{model_counts};
+ghost use Rattle.h1_generated.specs.GeneratedMeaning.{model_counts};
 ghost use Rattle.h1_generated.specs.Run.{IsSummary, DoFit, totals, taken_by, heads_by, body_by, given_by, all_taken, all_heads, all_body, all_given};
 
 use crate::events::generate;

@@ -5,7 +5,7 @@ use Rattle.std.proofs.Math.Seq.{take-append-add, drop-append-add, drop-cons}
 use Rattle.std.proofs.Common.{suc}
 use Rattle.std.specs.Prelude.{slice_index_or, Option, Some, None, option_to_list}
 use Rattle.std.proofs.lemmas.List.{take-append-le, length-drop, length-take-le, take-append-drop, drop-drop, take_at, drop_at}
-use Rattle.h1_output.specs.Pieces.{IsCopied, body_in, body_len, laid, own_len, used}
+use Rattle.h1_output.specs.OutputPieces.{IsCopied, body_in, body_len, laid, own_len, used}
 use Rattle.h1_output.specs.declared.piece.Piece.{Piece}
 use Rattle.h1_output.proofs.Laid.{body_size}
 

@@ -6,7 +6,7 @@ use Rattle.h1_output.specs.declared.piece.Body.{Body}
 use Rattle.h1_output.specs.declared.piece.Body.TheVariants.{Shared}
 use Rattle.h1_output.specs.declared.piece.Piece.{Piece}
 use Rattle.h1_output.specs.Queued.{Queued, nothing}
-use Rattle.h1_output.specs.Pieces.{IsLaid, queued, laid}
+use Rattle.h1_output.specs.OutputPieces.{IsLaid, queued, laid}
 use Rattle.h1_output.proofs.Laid.{laid_size}
 use Rattle.h1_output.proofs.Moves.{none_queued, no_pieces}
 use Rattle.h1_output.proofs.CopyLemmas.{laid_none}

@@ -2,7 +2,7 @@
 use Rattle.std.proofs.Common.{◌≡◌, ℕ, ◌+◌, ◌-◌, ◌<◌, List, [], ◌∷◌, ◌++◌, length, refl, ap, ◌∙◌}
 use Rattle.h1_output.specs.declared.piece.Piece.{Piece}
 use Rattle.h1_output.specs.Queued.{with_text, with_piece}
-use Rattle.h1_output.specs.Pieces.{IsLaid, queued, own_len, shared_len, body_len, body_in}
+use Rattle.h1_output.specs.OutputPieces.{IsLaid, queued, own_len, shared_len, body_len, body_in}
 use Rattle.h1_output.proofs.Moves.{text_laid, text_queued, piece_laid, piece_queued}
 
 module _ (ps : List Piece) (own before more bytes after : List ℕ) (m k : ℕ) (is : IsLaid ps own m k) (p : Piece) (at : p.before ≡ length (own ++ before) - m)

@@ -5,7 +5,7 @@ use Rattle.model_state.specs.Runs.{AreInOrder, IsFirstSegment}
 use Rattle.model_state.proofs.First.{first_is}
 use Rattle.h1_output.specs.declared.piece.Piece.{Piece}
 use Rattle.h1_output.specs.Queued.{Queued, front_of}
-use Rattle.h1_output.specs.Pieces.{HasBytes, used, shared, laid, marks_from, queued, body_len}
+use Rattle.h1_output.specs.OutputPieces.{HasBytes, used, shared, laid, marks_from, queued, body_len}
 use Rattle.h1_output.proofs.Laid.{body_sum, laid_size}
 
 marks_in_order : (place end : ℕ) (ps : List Piece) → All HasBytes ps → place + used ps + shared ps ≤ end → AreInOrder place end (marks_from place ps)

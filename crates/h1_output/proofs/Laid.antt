@@ -7,7 +7,7 @@ use Rattle.std.proofs.lemmas.List.{drop-drop}
 use Rattle.model_h1.specs.Runs.{Run}
 use Rattle.model_state.specs.Runs.{runs_behind}
 use Rattle.h1_output.specs.Queued.{Queued, behind}
-use Rattle.h1_output.specs.Pieces.{HasBytes, body_in, body_len, laid, marks_from, own_len, shared, shared_len, used}
+use Rattle.h1_output.specs.OutputPieces.{HasBytes, body_in, body_len, laid, marks_from, own_len, shared, shared_len, used}
 use Rattle.h1_output.specs.declared.piece.Body.{Body}
 use Rattle.h1_output.specs.declared.piece.Body.TheVariants.{Own, Shared}
 use Rattle.h1_output.specs.declared.piece.Piece.{Piece}

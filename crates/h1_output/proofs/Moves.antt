@@ -14,7 +14,7 @@ use Rattle.std.specs.Prelude.{Option, None}
 use Rattle.model_h1.specs.Parse.{run_between}
 use Rattle.model_state.specs.Runs.{front_len, runs_behind}
 use Rattle.h1_output.specs.Queued.{IsStretch, Queued, behind, front_of, nothing, with_piece, with_text}
-use Rattle.h1_output.specs.Pieces.{HasBytes, IsInRow, IsLaid, body_in, body_len, in_row, laid, marks_from, own_len, queued, shared, shared_len, used, with_rest}
+use Rattle.h1_output.specs.OutputPieces.{HasBytes, IsInRow, IsLaid, body_in, body_len, in_row, laid, marks_from, own_len, queued, shared, shared_len, used, with_rest}
 use Rattle.h1_output.proofs.Laid.{behind_more, body_size, body_sum, laid_text, laid_size, used_more, shared_more, marks_more, laid_more, marks_behind}
 
 -- ---- nothing

@@ -1,2 +1,2 @@
 pub mod Queued
-pub mod Pieces
+pub mod OutputPieces

@@ -1,6 +1,6 @@
 // Copies of the first bytes of a queue.
 ghost use Rattle.std.specs.Prelude.{◌≡◌, ◌≤◌, ◌+◌, ◌-◌, ◌++◌, ◌∷◌, ◌⊎◌, ℕ, List, [], length, take, drop, min, option_to_list};
-ghost use Rattle.h1_output.specs.Pieces.{in_row, used, laid, own_len, body_len, IsCopied, CopiesTo};
+ghost use Rattle.h1_output.specs.OutputPieces.{in_row, used, laid, own_len, body_len, IsCopied, CopiesTo};
 
 use crate::piece::{Body, Piece};
 use std::collections::VecDeque;

@@ -1,7 +1,7 @@
 // The pieces of a queue.
 ghost use Rattle.std.specs.Prelude.{◌≡◌, ◌≤◌, ◌+◌, ◌++◌, ◌∷◌, [], length, option_to_list};
 ghost use Rattle.std.specs.VecDeque.{deque_len, deque_capacity};
-ghost use Rattle.h1_output.specs.Pieces.{in_row, with_rest, IsInRow};
+ghost use Rattle.h1_output.specs.OutputPieces.{in_row, with_rest, IsInRow};
 
 use bytes::Bytes;
 use std::collections::VecDeque;

@@ -36,7 +36,7 @@ pub struct Segments {
 impl Model for Segments {
     ghost use Rattle.std.specs.Prelude.{◌<◌, ◌^◌};
     ghost use Rattle.h1_output.specs.Queued.{Queued};
-    ghost use Rattle.h1_output.specs.Pieces.{queued, IsLaid, in_row, IsInRow};
+    ghost use Rattle.h1_output.specs.OutputPieces.{queued, IsLaid, in_row, IsInRow};
 
     ghost Value = { Queued };
 

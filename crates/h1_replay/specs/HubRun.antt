@@ -11,7 +11,7 @@ use Rattle.h1_replay.specs.HubReport.{IsReport}
 use Rattle.h1_replay.specs.HubScript.{script_of}
 
 abbrev pub usage_text : List ℕ
-usage_text = codes "usage: rooms replay\n"
+usage_text = codes "usage: ws_hub replay\n"
 
 -- ---- what a script gives
 

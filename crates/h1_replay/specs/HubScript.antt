@@ -2,8 +2,8 @@
 use Rattle.std.specs.Prelude.{ℕ, ◌+◌, List, [], ◌∷◌, Option, Some, None, option_map, Result, Ok, Err, codes, if◌then◌else◌}
 use Rattle.std.specs.Str.{bytes_eq}
 use Rattle.http_config.specs.Config.{Settings}
-use Rattle.h1_connection.specs.Meaning as meaning
-use Rattle.h1_replay.specs.Pieces.{only_of}
+use Rattle.h1_connection.specs.EventMeaning as meaning
+use Rattle.h1_replay.specs.InputPieces.{only_of}
 use Rattle.h1_replay.specs.Script.{config_of, event_of, words_of, lines_of}
 use Rattle.h1_replay.specs.Word.{◌>>=◌, number_of}
 use Rattle.model_rooms.specs.Trace.{is_fed}

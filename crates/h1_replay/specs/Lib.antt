@@ -3,7 +3,7 @@ pub mod Hex
 pub mod Input
 pub mod Message
 pub mod Output
-pub mod Pieces
+pub mod InputPieces
 pub mod Reading
 pub mod Reply
 pub mod Report

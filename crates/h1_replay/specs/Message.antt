@@ -4,7 +4,7 @@ use Rattle.std.specs.Str.{bytes_eq}
 use Rattle.model_h1.specs.Frame.{CloseReason, Message, frame, nop, text, binary, first_text, first_binary, continuation, last, ping, pong, close}
 use Rattle.h1_connection.specs.declared.event.Event.{Event}
 use Rattle.h1_connection.specs.declared.event.Event.TheVariants.{Send}
-use Rattle.h1_replay.specs.Pieces.{only_of}
+use Rattle.h1_replay.specs.InputPieces.{only_of}
 use Rattle.h1_replay.specs.Word.{◌>>=◌, number_of, bytes_of, text_of}
 
 -- a code: up to 65535

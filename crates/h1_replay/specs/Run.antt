@@ -39,7 +39,7 @@ pub record IsOther (words : List (List ℕ)) : Type 0 where
 
 -- the texts that nothing but the status decides
 abbrev pub usage_text : List ℕ
-usage_text = codes "usage: app_replay replay | app_replay gen SEED COUNT\n"
+usage_text = codes "usage: h1_run replay | h1_run gen SEED COUNT\n"
 
 abbrev pub read_fault_text : List ℕ
 read_fault_text = codes "read fault\n"

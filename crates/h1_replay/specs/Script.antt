@@ -9,7 +9,7 @@ use Rattle.h1_connection.specs.declared.event.Event.{Event}
 use Rattle.h1_connection.specs.declared.event.Event.TheVariants.{Read, Eof, Next, Pull, DropBody, Continue, Chunk, BodyEnd, BodyError, Write, Tick, Drain, Accept}
 use Rattle.h1_replay.specs.Answer.{answer_of}
 use Rattle.h1_replay.specs.Message.{send_of}
-use Rattle.h1_replay.specs.Pieces.{only_of}
+use Rattle.h1_replay.specs.InputPieces.{only_of}
 use Rattle.h1_replay.specs.Word.{◌>>=◌, number_of, bytes_of, flag_of, keep_alive_of}
 
 -- ---- the first line

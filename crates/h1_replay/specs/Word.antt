@@ -13,7 +13,7 @@ use Rattle.http_config.specs.declared.keep_alive.KeepAlive.{KeepAlive}
 use Rattle.http_config.specs.declared.keep_alive.KeepAlive.TheVariants.{Timeout, Os, Disabled}
 use Rattle.http_framing.specs.declared.body.size.BodySize.{BodySize}
 use Rattle.http_framing.specs.declared.body.size.BodySize.TheVariants as size
-use Rattle.h1_replay.specs.Pieces.{only_of}
+use Rattle.h1_replay.specs.InputPieces.{only_of}
 use Rattle.h1_replay.specs.declared.marks.Marks.{Marks}
 
 -- the next step of a reading, where there was something to read

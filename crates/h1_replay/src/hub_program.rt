@@ -7,7 +7,7 @@ ghost use Rattle.h1_replay.specs.Run.{IsReplay, NoEndFailed};
 ghost use Rattle.h1_replay.specs.HubReply.{status_of_reply, text_of_reply};
 ghost use Rattle.h1_replay.specs.HubRun.{IsAnswer, IsGood, IsRefused, IsRefusedWith};
 
-use crate::hub_reply::{Reply, WRITE_FAULT, replay};
+use crate::hub_reply::{HubReply, WRITE_FAULT, replay};
 use crate::{InputError, read_input, write_all};
 use http_types::{Sink, Source};
 use std::alloc::Global;
@@ -62,18 +62,18 @@ pub fn hub_run<S: Source, K: Sink>(
     }
 }
 
-fn reply_to<S: Source>(alloc: Global, words: &[String], input: &mut S) -> Reply
+fn reply_to<S: Source>(alloc: Global, words: &[String], input: &mut S) -> HubReply
     ensures { IsAnswer (map (λ w. string_bytes w) words.now) (told (S.left input.old) (S.faults input.old) (S.calls input.old))
         (told (S.left input.new) (S.faults input.new) (S.calls input.new)) (status_of_reply result) (text_of_reply result) }
 {
     if !is_replay(words) {
-        return Reply::Usage;
+        return HubReply::Usage;
     }
     match read_input(alloc, input) {
         Ok(text) => replay(alloc, &text),
-        Err(InputError::Fault) => Reply::ReadFault,
-        Err(InputError::TooLong) => Reply::TooLong,
-        Err(InputError::NoMemory) => Reply::NoMemory,
+        Err(InputError::Fault) => HubReply::ReadFault,
+        Err(InputError::TooLong) => HubReply::TooLong,
+        Err(InputError::NoMemory) => HubReply::NoMemory,
     }
 }
 

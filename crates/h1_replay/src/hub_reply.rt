@@ -14,7 +14,7 @@ pub const WRITE_FAULT: u8 = 5;
 
 /// An answer, with its text where that isn't always the same.
 #[derive(Drop)]
-pub enum Reply {
+pub enum HubReply {
     /// The report of a script whose every event was taken.
     Done(Vec<u8>),
     /// The words are no command.
@@ -31,20 +31,20 @@ pub enum Reply {
     NoMemory,
 }
 
-impl Reply {
+impl HubReply {
     /// The exit status.
     pub fn status(&self) -> u8
         ensures value { result ≡ status_of_reply self.now }
         ensures known { result ≤ 7 }
     {
         match self {
-            Reply::Done(_) => 0,
-            Reply::Usage => 1,
-            Reply::BadLine(_) => 2,
-            Reply::Misplaced(_) => 3,
-            Reply::ReadFault => 4,
-            Reply::TooLong => 6,
-            Reply::NoMemory => 7,
+            HubReply::Done(_) => 0,
+            HubReply::Usage => 1,
+            HubReply::BadLine(_) => 2,
+            HubReply::Misplaced(_) => 3,
+            HubReply::ReadFault => 4,
+            HubReply::TooLong => 6,
+            HubReply::NoMemory => 7,
         }
     }
 
@@ -53,39 +53,40 @@ impl Reply {
         ensures { result.now ≡ text_of_reply self.now }
     {
         match self {
-            Reply::Done(text) | Reply::BadLine(text) | Reply::Misplaced(text) => text.as_slice(),
-            Reply::Usage => b"usage: rooms replay\n",
-            Reply::ReadFault => b"read fault\n",
-            Reply::TooLong => b"too long\n",
-            Reply::NoMemory => b"no memory\n",
+            HubReply::Done(text) | HubReply::BadLine(text) | HubReply::Misplaced(text) =>
+                text.as_slice(),
+            HubReply::Usage => b"usage: ws_hub replay\n",
+            HubReply::ReadFault => b"read fault\n",
+            HubReply::TooLong => b"too long\n",
+            HubReply::NoMemory => b"no memory\n",
         }
     }
 }
 
 /// Reads the input as a script, brings its events to a new hub and reports what came of them.
-pub fn replay(alloc: Global, input: &[u8]) -> Reply
+pub fn replay(alloc: Global, input: &[u8]) -> HubReply
     ensures { IsReplyTo input.now result }
 {
     match try_replay(alloc, input) {
         Ok(reply) => reply,
-        Err(_) => Reply::NoMemory,
+        Err(_) => HubReply::NoMemory,
     }
 }
 
-fn try_replay(alloc: Global, input: &[u8]) -> Result<Reply, NoMemory>
+fn try_replay(alloc: Global, input: &[u8]) -> Result<HubReply, NoMemory>
     ensures { IfOk result (IsReplyTo input.now) }
 {
     let script = match read_script(alloc, input) {
         Ok(script) => script,
         Err(ScriptError::BadLine(line)) => {
-            return Ok(Reply::BadLine(numbered_line(alloc, b"bad line ", line)?));
+            return Ok(HubReply::BadLine(numbered_line(alloc, b"bad line ", line)?));
         }
         Err(ScriptError::NoMemory) => return Err(AllocError),
     };
     match drive_hub(alloc, &script.config, &script.events) {
-        Ok(trace) => Ok(Reply::Done(report_of(alloc, &trace)?)),
+        Ok(trace) => Ok(HubReply::Done(report_of(alloc, &trace)?)),
         Err(HubError::Misplaced(index, trace)) => {
-            Ok(Reply::Misplaced(stopped(alloc, &trace, index)?))
+            Ok(HubReply::Misplaced(stopped(alloc, &trace, index)?))
         }
         Err(HubError::NoMemory) => Err(AllocError),
     }

@@ -1,7 +1,7 @@
 //! A script: a line for the settings of a hub's connections, and a line for each event of the hub.
 ghost use Rattle.std.specs.Prelude.{◌≡◌};
 ghost use Rattle.std.specs.Option.{option_copied};
-ghost use Rattle.h1_replay.specs.Pieces.{pieces_left};
+ghost use Rattle.h1_replay.specs.InputPieces.{pieces_left};
 ghost use Rattle.h1_replay.specs.Reading.{Reads};
 ghost use Rattle.h1_replay.specs.Script.{words_of};
 ghost use Rattle.h1_replay.specs.HubScript.{open_of, turn_of, feed_of, line_event, events_of, script_of};

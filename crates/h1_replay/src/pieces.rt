@@ -15,7 +15,7 @@ pub struct Pieces<'a> {
 impl<'a> Model for Pieces<'a> {
     ghost use Rattle.std.specs.Prelude.{List, ℕ};
     ghost use Rattle.std.specs.Option.{option_copied};
-    ghost use Rattle.h1_replay.specs.Pieces.{pieces_left};
+    ghost use Rattle.h1_replay.specs.InputPieces.{pieces_left};
 
     ghost Value = { List (List ℕ) };
 
@@ -26,7 +26,7 @@ impl<'a> Pieces<'a> {
     ghost use Rattle.std.specs.Prelude.{◌≡◌, ◌==◌, MatchOption, IsNone, length};
     ghost use Rattle.std.specs.Option.{option_copied};
     ghost use Rattle.std.specs.List.{slice_split};
-    ghost use Rattle.h1_replay.specs.Pieces.{only_of};
+    ghost use Rattle.h1_replay.specs.InputPieces.{only_of};
 
     /// All pieces of `text`: one more than it has marks.
     pub fn new(text: &'a [u8], mark: u8) -> Pieces<'a>
@@ -68,7 +68,7 @@ impl<'a> Iterator for Pieces<'a> {
 ghost use Rattle.std.specs.Prelude.{◌≡◌, ◌==◌, ◌+◌, ◌<◌, ◌∷◌, length, IfSome};
 ghost use Rattle.std.specs.List.{slice_split};
 ghost use Rattle.std.specs.Option.{option_copied};
-ghost use Rattle.h1_replay.specs.Pieces.{pieces_left};
+ghost use Rattle.h1_replay.specs.InputPieces.{pieces_left};
 
 /// The piece in front of the first `mark`, and what stands after that mark, where there is one.
 pub fn first_piece(text: &[u8], mark: u8) -> (&[u8], Option<&[u8]>)

@@ -55,7 +55,7 @@ impl Reply {
     {
         match self {
             Reply::Done(text) | Reply::BadLine(text) | Reply::Misplaced(text) => text.as_slice(),
-            Reply::Usage => b"usage: app_replay replay | app_replay gen SEED COUNT\n",
+            Reply::Usage => b"usage: h1_run replay | h1_run gen SEED COUNT\n",
             Reply::ReadFault => b"read fault\n",
             Reply::TooLong => b"too long\n",
             Reply::NoMemory => b"no memory\n",

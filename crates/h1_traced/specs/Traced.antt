@@ -4,7 +4,7 @@ use Rattle.model_h1.specs.Event as on
 use Rattle.model_h1.specs.Sums as sums
 use Rattle.model_state.specs.Change.{IsStep}
 use Rattle.http_bodies.specs.Told.{Grows}
-use Rattle.h1_connection.specs.Meaning.{setting_of}
+use Rattle.h1_connection.specs.EventMeaning.{setting_of}
 use Rattle.h1_connection.specs.Run.{SaySteps}
 use Rattle.h1_connection.specs.State.{State, Stands, GoesOn}
 use Rattle.h1_connection.specs.Steps.{Pair}

@@ -4,7 +4,7 @@ ghost use Rattle.h1_encoder.specs.Meaning.{answer_of, size_of};
 ghost use Rattle.model_h1.specs.Event as on;
 ghost use Rattle.h1_payload.specs.Rests.{SaysPulled};
 ghost use Rattle.h1_connection.specs.Heads.{SaysNext, NeedsNoMemory};
-ghost use Rattle.h1_connection.specs.Meaning.{setting_of, event_of, SaysOutcome};
+ghost use Rattle.h1_connection.specs.EventMeaning.{setting_of, event_of, SaysOutcome};
 ghost use Rattle.h1_connection.specs.Pulls.{IsLightPull};
 ghost use Rattle.h1_connection.specs.State.{fresh_state, IsAllowed, IsNextAllowed, TakesNoMemory, Is};
 ghost use Rattle.h1_connection.specs.Ticks.{expiry_of, IsQuietTick};

@@ -1,5 +1,5 @@
 pub mod Inside
-pub mod Lines
+pub mod LogText
 pub mod Names
 pub mod Places
 pub mod Ranges

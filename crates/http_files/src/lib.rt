@@ -16,8 +16,8 @@
 
 mod conditions;
 mod error;
-mod line;
 mod listing;
+mod log_text;
 mod paths;
 mod places;
 mod ranges;
@@ -25,8 +25,8 @@ mod types;
 
 pub use conditions::{etag, is_unchanged_since, lists_etag};
 pub use error::PathError;
-pub use line::line_text;
 pub use listing::{Entry, folder_page, message_page};
+pub use log_text::line_text;
 pub use paths::{FilePath, Folder};
 pub use places::place_of;
 pub use ranges::{Asked, asked_range};

@@ -11,7 +11,7 @@ use Rattle.model_client.specs.ClientEvent as on
 use Rattle.model_client.specs.ClientEvent.{ClientEvent, ClientEnd, ClientOutcome, failed_request}
 use Rattle.model_client.specs.ClientKept.{Waiting, SendingBody, ReadingBody, ClientKept, is_free_of, is_dropped_of, client_closing, client_allows}
 use Rattle.model_client.specs.ClientStep.{ClientChange, sending_piece, ending_body, passing, body_at_end, ending_input, IsPulling, IsClientChange, KnowsComing}
-use Rattle.model_client.specs.ClientTrace.{Happened, IsClientTrace, taken_by, taken, asked_by, asked_of}
+use Rattle.model_client.specs.ClientTrace.{Happened, IsClientTrace, taken_by, taken, requests_by, requests_of}
 use Rattle.model_client.specs.ReadOut.{ReadOut, nothing_read, reading_out, read_out}
 use Rattle.model_client.specs.Parsed.{has_ended, methods_of, AreAnswersTaken, ReadsPrefix}
 use Rattle.model_client.proofs.Ended.{change_ended, trace_ended}
@@ -116,7 +116,7 @@ module _ (setting : Setting) (bytes : List ℕ) (e : Bool) (methods : List (List
 
   abbrev After : ReadOut → ClientKept → List ℕ → List (List ℕ) → ClientEvent → ClientChange → Type 0
   After out k more extra event c =
-      HoldsSo out k (taken_by event c.outcome ++ more) (waiting_methods (asked_by event) ++ extra) → HoldsSo (reading_out c.outcome out) c.kept more extra
+      HoldsSo out k (taken_by event c.outcome ++ more) (waiting_methods (requests_by event) ++ extra) → HoldsSo (reading_out c.outcome out) c.kept more extra
 
   step_for : (out : ReadOut) (k : ClientKept) (event : ClientEvent) (c : ClientChange) (more : List ℕ) (extra : List (List ℕ)) → KnowsComing k
       → IsTrue (client_allows setting k event) → IsClientChange setting k event c → After out k more extra event c
@@ -157,12 +157,12 @@ module _ (setting : Setting) (bytes : List ℕ) (e : Bool) (methods : List (List
       subst (λ (k : ClientKept). HoldsSo nothing_read k more extra) (sym is)
       (λ now. (refl, record { place = 0; within = omega arith; leads = (refl, sym all_methods); text_is = all_bytes }))
   all_for (s ∷ before) k more extra (b, trace, allowed, step) all_bytes all_methods =
-      let old : HoldsSo (read_out before) b (taken_by s.event s.outcome ++ more) (waiting_methods (asked_by s.event) ++ extra) =
-      all_for before b (taken_by s.event s.outcome ++ more) (waiting_methods (asked_by s.event) ++ extra) trace
+      let old : HoldsSo (read_out before) b (taken_by s.event s.outcome ++ more) (waiting_methods (requests_by s.event) ++ extra) =
+      all_for before b (taken_by s.event s.outcome ++ more) (waiting_methods (requests_by s.event) ++ extra) trace
       (all_bytes ∙ append_assoc (taken before) (taken_by s.event s.outcome) more)
-      (all_methods ∙ ap (λ (l : List (List ℕ)). l ++ extra) (map-append (λ (w : Waiting). w.method) (asked_of before) (asked_by s.event))
-      ∙ append_assoc (methods_of before) (waiting_methods (asked_by s.event)) extra) in
-      let named = subst (λ (o : ClientOutcome). HoldsSo (read_out before) b (taken_by s.event o ++ more) (waiting_methods (asked_by s.event) ++ extra)) step.answers old in
+      (all_methods ∙ ap (λ (l : List (List ℕ)). l ++ extra) (map-append (λ (w : Waiting). w.method) (requests_of before) (requests_by s.event))
+      ∙ append_assoc (methods_of before) (waiting_methods (requests_by s.event)) extra) in
+      let named = subst (λ (o : ClientOutcome). HoldsSo (read_out before) b (taken_by s.event o ++ more) (waiting_methods (requests_by s.event) ++ extra)) step.answers old in
       let new = step_for (read_out before) b s.event step.change more extra (known_of before b trace) allowed step.changes named in
       let told = subst (λ (o : ClientOutcome). HoldsSo (reading_out o (read_out before)) step.change.kept more extra) (sym step.answers) new in
       subst (λ (k : ClientKept). HoldsSo (reading_out s.outcome (read_out before)) k more extra) (sym step.keeps) told

@@ -2,32 +2,18 @@
 use Rattle.std.proofs.Common.{◌≡◌, ℕ, ◌≤◌, Bool, true, false, List, [], length, map, Option, Some, None, refl, sym, ◌∙◌, subst, inl, inr}
 use Rattle.std.specs.List.{AllByRecursion}
 use Rattle.std.proofs.lemmas.Bool.{cases_lt}
-use Rattle.httparse.specs.Grammar.{ResponseHead, ReadsResponse, Field, field_value, status_code, reason_phrase}
+use Rattle.httparse.specs.Grammar.{ResponseHead, ReadsResponse, status_code, reason_phrase}
 use Rattle.httparse.proofs.GrammarLemmas.{response_unique}
-use Rattle.http_header.specs.Token.{is_token_byte, is_value_byte}
 use Rattle.model_h1.specs.Limits.{MAX_HEADER_LINES}
 use Rattle.model_h1.specs.HeadPiece.{header_lines}
 use Rattle.model_h1.specs.Request.{BodyKind, too_large, malformed}
 use Rattle.model_h1.specs.RequestHead.{IsHeaderField, header_of}
-use Rattle.model_h1.proofs.Decisions.{dec_like, dec_both, dec_pass, dec_below, dec_most, dec_by_recursion}
+use Rattle.model_h1.proofs.Decisions.{dec_like, dec_both, dec_most, dec_by_recursion}
+use Rattle.model_h1.proofs.ReadingDecisions.{dec_header, dec_some}
 use Rattle.model_client.specs.AnswerTable.{answer_kind, answer_connection}
 use Rattle.model_client.specs.LaxText.{unpadded}
 use Rattle.model_client.specs.AnswerReading.{Answer, AnswerReading, answer_is, refused, IsTextOf, IsAnswerOf, IsAnswerReading, IsAnswerReadingWithin}
 use Rattle.model_client.proofs.ResponseDecisions.{response_decided}
-
--- a field line's name and value
-dec_header : (f : Field) → Dec (IsHeaderField f)
-dec_header f =
-    dec_like (λ x. record { name = x.0; value = x.1 }) (λ x. (x.name, x.value))
-    (dec_both (dec_both (dec_both (dec_below 0 (length f.name)) (dec_pass is_token_byte f.name)) (dec_most (length f.name) 65535)) (dec_pass is_value_byte (field_value f)))
-
--- a value, if there is one
-dec_some : {A : Type 0} → (o : Option A) → Dec ((x : A) × (o ≡ Some x))
-dec_some None = no (λ x. none_some x.0 x.1)
-  where
-    none_some : {A : Type 0} → (x : A) → None ≡ Some x → ⊥
-    none_some x e = cc
-dec_some (Some x) = yes (x, refl)
 
 -- the body that the lines of a text frame
 abbrev framed : ResponseHead → Option BodyKind

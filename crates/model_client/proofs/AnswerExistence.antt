@@ -2,14 +2,14 @@
 use Rattle.std.proofs.Common.{◌≡◌, ℕ, zero, suc, ◌+◌, ◌-◌, ◌<◌, ◌≤◌, Bool, true, false, List, [], ◌∷◌, length, drop, slice_range, Option, Some, None, MatchOption, refl, sym, subst, inl, inr, arith, length-drop}
 use Rattle.std.proofs.lemmas.Bool.{cases_lt}
 use Rattle.model_h1.specs.Chunked.{Chunked, whole, unfinished, not_chunked}
-use Rattle.model_h1.specs.Runs.{Run}
 use Rattle.model_h1.proofs.Verdicts.{every_text_read}
 use Rattle.model_h1.specs.HeadPiece.{IsHeadPiece}
 use Rattle.model_h1.specs.Request.{BodyKind, no_body, fixed_body, chunked_body, raw_body}
-use Rattle.model_h1.specs.Parse.{Body, no_content, content, Stop, ended_at, still_open, broken, cut, open_or_cut, run_between, fixed_content, raw_content, shifted, chunked_stop, next_start, IsBodyOf}
+use Rattle.model_h1.specs.Parse.{no_content, content, ended_at, still_open, open_or_cut, run_between, fixed_content, raw_content, shifted, chunked_stop, next_start, IsBodyOf}
 use Rattle.model_h1.proofs.HeadPieceLemmas.{head_piece_decided}
 use Rattle.model_h1.proofs.BodyGrowth.{fixed_whole, fixed_part}
 use Rattle.model_h1.proofs.MessageGrowth.{piece_end, piece_long}
+use Rattle.model_h1.proofs.MessageExistence.{StopsBehind, GoesOn, content_goes_on, open_or_cut_behind, HasBody}
 use Rattle.model_client.specs.AnswerTable.{body_to}
 use Rattle.model_client.specs.AnswerReading.{AnswerReading, answer_is, refused}
 use Rattle.model_client.specs.AnswerParse.{Received, body_input, AnswerMessage, IsAnswerBody, IsAnswerAt, left_waiting, AreAnswersFrom}
@@ -17,35 +17,10 @@ use Rattle.model_client.proofs.AnswerDecisions.{answer_within_of}
 
 -- ---- bodies
 
--- a body that ends does so at the place or after it
-abbrev StopsAfter : ℕ → Stop → Type 0
-StopsAfter place (ended_at next trailers) = place ≤ next
-StopsAfter place still_open = Unit {0}
-StopsAfter place broken = Unit {0}
-StopsAfter place cut = Unit {0}
-
--- and then the next answer starts there
-abbrev GoesOn : ℕ → Body → Type 0
-GoesOn place b = (next : ℕ) → next_start b ≡ Some next → place ≤ next
-
--- content that stops so goes on so
-content_goes_on : (place : ℕ) (runs : List Run) (stop : Stop) → StopsAfter place stop → GoesOn place (content runs stop)
-content_goes_on place runs (ended_at end trailers) later next e =
-    let same : end ≡ next = cc in
-    omega arith
-content_goes_on place runs still_open later next e = cc
-content_goes_on place runs broken later next e = cc
-content_goes_on place runs cut later next e = cc
-
--- what isn't all there stops in no place
-open_or_cut_after : (place : ℕ) (ended : Bool) → StopsAfter place (open_or_cut ended)
-open_or_cut_after place true = tt
-open_or_cut_after place false = tt
-
 -- a body in chunks
-chunked_after : (r : Received) (place : ℕ) (a : Chunked) → StopsAfter place (chunked_stop (body_input r) place a)
+chunked_after : (r : Received) (place : ℕ) (a : Chunked) → StopsBehind place (chunked_stop (body_input r) place a)
 chunked_after r place (whole k trailers) = omega arith
-chunked_after r place unfinished = open_or_cut_after place r.ended
+chunked_after r place unfinished = open_or_cut_behind place r.ended
 chunked_after r place not_chunked = tt
 
 -- a body of a fixed length
@@ -55,7 +30,7 @@ fixed_goes_on r n place =
       | inr fits ↦ subst (GoesOn place) (sym (fixed_whole r.bytes None r.ended 0 place n fits))
           (content_goes_on place (run_between place (place + n)) (ended_at (place + n) []) (omega arith))
       | inl short ↦ subst (GoesOn place) (sym (fixed_part r.bytes None r.ended 0 place n short))
-          (content_goes_on place (run_between place (length r.bytes)) (open_or_cut r.ended) (open_or_cut_after place r.ended))
+          (content_goes_on place (run_between place (length r.bytes)) (open_or_cut r.ended) (open_or_cut_behind place r.ended))
     ]
 
 -- all bytes from the place on
@@ -63,10 +38,6 @@ raw_goes_on : (bytes : List ℕ) (ended : Bool) (limit : Option ℕ) (place : �
     → GoesOn place (raw_content (body_input (record { bytes = bytes; ended = ended; hold_size = limit })) place)
 raw_goes_on bytes true limit place within = content_goes_on place (run_between place (length bytes)) (ended_at (length bytes) []) within
 raw_goes_on bytes false limit place within = content_goes_on place (run_between place (length bytes)) still_open tt
-
--- a body at the place
-abbrev HasBody : (Body → Type 0) → ℕ → Type 0
-HasBody Is place = (b : Body) × Is b × GoesOn place b
 
 -- each kind has one at each place
 body_of_kind : (r : Received) (kind : BodyKind) (place : ℕ) → place ≤ length r.bytes → HasBody (IsBodyOf (body_input r) kind place) place

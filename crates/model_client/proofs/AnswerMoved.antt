@@ -1,15 +1,15 @@
 -- Answers depend on the bytes from their first place on, and not on those in front.
-use Rattle.std.proofs.Common.{◌≡◌, ℕ, ◌+◌, ◌≤◌, Bool, true, false, List, [], ◌∷◌, length, drop, map, slice_range, nat_lt, Option, Some, None, MatchOption, option_map, refl, sym, ap, ◌∙◌, subst, inl, inr, arith, length-drop, le-ltb, lt-ltb}
-use Rattle.std.proofs.lemmas.Bool.{cond-true, cond-false, cases_lt}
+use Rattle.std.proofs.Common.{◌≡◌, ℕ, ◌+◌, ◌≤◌, Bool, true, false, List, [], ◌∷◌, length, drop, map, slice_range, Option, Some, None, MatchOption, option_map, refl, sym, ap, ◌∙◌, subst, inl, inr, arith, length-drop}
+use Rattle.std.proofs.lemmas.Bool.{cases_lt}
 use Rattle.std.proofs.lemmas.List.{drop-drop}
 use Rattle.model_h1.specs.Chunked.{Chunked, unfinished, not_chunked, IsChunked}
 use Rattle.model_h1.specs.Chunked as chunked
-use Rattle.model_h1.specs.Runs.{Run}
 use Rattle.model_h1.specs.HeadPiece.{IsHeadPiece, HasNoHeadPiece}
 use Rattle.model_h1.specs.Request.{BodyKind, no_body, fixed_body, chunked_body, raw_body}
-use Rattle.model_h1.specs.Parse.{Body, no_content, content, frames, ended_at, still_open, broken, cut, run_between, open_or_cut, fixed_content, raw_content, shifted, trailer_header, chunked_stop, next_start, IsBodyOf}
+use Rattle.model_h1.specs.Parse.{Body, content, ended_at, still_open, run_between, open_or_cut, fixed_content, raw_content, trailer_header, chunked_stop, next_start, IsBodyOf}
 use Rattle.model_h1.specs.Laws.Moved.{moved_stop, moved_body}
 use Rattle.model_h1.proofs.BodyGrowth.{fixed_whole, fixed_part}
+use Rattle.model_h1.proofs.MovedLemmas.{shifted-shifted, moved_between, moved_open_or_cut, moved_next}
 use Rattle.model_client.specs.AnswerTable.{body_to}
 use Rattle.model_client.specs.AnswerReading.{AnswerReading, answer_is, refused, IsAnswerReadingWithin}
 use Rattle.model_client.specs.AnswerParse.{Received, body_input, AnswerMessage, IsAnswerBody, IsAnswerAt, left_waiting, AreAnswersFrom, AreAnswersIn}
@@ -19,31 +19,6 @@ use Rattle.model_client.proofs.AnswerGrowth.{received}
 use Rattle.model_client.proofs.AnswerExistence.{answers_exist_from}
 
 -- ---- runs and stops
-
--- runs that are counted from one place and then from another
-shifted-shifted : (len place : ℕ) (runs : List Run) → shifted len (shifted place runs) ≡ shifted (len + place) runs
-shifted-shifted len place [] = refl
-shifted-shifted len place (r ∷ runs) =
-    let start : len + (place + r.start) ≡ len + place + r.start = omega arith in
-    let end : len + (place + r.end) ≡ len + place + r.end = omega arith in
-    λ i. record { start = start i; end = end i } ∷ shifted-shifted len place runs i
-
--- the run between two places
-moved_between : (len start end : ℕ) → shifted len (run_between start end) ≡ run_between (len + start) (len + end)
-moved_between len start end =
-    elim (cases_lt start end) [
-      | inl some ↦
-          ap (shifted len) (cond-true (nat_lt start end) (record { start = start; end = end } ∷ []) [] (lt-ltb start end some))
-          ∙ sym (cond-true (nat_lt (len + start) (len + end)) (record { start = len + start; end = len + end } ∷ []) [] (lt-ltb (len + start) (len + end) (omega arith)))
-      | inr none ↦
-          ap (shifted len) (cond-false (nat_lt start end) (record { start = start; end = end } ∷ []) [] (le-ltb start end none))
-          ∙ sym (cond-false (nat_lt (len + start) (len + end)) (record { start = len + start; end = len + end } ∷ []) [] (le-ltb (len + start) (len + end) (omega arith)))
-    ]
-
--- what has no end has no place
-moved_open_or_cut : (len : ℕ) (ended : Bool) → moved_stop len (open_or_cut ended) ≡ open_or_cut ended
-moved_open_or_cut len true = refl
-moved_open_or_cut len false = refl
 
 -- how a body in chunks stops
 moved_chunked_stop : (len : ℕ) (bytes rest : List ℕ) (ended : Bool) (limit : Option ℕ) (place : ℕ) (a : Chunked)
@@ -109,15 +84,6 @@ moved_after : (len : ℕ) (bytes : List ℕ) (ended : Bool) (limit : Option ℕ)
     → IsAnswerBody (received bytes ended limit) method r (len + place) (moved_body len b)
 moved_after len bytes ended limit method (refused fault) place b within x = ap (moved_body len) x
 moved_after len bytes ended limit method (answer_is a) place b within x = moved_of_kind len bytes ended limit (body_to method a.body) place b within x
-
--- where the next answer starts
-moved_next : (len : ℕ) (b : Body) → next_start (moved_body len b) ≡ option_map (λ place. len + place) (next_start b)
-moved_next len no_content = refl
-moved_next len (content runs (ended_at place trailers)) = refl
-moved_next len (content runs still_open) = refl
-moved_next len (content runs broken) = refl
-moved_next len (content runs cut) = refl
-moved_next len (frames placed fail) = refl
 
 -- ---- answers
 

@@ -8,7 +8,7 @@ use Rattle.model_client.specs.ClientEvent as on
 use Rattle.model_client.specs.ClientEvent.{ClientEvent, ClientEnd, ClientOutcome}
 use Rattle.model_client.specs.ClientKept.{ClientKept, is_free, client_closing, allowed_running, allowed_closing, is_moment, client_allows}
 use Rattle.model_client.specs.ClientStep.{ClientChange, IsNext, IsClientStep, KnowsComing}
-use Rattle.model_client.proofs.OneStep.{coming_one}
+use Rattle.model_state.proofs.OneStep.{coming_one}
 
 -- the last of three tests holds where all do
 last_holds : (a b c : Bool) → IsTrue (a && b && c) → IsTrue c

@@ -1,49 +1,18 @@
 -- What worked examples of answers stand on: parts whose classes of bytes are tests that compute.
-use Rattle.std.proofs.Common.{◌≡◌, ℕ, ◌≤◌, Bool, true, false, ◌&&◌, List, [], ◌∷◌, ◌++◌, length, map, Some, Option, nat_lt, nat_le, ◌==◌, refl, sym, ap, ◌∙◌, arith}
+use Rattle.std.proofs.Common.{◌≡◌, ℕ, ◌≤◌, Bool, true, false, ◌&&◌, List, [], ◌∷◌, ◌++◌, length, map, Some, Option, nat_le, ◌==◌, refl, sym, ap, ◌∙◌, arith}
 use Rattle.std.specs.List.{list_all, AllByRecursion}
 use Rattle.std.specs.Char.{is_ascii_digit}
-use Rattle.std.proofs.lemmas.Bool.{and_parts, ltb-true, leb-true, eqb-true, false≢true}
+use Rattle.std.proofs.lemmas.Bool.{and_parts, leb-true, eqb-true, false≢true}
 use Rattle.std.proofs.lemmas.List.Sums.{AllPass-from_list_all}
 use Rattle.std.proofs.lemmas.List.Elements.{All-from_recursion, All-head, All-tail}
 use Rattle.std.specs.Prelude.{IsTrue}
-use Rattle.httparse.specs.Grammar.{ResponseHead, IsResponseHead, Field, IsField, AllPass, crlf, is_token, is_token_byte, is_value_byte, print_response, reason_phrase, status_code, field_value}
-use Rattle.http_header.specs.FieldName.{is_field_name}
-use Rattle.http_header.specs.Token.{is_value_byte as is_field_byte}
-use Rattle.http_header.proofs.TokenLemmas.{IsFieldName-from_test}
+use Rattle.httparse.specs.Grammar.{ResponseHead, IsResponseHead, Field, IsField, AllPass, crlf, is_token_byte, is_value_byte, print_response, reason_phrase, status_code}
 use Rattle.model_h1.specs.RequestHead.{IsHeaderField, header_of}
+use Rattle.model_h1.proofs.ExampleLemmas.{is_plain_field, grammar_fields, header_fields}
 use Rattle.model_client.specs.AnswerTable.{answer_kind, answer_connection}
 use Rattle.model_client.specs.AnswerReading.{Answer, IsTextOf}
 
 -- ---- heads
-
--- a field's name and value are of their classes, for the grammar and as a header's
-abbrev pub is_plain_field : Field → Bool
-is_plain_field f = is_token f.name && (list_all is_value_byte f.raw && (is_field_name f.name && list_all is_field_byte (field_value f)))
-
--- a field, for the grammar and as a header's
-field_read : (f : Field) → is_plain_field f ≡ true → IsField f × IsHeaderField f
-field_read f e =
-    let name = and_parts (is_token f.name) (list_all is_value_byte f.raw && (is_field_name f.name && list_all is_field_byte (field_value f))) e in
-    let raw = and_parts (list_all is_value_byte f.raw) (is_field_name f.name && list_all is_field_byte (field_value f)) name.1 in
-    let header = and_parts (is_field_name f.name) (list_all is_field_byte (field_value f)) raw.1 in
-    let token = and_parts (nat_lt 0 (length f.name)) (list_all is_token_byte f.name) name.0 in (
-      record { name = (ltb-true 0 (length f.name) token.0, AllPass-from_list_all is_token_byte f.name token.1); raw = AllPass-from_list_all is_value_byte f.raw raw.0 },
-      record { name = IsFieldName-from_test f.name header.0; value = AllPass-from_list_all is_field_byte (field_value f) header.1 },
-    )
-
--- each field, for the grammar
-grammar_fields : (fields : List Field) → list_all is_plain_field fields ≡ true → AllByRecursion IsField fields
-grammar_fields [] e = tt
-grammar_fields (f ∷ fields) e =
-    let both = and_parts (is_plain_field f) (list_all is_plain_field fields) e in
-    ((field_read f both.0).0, grammar_fields fields both.1)
-
--- each field, as a header's
-header_fields : (fields : List Field) → list_all is_plain_field fields ≡ true → AllByRecursion IsHeaderField fields
-header_fields [] e = tt
-header_fields (f ∷ fields) e =
-    let both = and_parts (is_plain_field f) (list_all is_plain_field fields) e in
-    ((field_read f both.0).1, header_fields fields both.1)
 
 -- the tree of a head, each line ended by CR LF
 abbrev pub plain_tree : ℕ → List ℕ → Option (List ℕ) → List Field → ResponseHead

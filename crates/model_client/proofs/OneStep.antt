@@ -1,17 +1,12 @@
 -- An event has one outcome and one state after it.
-use Rattle.std.proofs.Common.{◌≡◌, ℕ, Bool, true, false, List, [], ◌∷◌, ◌++◌, map, Option, Some, None, refl, sym, ap, ◌∙◌, subst}
+use Rattle.std.proofs.Common.{◌≡◌, ℕ, Bool, true, false, List, [], ◌∷◌, Option, Some, None, sym, ap, ◌∙◌, subst}
 use Rattle.std.specs.Prelude.{slice_range}
-use Rattle.model_h1.specs.ChunkedText.{Trailer}
-use Rattle.model_h1.specs.Place.{Place}
-use Rattle.model_h1.specs.TakeNext.{Next, chunk, waits, ended, breaks, take_next}
-use Rattle.model_h1.proofs.Trailers.{section_tells}
 use Rattle.model_h1.specs.Setting.{Setting}
-use Rattle.model_h1.specs.Parse.{trailer_header}
 use Rattle.model_h1.specs.Event as server
 use Rattle.model_h1.proofs.HeadPieceLemmas.{head_piece_unique}
-use Rattle.model_state.specs.Kept.{Rest, no_rest, raw_rest, fixed_rest, chunks_rest, frames_rest}
-use Rattle.model_state.specs.Pull.{Pulled, gives, EndsWith, IsPullOfChunks, IsPull}
+use Rattle.model_state.specs.Pull.{Pulled}
 use Rattle.model_state.specs.Change.{IsComing}
+use Rattle.model_state.proofs.OneStep.{pull_one, coming_one}
 use Rattle.model_client.specs.AnswerReading.{AnswerReading, IsAnswerReadingWithin}
 use Rattle.model_client.proofs.AnswerLemmas.{answer_within_unique}
 use Rattle.model_client.specs.ClientEvent as on
@@ -20,31 +15,6 @@ use Rattle.model_client.specs.ClientKept.{Waiting, ReadingBody, ClientKept, is_f
 use Rattle.model_client.specs.ClientStep.{ClientChange, outcome_of, pulled_from, IsPulling, behind_head, IsUpcoming, IsNext, IsClientChange, IsClientStep}
 
 -- ---- a pull
-
--- the text of a section has one list of trailers
-ends_one : (section behind : List ℕ) (p q : Pulled) → EndsWith section behind p → EndsWith section behind q → p ≡ q
-ends_one [] behind p q x y = x ∙ sym y
-ends_one (b ∷ section) behind p q x y =
-    let lines = section_tells x.0 y.0 x.1 y.1 (x.2 ∙ sym y.2) in
-    x.3 ∙ ap (λ (l : List Trailer). gives (server.trailers (map trailer_header l)) no_rest behind) lines ∙ sym y.3
-
--- what a pull gives of chunks is one
-chunks_one : (is_ended : Bool) (place : Place) (section bytes : List ℕ) (next : Next) (noted : List ℕ) (p q : Pulled)
-    → IsPullOfChunks is_ended place section bytes next noted p → IsPullOfChunks is_ended place section bytes next noted q → p ≡ q
-chunks_one is_ended place section bytes (chunk given next behind) noted p q x y = x ∙ sym y
-chunks_one true place section bytes (waits next) noted p q x y = x ∙ sym y
-chunks_one false place section bytes (waits next) noted p q x y = x ∙ sym y
-chunks_one is_ended place section bytes (ended behind) noted p q x y = ends_one (section ++ noted) behind p q x y
-chunks_one is_ended place section bytes breaks noted p q x y = x ∙ sym y
-
--- and what it gives of any rest
-pull_one : (is_ended : Bool) (rest : Rest) (bytes : List ℕ) (p q : Pulled) → IsPull is_ended rest bytes p → IsPull is_ended rest bytes q → p ≡ q
-pull_one is_ended no_rest bytes p q x y = x ∙ sym y
-pull_one is_ended raw_rest bytes p q x y = x ∙ sym y
-pull_one is_ended (fixed_rest n) bytes p q x y = x ∙ sym y
-pull_one is_ended (chunks_rest place section) bytes p q x y =
-    chunks_one is_ended place section bytes (take_next place bytes).next (take_next place bytes).trailers p q x y
-pull_one is_ended (frames_rest under_way limit) bytes p q x y = x ∙ sym y
 
 -- so that a pull changes one thing
 pulling_one : (k : ClientKept) (body : Option ReadingBody) (c d : ClientChange) → IsPulling k body c → IsPulling k body d → c ≡ d
@@ -91,14 +61,6 @@ change_one setting k on.pull c d x y = pulling_one k k.reading c d x y
 change_one setting k on.drop_body c d x y = x ∙ sym y
 change_one setting k (on.write n) c d x y = x ∙ sym y
 change_one setting k (on.tick ms) c d x y = x ∙ sym y
-
--- whether a head is coming is one thing
-pub coming_one : (free : Bool) (bytes : List ℕ) (a b : Bool) → IsComing free bytes a → IsComing free bytes b → a ≡ b
-coming_one false bytes a b x y = x ∙ sym y
-coming_one true bytes true true x y = refl
-coming_one true bytes false false x y = refl
-coming_one true bytes true false x y = absurd (y x.0 x.1 x.2)
-coming_one true bytes false true x y = absurd (x y.0 y.1 y.2)
 
 pub one_outcome : (setting : Setting) (k : ClientKept) (event : ClientEvent) (a b : ClientOutcome) (m n : ClientKept)
     → IsClientStep setting k event a m → IsClientStep setting k event b n → a ≡ b

@@ -11,7 +11,7 @@ use Rattle.model_client.specs.ClientEvent as on
 use Rattle.model_client.specs.ClientEvent.{ClientEvent, ClientEnd, ClientOutcome}
 use Rattle.model_client.specs.ClientKept.{Waiting, SendingBody, ReadingBody, ClientKept, client_closing}
 use Rattle.model_client.specs.ClientStep.{ClientChange, sending_piece, ending_body, passed_body, passing, dropping, outcome_of, reading, body_at_end, IsPulling, behind_final, behind_head, IsUpcoming, IsNext, IsClientChange}
-use Rattle.model_client.specs.ClientTrace.{Happened, IsClientTrace, asked_by, asked_of, answers_one, answered_of}
+use Rattle.model_client.specs.ClientTrace.{Happened, IsClientTrace, requests_by, requests_of, answers_one, answered_of}
 use Rattle.model_client.proofs.Answered.{told_without}
 
 -- one where a request is answered, and else none
@@ -109,9 +109,9 @@ ordered_pull k (Some body) c (p, pull, is) = calm_as k c _ is refl (no_answer p.
 
 -- the same with the request that an event asks
 abbrev IsOrderedBehind : ClientKept → ClientEvent → ClientChange → Type 0
-IsOrderedBehind k event c = IsLeft (k.waiting ++ asked_by event) c.kept.waiting (count (answers_one c.outcome))
+IsOrderedBehind k event c = IsLeft (k.waiting ++ requests_by event) c.kept.waiting (count (answers_one c.outcome))
 
-asks_none : (k : ClientKept) (event : ClientEvent) (c : ClientChange) → asked_by event ≡ [] → IsOrdered k c → IsOrderedBehind k event c
+asks_none : (k : ClientKept) (event : ClientEvent) (c : ClientChange) → requests_by event ≡ [] → IsOrdered k c → IsOrderedBehind k event c
 asks_none k event c none x =
     subst (λ (ws : List Waiting). IsLeft ws c.kept.waiting (count (answers_one c.outcome)))
     (sym (ap (λ (ws : List Waiting). k.waiting ++ ws) none ∙ append-nil k.waiting)) x
@@ -143,13 +143,13 @@ joined all more after n d fits (is, low) = (
 )
 
 pub in_order : (setting : Setting) (trace : List Happened) (k : ClientKept) → IsClientTrace setting trace k
-    → IsLeft (asked_of trace) k.waiting (answered_of trace)
+    → IsLeft (requests_of trace) k.waiting (answered_of trace)
 in_order setting [] k is = (ap (λ (k : ClientKept). k.waiting) is, omega arith)
 in_order setting (s ∷ before) k (b, trace, allowed, step) =
     let old = in_order setting before b trace in
     let new = ordered setting b s.event step.change step.changes in
-    let kept = subst (λ (ws : List Waiting). IsLeft (b.waiting ++ asked_by s.event) ws (count (answers_one step.change.outcome)))
+    let kept = subst (λ (ws : List Waiting). IsLeft (b.waiting ++ requests_by s.event) ws (count (answers_one step.change.outcome)))
     (sym (ap (λ (k : ClientKept). k.waiting) step.keeps)) new in
-    let told = subst (λ (o : ClientOutcome). IsLeft (b.waiting ++ asked_by s.event) k.waiting (count (answers_one o))) (sym step.answers) kept in
-    let left = subst (λ (ws : List Waiting). IsLeft (ws ++ asked_by s.event) k.waiting (count (answers_one s.outcome))) old.0 told in
-    joined (asked_of before) (asked_by s.event) k.waiting (answered_of before) (count (answers_one s.outcome)) old.1 left
+    let told = subst (λ (o : ClientOutcome). IsLeft (b.waiting ++ requests_by s.event) k.waiting (count (answers_one o))) (sym step.answers) kept in
+    let left = subst (λ (ws : List Waiting). IsLeft (ws ++ requests_by s.event) k.waiting (count (answers_one s.outcome))) old.0 told in
+    joined (requests_of before) (requests_by s.event) k.waiting (answered_of before) (count (answers_one s.outcome)) old.1 left

@@ -1,11 +1,11 @@
 -- What the client's side of a connection keeps, why it closes, and what is allowed.
 use Rattle.std.specs.Prelude.{ℕ, Bool, true, false, not, ◌&&◌, ◌||◌, List, [], ◌∷◌, length, codes, bytes_eq, nat_lt, nat_le, ◌==◌, if◌then◌else◌, Option, Some, None, is_some, is_none}
 use Rattle.std.specs.List.{list_any}
-use Rattle.model_h1.specs.Limits.{MAX_MOMENT}
-use Rattle.model_h1.specs.Request.{ConnectionType, keep_alive}
 use Rattle.model_h1.specs.Setting.{Setting}
 use Rattle.model_h1.specs.LengthTable.{values_of, is_there}
 use Rattle.model_h1.specs.Answer.{BodySize, size_of, Shape, shape_chunked, shape_raw}
+use Rattle.model_h1.specs.Closing.{is_kept}
+use Rattle.model_h1.specs.Facts.{may_follow}
 use Rattle.model_state.specs.Kept.{Rest}
 use Rattle.model_client.specs.RequestText.{asked_shape}
 use Rattle.model_client.specs.ClientEvent.{ClientRequest, ClientEvent, ask, chunk, body_end, body_error, read, eof, next, pull, drop_body, write, tick, ClientEnd, asked, unasked, input_ended}
@@ -94,11 +94,6 @@ abbrev pub has_bytes : List ℕ → Bool
 has_bytes [] = false
 has_bytes (b ∷ bytes) = true
 
--- after it the connection goes on
-abbrev pub is_kept_alive : ConnectionType → Bool
-is_kept_alive keep_alive = true
-is_kept_alive _ = false
-
 -- Why the connection closes, the first that holds: a fault; while an answer is read nothing else; a side asked for it; bytes
 -- that no request asked for; the input has ended, and no whole head is coming.
 abbrev pub client_closing : ClientKept → Option ClientEnd
@@ -120,7 +115,7 @@ is_reusable k =
 abbrev pub waiting_of : ClientRequest → Waiting
 waiting_of r = record {
   method = r.head.method;
-  closes = not (is_kept_alive r.connection) || is_there (values_of (codes "upgrade") r.head.headers);
+  closes = not (is_kept r.connection) || is_there (values_of (codes "upgrade") r.head.headers);
 }
 
 -- ---- what is allowed
@@ -177,7 +172,7 @@ allowed_closing _ = false
 
 -- a tick isn't before the last one, and is before the year 10000
 abbrev pub is_moment : ClientKept → ClientEvent → Bool
-is_moment k (tick ms) = nat_le k.now ms && nat_lt ms MAX_MOMENT
+is_moment k (tick ms) = may_follow k.now ms
 is_moment k _ = true
 
 abbrev pub client_allows : Setting → ClientKept → ClientEvent → Bool

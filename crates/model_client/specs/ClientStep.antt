@@ -8,6 +8,7 @@ use Rattle.model_h1.specs.LengthTable.{values_of, is_there}
 use Rattle.model_h1.specs.Setting.{Setting}
 use Rattle.model_h1.specs.Answer.{BodySize, is_at_once, Shape, shape_length}
 use Rattle.model_h1.specs.AnswerText.{piece_text, end_text}
+use Rattle.model_h1.specs.Closing.{is_kept}
 use Rattle.model_h1.specs.Event as server
 use Rattle.model_state.specs.Kept.{Rest, chunks_rest, whole_rest, rest_in, is_nothing}
 use Rattle.model_state.specs.Body.{Passed, pass_rest}
@@ -20,7 +21,7 @@ use Rattle.model_client.specs.AnswerParse.{is_interim}
 use Rattle.model_client.specs.RequestText.{request_text, asked_shape}
 use Rattle.model_client.specs.ClientEvent as on
 use Rattle.model_client.specs.ClientEvent.{ClientRequest, ClientEvent, ClientEnd, bad_answer, large_answer, broken_answer, failed_request, ClientOutcome}
-use Rattle.model_client.specs.ClientKept.{Waiting, SendingBody, ReadingBody, ClientKept, is_free, is_kept_alive, client_closing, waiting_of}
+use Rattle.model_client.specs.ClientKept.{Waiting, SendingBody, ReadingBody, ClientKept, is_free, client_closing, waiting_of}
 
 -- an outcome, and what is kept after it
 pub record ClientChange : Type 0 where
@@ -167,7 +168,7 @@ is_last_answer a = (a.status == 101) || is_ambiguous a
 
 -- the connection closes after this answer
 abbrev pub is_closed_after : Waiting → Answer → Bool
-is_closed_after w a = w.closes || not (is_kept_alive (connection_to w.method a)) || is_last_answer a
+is_closed_after w a = w.closes || not (is_kept (connection_to w.method a)) || is_last_answer a
 
 -- After a final answer its request waits no more; an interim one leaves it waiting, and has no body (RFC 7231, section 6.2).
 abbrev pub behind_final : ClientKept → List ℕ → Answer → Waiting → List Waiting → ClientKept

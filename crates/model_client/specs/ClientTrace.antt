@@ -93,14 +93,14 @@ taken (s ∷ before) = taken before ++ taken_by s.event s.outcome
 -- ---- who is answered
 
 -- a request that was asked
-abbrev pub asked_by : ClientEvent → List Waiting
-asked_by (on.ask r size) = waiting_of r ∷ []
-asked_by _ = []
+abbrev pub requests_by : ClientEvent → List Waiting
+requests_by (on.ask r size) = waiting_of r ∷ []
+requests_by _ = []
 
 -- all requests, the first first
-abbrev pub asked_of : List Happened → List Waiting
-asked_of [] = []
-asked_of (s ∷ before) = asked_of before ++ asked_by s.event
+abbrev pub requests_of : List Happened → List Waiting
+requests_of [] = []
+requests_of (s ∷ before) = requests_of before ++ requests_by s.event
 
 -- an answer after which its request waits no more
 abbrev pub answers_one : ClientOutcome → Bool

@@ -9,7 +9,7 @@ use Rattle.model_client.specs.AnswerReading.{refused}
 use Rattle.model_client.specs.AnswerParse.{Received, AnswerMessage, is_interim, AreAnswersIn}
 use Rattle.model_client.specs.ClientEvent as on
 use Rattle.model_client.specs.ClientEvent.{ClientEvent}
-use Rattle.model_client.specs.ClientTrace.{Happened, taken, asked_of}
+use Rattle.model_client.specs.ClientTrace.{Happened, taken, requests_of}
 use Rattle.model_client.specs.ReadOut.{ReadAnswer, newly_read, ReadOut, read_out}
 
 -- ---- what a client received, and asked
@@ -30,7 +30,7 @@ received_of setting trace = record { bytes = taken trace; ended = has_ended trac
 
 -- the methods of all requests, in the order in which they were asked
 abbrev pub methods_of : List Happened → List (List ℕ)
-methods_of trace = map (λ w. w.method) (asked_of trace)
+methods_of trace = map (λ w. w.method) (requests_of trace)
 
 -- The answers in all bytes that were taken, each to its own request: an interim one leaves its request waiting.
 abbrev pub AreAnswersTaken : Setting → List Happened → List AnswerMessage → Type 0

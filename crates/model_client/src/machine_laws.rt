@@ -8,7 +8,7 @@ ghost use Rattle.model_client.specs.ClientEvent as on;
 ghost use Rattle.model_client.specs.ClientEvent.{ClientEvent, ClientEnd, ClientOutcome};
 ghost use Rattle.model_client.specs.ClientKept.{Waiting, ClientKept, client_closing, client_allows};
 ghost use Rattle.model_client.specs.ClientStep.{new_body, IsClientStep, KnowsComing};
-ghost use Rattle.model_client.specs.ClientTrace.{Happened, IsClientTrace, taken_by, taken, written, text_of, asked_of, answered_of};
+ghost use Rattle.model_client.specs.ClientTrace.{Happened, IsClientTrace, taken_by, taken, written, text_of, requests_of, answered_of};
 
 /// An event has one outcome and one state after it.
 pub fn one_step()
@@ -61,9 +61,9 @@ pub fn requests_are_written()
 /// as final answers were handed out.
 pub fn answers_come_in_order()
     ensures waiting { (setting : Setting) (trace : List Happened) (k : ClientKept) → IsClientTrace setting trace k
-        → k.waiting ≡ drop (answered_of trace) (asked_of trace) }
+        → k.waiting ≡ drop (answered_of trace) (requests_of trace) }
     ensures no_more { (setting : Setting) (trace : List Happened) (k : ClientKept) → IsClientTrace setting trace k
-        → answered_of trace ≤ length (asked_of trace) }
+        → answered_of trace ≤ length (requests_of trace) }
 {}
 
 /// What is left of the bytes that were taken is their end: an event passes some of those in front, and nothing else becomes of

@@ -13,7 +13,7 @@ use Rattle.h1_encoder.proofs.BodyText.{chunks_all, length_all}
 use Rattle.h1_codec.specs.Kinds.{requests}
 use Rattle.h1_codec.specs.FramedMessages.{Standing}
 use Rattle.h1_codec.specs.ClientState.{of_codec, client_encoding}
-use Rattle.h1_codec.specs.declared.client.Client.{Client}
+use Rattle.h1_codec.specs.declared.client_state.Client.{Client}
 use Rattle.h1_codec.specs.declared.client_codec.ClientCodec.{ClientCodec}
 use Rattle.model_codecs.specs.Acts.{Act, bytes_came, IsRun}
 use Rattle.model_codecs.specs.Given.{AreGiven}

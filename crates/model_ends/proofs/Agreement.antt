@@ -19,7 +19,7 @@ use Rattle.model_client.specs.ClientKept.{Waiting, ClientKept, client_closing, c
 use Rattle.model_client.specs.ClientStep.{IsClientStep}
 use Rattle.model_client.specs.ClientEvent as client_on
 use Rattle.model_client.specs.ClientEvent.{ClientEnd}
-use Rattle.model_client.specs.ClientTrace.{Happened, IsClientTrace, text_of, asked_of}
+use Rattle.model_client.specs.ClientTrace.{Happened, IsClientTrace, text_of, requests_of}
 use Rattle.model_client.proofs.Written.{is_text}
 use Rattle.model_ends.specs.PlainExchange.{IsPlainTrace}
 use Rattle.model_ends.specs.SentAnswer.{SentAnswer, AreSent, AreHeld, sent_text, AreTo, IsWaiting, answers_sent}
@@ -68,7 +68,7 @@ so_front e (o ∷ outs) (d ∷ ds) rest x = (x.0, so_front e outs ds rest x.1)
 -- a client hands out what was sent
 pub client_reads : (setting : Setting) (trace : List Happened) (k : ClientKept) (ss : List SentAnswer) (more : List ℕ) (further : List Waiting)
     → 0 < setting.hold_size → IsClientTrace setting trace k → bytes_taken trace ++ more ≡ sent_text ss
-    → AreTo is_interim (methods_of (asked_of trace ++ further)) ss → AreSent ss → AreHeld (Some setting.hold_size) ss
+    → AreTo is_interim (methods_of (requests_of trace ++ further)) ss → AreSent ss → AreHeld (Some setting.hold_size) ss
     → ((read_out trace).stray ≡ []) × AreReadOut k.has_ended (reverse (read_out trace).answers) ss
 client_reads setting trace k ss more further some ran text to sent held =
     let x = all_for setting ss some trace k more further ran text to sent held in (
@@ -120,7 +120,7 @@ server_serves client server asked k trace more some client_ran server_ran is pla
 pub record Joined (client server : Setting) (asked : List Happened) (k : ClientKept) (trace : List Step) : Type 0 where
   pub requests : ((handed_out trace).stray ≡ []) × AreServedOut (has_ended trace) (reverse (handed_out trace).messages) (reverse (requests_asked asked))
   pub is_plain : IsPlainTrace server trace
-  pub to : AreTo is_interim (methods_of (asked_of asked ++ [])) (answers_sent server trace)
+  pub to : AreTo is_interim (methods_of (requests_of asked ++ [])) (answers_sent server trace)
   pub sent : AreSent (answers_sent server trace)
   pub more : List ℕ
   pub came : bytes_taken asked ++ more ≡ sent_text (answers_sent server trace)
@@ -140,7 +140,7 @@ joined_ends client server asked k trace c plain =
       requests = requests;
       is_plain = is_plain;
       to =
-          subst (λ (l : List (List ℕ)). AreTo is_interim l (answers_sent server trace)) (sym (ap methods_of (append-nil (asked_of asked)) ∙ methods.1.1))
+          subst (λ (l : List (List ℕ)). AreTo is_interim l (answers_sent server trace)) (sym (ap methods_of (append-nil (requests_of asked)) ∙ methods.1.1))
           (trace_to server is_interim trace methods.1.0 waiting is_plain);
       sent = trace_sent server trace is_plain;
       more = c.to_client.0 ++ buffered server trace;
@@ -157,7 +157,7 @@ ends_agree client server asked k trace c plain =
     record {
       no_stray_item = j.requests.0;
       requests = j.requests.1;
-      to = subst (λ (l : List Waiting). AreTo is_interim (methods_of l) (answers_sent server trace)) (append-nil (asked_of asked)) j.to;
+      to = subst (λ (l : List Waiting). AreTo is_interim (methods_of l) (answers_sent server trace)) (append-nil (requests_of asked)) j.to;
       no_stray_answer = read.0;
       answers = read.1;
     }

@@ -19,7 +19,7 @@ use Rattle.model_client.specs.RequestText.{as_answer, asked_shape}
 use Rattle.model_client.specs.ClientEvent as client
 use Rattle.model_client.specs.ClientEvent.{ClientRequest, ClientEvent}
 use Rattle.model_client.specs.ClientKept.{Waiting, waiting_of}
-use Rattle.model_client.specs.ClientTrace.{Happened, asked_by, asked_of, now_of}
+use Rattle.model_client.specs.ClientTrace.{Happened, requests_by, requests_of, now_of}
 use Rattle.model_ends.specs.SentRequest.{sent_request}
 use Rattle.model_ends.proofs.ConnectionTypes.{connection_read}
 use Rattle.model_ends.proofs.Framing.{values-append}
@@ -91,7 +91,7 @@ changed_waits change rs same =
     ∙ sym (append-nil (map waits_as (reverse rs)))
 
 behind_waits : (event : ClientEvent) (now : ℕ) (rs : List AskedRequest)
-    → map waits_as (reverse (asked_behind event now rs)) ≡ map waits_as (reverse rs) ++ asked_by event
+    → map waits_as (reverse (asked_behind event now rs)) ≡ map waits_as (reverse rs) ++ requests_by event
 behind_waits (client.ask r size) now rs =
     sym (turned_map waits_as (newly_asked r size now ∷ rs)) ∙ reverse_onto (map waits_as rs) (waiting_of r) []
     ∙ ap (λ (l : List Waiting). l ++ waiting_of r ∷ []) (turned_map waits_as rs)
@@ -106,11 +106,11 @@ behind_waits client.drop_body now rs = sym (append-nil (map waits_as (reverse rs
 behind_waits (client.write n) now rs = sym (append-nil (map waits_as (reverse rs)))
 behind_waits (client.tick ms) now rs = sym (append-nil (map waits_as (reverse rs)))
 
-waits_are : (trace : List Happened) → asked_of trace ≡ map waits_as (reverse (requests_asked trace))
+waits_are : (trace : List Happened) → requests_of trace ≡ map waits_as (reverse (requests_asked trace))
 unfolding requests_asked
 waits_are [] = refl
 waits_are (s ∷ before) =
-    ap (λ (l : List Waiting). l ++ asked_by s.event) (waits_are before) ∙ sym (behind_waits s.event (now_of before) (requests_asked before))
+    ap (λ (l : List Waiting). l ++ requests_by s.event) (waits_are before) ∙ sym (behind_waits s.event (now_of before) (requests_asked before))
 
 -- ---- which heads were handed out
 
@@ -201,7 +201,7 @@ each_for e size (h ∷ hs) (r ∷ rs) (x ∷ es) served same plain =
 
 pub requests_for : (e : Bool) (size : ℕ) (trace : List Step) (asked : List Happened) → HasNoFault trace
     → AreServedOut e (reverse (handed_out trace).messages) (reverse (requests_asked asked)) → AllByRecursion (IsPlainAsked size) (reverse (requests_asked asked))
-    → AreFor (asked_of asked) (reverse (exchanges trace))
+    → AreFor (requests_of asked) (reverse (exchanges trace))
 requests_for e size trace asked sound served plain =
     subst (λ (l : List Waiting). AreFor l (reverse (exchanges trace))) (sym (waits_are asked))
     (each_for e size (reverse (handed_out trace).messages) (reverse (requests_asked asked)) (reverse (exchanges trace)) served (turned_readings trace sound) plain)

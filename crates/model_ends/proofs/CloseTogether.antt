@@ -20,7 +20,7 @@ use Rattle.model_client.specs.AnswerReading.{Answer}
 use Rattle.model_client.specs.ClientEvent.{ClientEnd, asked as was_asked, unasked, input_ended, failed_request, broken_answer}
 use Rattle.model_client.specs.ClientKept.{Waiting, ClientKept, is_free, is_waited_for, has_bytes, client_closing}
 use Rattle.model_client.specs.ClientStep.{is_ambiguous, is_closed_after}
-use Rattle.model_client.specs.ClientTrace.{Happened, asked_of, answered_of}
+use Rattle.model_client.specs.ClientTrace.{Happened, requests_of, answered_of}
 use Rattle.model_ends.specs.PlainExchange.{IsFramedReply, IsPlain}
 use Rattle.model_ends.specs.SentAnswer.{SentAnswer, sent_answer, sent_by, interim_sent, sent_to, answers_sent}
 use Rattle.model_ends.specs.AskedTrace.{requests_asked, IsPlainAsked}
@@ -254,8 +254,8 @@ closes_asked f free closes stray ended fine is_free to_close i = closing_of (fin
 
 -- what is known of both
 record Together (client server : Setting) (asked : List Happened) (k : ClientKept) (trace : List Step) : Type 0 where
-  known : KnownOf server trace (asked_of asked) (finals asked) (exchanges trace)
-  closes : k.closes ≡ closes_from (asked_of asked) (finals asked)
+  known : KnownOf server trace (requests_of asked) (finals asked) (exchanges trace)
+  closes : k.closes ≡ closes_from (requests_of asked) (finals asked)
   fair : k.failed ≡ Some was_asked → ⊥
 
 together : (client server : Setting) (asked : List Happened) (k : ClientKept) (trace : List Step) → AreConnected client server asked k trace
@@ -294,7 +294,7 @@ pub server_closes_too : (client server : Setting) (asked : List Happened) (k : C
 server_closes_too client server asked k trace c plain clear closing =
     let t = together client server asked k trace c plain clear in
     let to_close = asked_closes k.failed (is_free k) k.closes (not (is_waited_for k.waiting) && has_bytes k.unread) (k.has_ended && not k.is_coming) t.fair closing in
-    let r = client_ends server trace (asked_of asked) (finals asked) (exchanges trace) t.known (sym t.closes ∙ to_close) in
+    let r = client_ends server trace (requests_of asked) (finals asked) (exchanges trace) t.known (sym t.closes ∙ to_close) in
     (r.0, sym (finals_count asked) ∙ r.1)
 
 pub client_closes_too : (client server : Setting) (asked : List Happened) (k : ClientKept) (trace : List Step) → AreConnected client server asked k trace
@@ -302,5 +302,5 @@ pub client_closes_too : (client server : Setting) (asked : List Happened) (k : C
     → is_free k ≡ true → k.failed ≡ None → client_closing k ≡ Some was_asked
 client_closes_too client server asked k trace c plain clear end all free fine =
     let t = together client server asked k trace c plain clear in
-    let to_close = t.closes ∙ server_ends server trace (asked_of asked) (finals asked) (exchanges trace) t.known end (finals_count asked ∙ all) in
+    let to_close = t.closes ∙ server_ends server trace (requests_of asked) (finals asked) (exchanges trace) t.known end (finals_count asked ∙ all) in
     closes_asked k.failed (is_free k) k.closes (not (is_waited_for k.waiting) && has_bytes k.unread) (k.has_ended && not k.is_coming) fine free to_close

@@ -11,7 +11,7 @@ use Rattle.model_client.specs.ClientEvent as on
 use Rattle.model_client.specs.ClientEvent.{ClientEvent, ClientEnd, ClientOutcome}
 use Rattle.model_client.specs.ClientKept.{Waiting, SendingBody, ReadingBody, ClientKept, client_closing}
 use Rattle.model_client.specs.ClientStep.{ClientChange, sending_piece, ending_body, passed_body, passing, dropping, outcome_of, reading, body_at_end, is_closed_after, IsPulling, behind_final, behind_answer, behind_head, IsUpcoming, IsNext, IsClientChange}
-use Rattle.model_client.specs.ClientTrace.{Happened, IsClientTrace, asked_by, asked_of, answers_one, answered_of}
+use Rattle.model_client.specs.ClientTrace.{Happened, IsClientTrace, requests_by, requests_of, answers_one, answered_of}
 use Rattle.model_client.proofs.Answered.{told_without}
 use Rattle.model_client.proofs.Order.{in_order}
 
@@ -191,24 +191,24 @@ finals_count (s ∷ before) =
     length-append (finals before) (final_in s.outcome) ∙ ap₂ (λ (m n : ℕ). m + n) (finals_count before) (one_final s.outcome)
 
 pub closes_is : (setting : Setting) (trace : List Happened) (k : ClientKept) → IsClientTrace setting trace k
-    → k.closes ≡ closes_from (asked_of trace) (finals trace)
+    → k.closes ≡ closes_from (requests_of trace) (finals trace)
 closes_is setting [] k is = ap (λ (k : ClientKept). k.closes) is
 closes_is setting (s ∷ before) k (b, trace, allowed, step) =
     let old = closes_is setting before b trace in
     let order = in_order setting before b trace in
-    let fits : length (finals before) ≤ length (asked_of before) = omega (arith, order.1, finals_count before) in
-    let ws = asked_of before ++ asked_by s.event in
+    let fits : length (finals before) ≤ length (requests_of before) = omega (arith, order.1, finals_count before) in
+    let ws = requests_of before ++ requests_by s.event in
     let kept : k.closes ≡ step.change.kept.closes = ap (λ (k : ClientKept). k.closes) step.keeps in
     let told : final_in s.outcome ≡ final_in step.change.outcome = ap final_in step.answers in
     elim (to_close setting b s.event step.change step.changes) [
       | inl (none, same) ↦
-          kept ∙ same ∙ old ∙ sym (closes_more (asked_of before) (asked_by s.event) (finals before) fits)
+          kept ∙ same ∙ old ∙ sym (closes_more (requests_of before) (requests_by s.event) (finals before) fits)
           ∙ sym (ap (λ (l : List Answer). closes_from ws (finals before ++ l)) (told ∙ none) ∙ ap (closes_from ws) (append-nil (finals before)))
       | inr f ↦
-          let waits : drop (length (finals before)) ws ≡ f.first ∷ (f.others ++ asked_by s.event) =
-          ap (λ (n : ℕ). drop n ws) (finals_count before) ∙ drop-append-le (answered_of before) (asked_of before) (asked_by s.event) order.1
-          ∙ ap (λ (l : List Waiting). l ++ asked_by s.event) (sym order.0 ∙ f.waited) in
+          let waits : drop (length (finals before)) ws ≡ f.first ∷ (f.others ++ requests_by s.event) =
+          ap (λ (n : ℕ). drop n ws) (finals_count before) ∙ drop-append-le (answered_of before) (requests_of before) (requests_by s.event) order.1
+          ∙ ap (λ (l : List Waiting). l ++ requests_by s.event) (sym order.0 ∙ f.waited) in
           kept ∙ f.closes
           ∙ sym (ap (λ (l : List Answer). closes_from ws (finals before ++ l)) (told ∙ f.told)
-          ∙ closes_next ws (finals before) f.answer f.first (f.others ++ asked_by s.event) waits)
+          ∙ closes_next ws (finals before) f.answer f.first (f.others ++ requests_by s.event) waits)
     ]

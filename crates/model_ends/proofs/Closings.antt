@@ -13,7 +13,7 @@ use Rattle.model_client.specs.AnswerParse.{is_interim}
 use Rattle.model_client.specs.AnswerReading.{Answer}
 use Rattle.model_client.specs.ClientEvent as on
 use Rattle.model_client.specs.ClientEvent.{ClientRequest}
-use Rattle.model_client.specs.ClientKept.{Waiting, ClientKept, is_kept_alive, waiting_of}
+use Rattle.model_client.specs.ClientKept.{Waiting, ClientKept, waiting_of}
 use Rattle.model_client.specs.ClientStep.{connection_to, is_ambiguous, is_last_answer, is_closed_after, behind_final, behind_answer, IsClientStep}
 use Rattle.model_client.proofs.Answered.{answered, final_after}
 use Rattle.model_ends.specs.PlainExchange.{given_shape, IsSelfFramed}
@@ -24,7 +24,7 @@ use Rattle.model_ends.proofs.PlainExchange.{plain_sent}
 -- ---- what a request asks for stays
 
 abbrev NotKept : ConnectionType → Type 0
-NotKept kind = is_kept_alive kind ≡ false
+NotKept kind = is_kept kind ≡ false
 
 allowed_stays : (setting : Setting) (kind : ConnectionType) → NotKept kind → NotKept (allowed_type setting kind)
 allowed_stays setting keep_alive x = absurd (false≢true (sym x))
@@ -68,15 +68,10 @@ not_raw false raw_body text bytes sent status = absurd sent
 
 -- what is closed for, by its parts
 abbrev closed_for : ConnectionType → Bool → ConnectionType → Bool → Bool
-closed_for asked other kind last = (not (is_kept_alive asked) || other) || not (is_kept_alive kind) || last
-
-kept_same : (kind : ConnectionType) → is_kept_alive kind ≡ is_kept kind
-kept_same keep_alive = refl
-kept_same close = refl
-kept_same upgrade = refl
+closed_for asked other kind last = (not (is_kept asked) || other) || not (is_kept kind) || last
 
 by_kind : (asked kind : ConnectionType) → (NotKept asked → NotKept kind) → closed_for asked false kind false ≡ not (is_kept kind)
-by_kind asked kind stays = by_tests (is_kept_alive asked) (is_kept_alive kind) stays ∙ ap not (kept_same kind)
+by_kind asked kind stays = by_tests (is_kept asked) (is_kept kind) stays
   where
     by_tests : (a k : Bool) → (a ≡ false → k ≡ false) → ((not a || false) || not k || false) ≡ not k
     by_tests true true stays = refl

@@ -13,7 +13,7 @@ use Rattle.model_h1.proofs.ExchangeTraces.{exchange_heads}
 use Rattle.model_client.specs.ClientEvent as client
 use Rattle.model_client.specs.ClientEvent.{ClientEvent}
 use Rattle.model_client.specs.ClientKept.{Waiting}
-use Rattle.model_client.specs.ClientTrace.{Happened, asked_by, asked_of, now_of}
+use Rattle.model_client.specs.ClientTrace.{Happened, requests_by, requests_of, now_of}
 use Rattle.model_ends.specs.SentAnswer.{methods_asked}
 use Rattle.model_ends.specs.AskedTrace.{AskedRequest, with_piece, of_newest, asked_behind, requests_asked, AreServedOut}
 use Rattle.model_ends.proofs.Holds.{methods_of}
@@ -183,7 +183,7 @@ changed_names change rs same =
     sym (turned_map f (of_newest change rs)) ∙ ap reverse (newest_names change rs same) ∙ turned_map f rs ∙ sym (append-nil (asked_names (reverse rs)))
 
 behind_names : (event : ClientEvent) (now : ℕ) (rs : List AskedRequest)
-    → asked_names (reverse (asked_behind event now rs)) ≡ asked_names (reverse rs) ++ methods_of (asked_by event)
+    → asked_names (reverse (asked_behind event now rs)) ≡ asked_names (reverse rs) ++ methods_of (requests_by event)
 behind_names (client.ask r size) now rs =
     let a : AskedRequest = record { given = record { head = r.head; size = size; kind = r.connection; moment = now; pieces = [] }; is_ended = false } in
     sym (turned_map (λ (r : AskedRequest). r.given.head.method) (a ∷ rs)) ∙ reverse_onto (asked_names rs) r.head.method []
@@ -199,11 +199,11 @@ behind_names client.drop_body now rs = sym (append-nil (asked_names (reverse rs)
 behind_names (client.write n) now rs = sym (append-nil (asked_names (reverse rs)))
 behind_names (client.tick ms) now rs = sym (append-nil (asked_names (reverse rs)))
 
-names_of : (trace : List Happened) → methods_of (asked_of trace) ≡ asked_names (reverse (requests_asked trace))
+names_of : (trace : List Happened) → methods_of (requests_of trace) ≡ asked_names (reverse (requests_asked trace))
 unfolding requests_asked
 names_of [] = refl
 names_of (s ∷ before) =
-    both_map (asked_of before) (asked_by s.event) ∙ ap (λ (l : List (List ℕ)). l ++ methods_of (asked_by s.event)) (names_of before)
+    both_map (requests_of before) (requests_by s.event) ∙ ap (λ (l : List (List ℕ)). l ++ methods_of (requests_by s.event)) (names_of before)
     ∙ sym (behind_names s.event (now_of before) (requests_asked before))
   where
     both_map : (xs ys : List Waiting) → methods_of (xs ++ ys) ≡ methods_of xs ++ methods_of ys
@@ -215,7 +215,7 @@ names_of (s ∷ before) =
 -- no head that was handed out is faulty, and the client asked those requests, and perhaps further ones
 pub agreed_methods : (e : Bool) (trace : List Step) (asked : List Happened) → AreServedOut e (reverse (handed_out trace).messages) (reverse (requests_asked asked))
     → AllByRecursion (λ (s : Step). (f : Fault) → ¬ (s.outcome ≡ on.fault f)) trace
-    × ((further : List (List ℕ)) × (methods_of (asked_of asked) ≡ methods_asked trace ++ further))
+    × ((further : List (List ℕ)) × (methods_of (requests_of asked) ≡ methods_asked trace ++ further))
 agreed_methods e trace asked x =
     let hs = reverse (handed_out trace).messages in
     let rs = reverse (requests_asked asked) in

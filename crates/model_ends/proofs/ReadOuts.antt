@@ -9,7 +9,7 @@ use Rattle.model_client.specs.ClientEvent as on
 use Rattle.model_client.specs.ClientEvent.{ClientEvent, ClientEnd, ClientOutcome, failed_request}
 use Rattle.model_client.specs.ClientKept.{Waiting, SendingBody, ReadingBody, ClientKept, is_free_of, is_dropped_of, client_closing, client_allows}
 use Rattle.model_client.specs.ClientStep.{ClientChange, asking, sending_piece, ending_body, dropping, reading, IsPulling, IsClientChange, KnowsComing}
-use Rattle.model_client.specs.ClientTrace.{Happened, IsClientTrace, asked_by, asked_of}
+use Rattle.model_client.specs.ClientTrace.{Happened, IsClientTrace, requests_by, requests_of}
 use Rattle.model_ends.specs.SentAnswer.{SentAnswer, AreSent, AreHeld, sent_text, AreTo}
 use Rattle.model_ends.proofs.SentAnswers.{no_head}
 use Rattle.model_client.specs.ReadOut.{ReadOut, nothing_read, reading_out, read_out}
@@ -100,17 +100,17 @@ module _ (setting : Setting) (ss : List SentAnswer) (some : 0 < setting.hold_siz
 
   abbrev After : ReadOut → ClientKept → List ℕ → List Waiting → ClientEvent → ClientChange → Type 0
   After out k future asked event c =
-      HoldsSo out k (taken_by event c.outcome ++ future) (asked_by event ++ asked) → HoldsSo (reading_out c.outcome out) c.kept future asked
+      HoldsSo out k (taken_by event c.outcome ++ future) (requests_by event ++ asked) → HoldsSo (reading_out c.outcome out) c.kept future asked
 
   step_for : (out : ReadOut) (k : ClientKept) (event : ClientEvent) (c : ClientChange) (future : List ℕ) (asked : List Waiting) → KnowsComing k
       → IsTrue (client_allows setting k event) → IsClientChange setting k event c
-      → HoldsSo out k (taken_by event c.outcome ++ future) (asked_by event ++ asked) → HoldsSo (reading_out c.outcome out) c.kept future asked
+      → HoldsSo out k (taken_by event c.outcome ++ future) (requests_by event ++ asked) → HoldsSo (reading_out c.outcome out) c.kept future asked
   step_for out k event c future asked known allowed x h = by_event event allowed x h
     where
       by_event : (event : ClientEvent) → IsTrue (client_allows setting k event) → IsClientChange setting k event c → After out k future asked event c
       by_event (on.ask r size) allowed x =
           subst (After out k future asked (on.ask r size)) (sym x)
-          (λ h. like_for out k (asking r size k) (asked_by (on.ask r size)) future asked
+          (λ h. like_for out k (asking r size k) (requests_by (on.ask r size)) future asked
           (record { unread = refl; waiting = refl; reading = refl; ended = refl; failed = inr refl }) h)
       by_event (on.chunk bytes) allowed x =
           subst (After out k future asked (on.chunk bytes)) (sym x) (λ h. like_for out k (sending_piece bytes k.sending k) [] future asked (piece_like bytes k.sending k) h)
@@ -160,7 +160,7 @@ module _ (setting : Setting) (ss : List SentAnswer) (some : 0 < setting.hold_siz
   known_of (s ∷ before) k (b, trace, allowed, step) = subst KnowsComing (sym step.keeps) step.comes
 
   pub all_for : (trace : List Happened) (k : ClientKept) (future : List ℕ) (asked : List Waiting) → IsClientTrace setting trace k
-      → bytes_taken trace ++ future ≡ sent_text ss → AreTo is_interim (methods_of (asked_of trace ++ asked)) ss → AreSent ss
+      → bytes_taken trace ++ future ≡ sent_text ss → AreTo is_interim (methods_of (requests_of trace ++ asked)) ss → AreSent ss
       → AreHeld (Some setting.hold_size) ss → HoldsSo (read_out trace) k future asked
   unfolding read_out bytes_taken
   all_for [] k future asked is text to sent held =
@@ -178,10 +178,10 @@ module _ (setting : Setting) (ss : List SentAnswer) (some : 0 < setting.hold_siz
       )
   all_for (s ∷ before) k future asked (b, trace, allowed, step) text to sent held =
       let more = taken_by s.event s.outcome in
-      let old : HoldsSo (read_out before) b (more ++ future) (asked_by s.event ++ asked) =
-      all_for before b (more ++ future) (asked_by s.event ++ asked) trace (sym (append_assoc (bytes_taken before) more future) ∙ text)
-      (subst (λ (l : List Waiting). AreTo is_interim (methods_of l) ss) (append_assoc (asked_of before) (asked_by s.event) asked) to) sent held in
-      let told = subst (λ (o : ClientOutcome). HoldsSo (read_out before) b (taken_by s.event o ++ future) (asked_by s.event ++ asked)) step.answers old in
+      let old : HoldsSo (read_out before) b (more ++ future) (requests_by s.event ++ asked) =
+      all_for before b (more ++ future) (requests_by s.event ++ asked) trace (sym (append_assoc (bytes_taken before) more future) ∙ text)
+      (subst (λ (l : List Waiting). AreTo is_interim (methods_of l) ss) (append_assoc (requests_of before) (requests_by s.event) asked) to) sent held in
+      let told = subst (λ (o : ClientOutcome). HoldsSo (read_out before) b (taken_by s.event o ++ future) (requests_by s.event ++ asked)) step.answers old in
       let new = step_for (read_out before) b s.event step.change future asked (known_of before b trace) allowed step.changes told in
       let named = subst (λ (o : ClientOutcome). HoldsSo (reading_out o (read_out before)) step.change.kept future asked) (sym step.answers) new in
       subst (λ (m : ClientKept). HoldsSo (reading_out s.outcome (read_out before)) m future asked) (sym step.keeps)

@@ -13,7 +13,7 @@ use Rattle.model_client.specs.AnswerParse.{is_interim}
 use Rattle.model_client.specs.ClientEvent.{ClientEnd, broken_answer, failed_request, asked as was_asked, input_ended}
 use Rattle.model_client.specs.ClientKept.{ClientKept}
 use Rattle.model_client.specs.ClientStep.{is_ambiguous}
-use Rattle.model_client.specs.ClientTrace.{Happened, IsClientTrace, asked_of, written as client_written}
+use Rattle.model_client.specs.ClientTrace.{Happened, IsClientTrace, requests_of, written as client_written}
 use Rattle.model_ends.specs.PlainExchange.{IsPlain}
 use Rattle.model_ends.specs.SentAnswer.{AreHeld, AreTo, answers_sent}
 use Rattle.model_ends.specs.AskedTrace.{requests_asked, IsPlainAsked, AreServedOut}
@@ -48,7 +48,7 @@ pub record ArePlain (client server : Setting) (asked : List Happened) (served : 
 pub record Agree (server : Setting) (asked : List Happened) (kept : ClientKept) (served : List Step) : Type 0 where
   pub no_stray_item : (handed_out served).stray ≡ []
   pub requests : AreServedOut (has_ended served) (reverse (handed_out served).messages) (reverse (requests_asked asked))
-  pub to : AreTo is_interim (map (λ w. w.method) (asked_of asked)) (answers_sent server served)
+  pub to : AreTo is_interim (map (λ w. w.method) (requests_of asked)) (answers_sent server served)
   pub no_stray_answer : (read_out asked).stray ≡ []
   pub answers : AreReadOut kept.has_ended (reverse (read_out asked).answers) (answers_sent server served)
 

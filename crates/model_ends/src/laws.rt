@@ -19,7 +19,7 @@ ghost use Rattle.model_client.specs.ClientEvent as on;
 ghost use Rattle.model_client.specs.ClientEvent.{ClientRequest, ClientEnd};
 ghost use Rattle.model_client.specs.ClientKept.{Waiting, ClientKept, waiting_of, is_free, client_closing, client_allows};
 ghost use Rattle.model_client.specs.ClientStep.{is_ambiguous, is_closed_after, IsClientStep};
-ghost use Rattle.model_client.specs.ClientTrace.{Happened, IsClientTrace, text_of, asked_of, answered_of};
+ghost use Rattle.model_client.specs.ClientTrace.{Happened, IsClientTrace, text_of, requests_of, answered_of};
 ghost use Rattle.model_ends.specs.PlainExchange.{IsSelfFramed};
 ghost use Rattle.model_ends.specs.SentAnswer.{SentAnswer, AreSent, AreHeld, sent_text, AreTo, sent_answer, answers_sent};
 ghost use Rattle.model_ends.specs.AskedTrace.{requests_asked, IsPlainAsked, AreServedOut};
@@ -44,7 +44,7 @@ pub fn a_server_hands_out_what_was_asked()
 pub fn a_client_hands_out_what_was_answered()
     ensures { (setting : Setting) (asked : List Happened) (kept : ClientKept) (ss : List SentAnswer) (more : List ℕ) (further : List Waiting)
         → 0 < setting.hold_size → IsClientTrace setting asked kept → bytes_taken asked ++ more ≡ sent_text ss
-        → AreTo is_interim (map (λ w. w.method) (asked_of asked ++ further)) ss → AreSent ss → AreHeld (Some setting.hold_size) ss
+        → AreTo is_interim (map (λ w. w.method) (requests_of asked ++ further)) ss → AreSent ss → AreHeld (Some setting.hold_size) ss
         → ((read_out asked).stray ≡ []) × AreReadOut kept.has_ended (reverse (read_out asked).answers) ss }
 {}
 

@@ -6,9 +6,9 @@
 //!
 //! # Texts
 //!
-//! - [`answers::two_ends`]: a client that reads all that a connection wrote reads exactly its answers, each to its own
-//!   request. [`answers::two_ends_so_far`] is the same of the first bytes.
-//! - [`requests::two_ends_of_requests`]: the same of the requests that a client writes, and a server's parse.
+//! - [`response_agreement::two_ends`]: a client that reads all that a connection wrote reads exactly its answers, each to its own
+//!   request. [`response_agreement::two_ends_so_far`] is the same of the first bytes.
+//! - [`request_agreement::two_ends_of_requests`]: the same of the requests that a client writes, and a server's parse.
 //! - [`heads`]: which heads are read back as they were written. [`frames`]: masked frames are read as they were.
 //!
 //! # Both ends
@@ -24,9 +24,9 @@
 #![tactic(auto)]
 
 pub mod agreement_examples;
-pub mod answers;
 pub mod examples;
 pub mod frames;
 pub mod heads;
 pub mod laws;
-pub mod requests;
+pub mod request_agreement;
+pub mod response_agreement;

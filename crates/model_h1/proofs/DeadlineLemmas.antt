@@ -16,9 +16,9 @@ use Rattle.model_h1.specs.Past.{ParsedStep, steps, parse_of, current, head_count
 use Rattle.model_h1.specs.Text.{buffered}
 use Rattle.model_h1.specs.Closing.{closing, closing_since}
 use Rattle.model_h1.specs.Allowed.{is_over, is_moment, is_allowed}
-use Rattle.model_h1.specs.OutcomeTable.{Times, times_of, tick_by, abandons, counted_from, has_run_out, is_kept_too_long, has_ended_body, tick_outcome, outcome_of}
+use Rattle.model_h1.specs.OutcomeTable.{Times, times_of, tick_by, abandons, counted_from, has_run_out, is_kept_too_long, has_ended_body, tick_outcome, outcome_of, waits_for_next}
 use Rattle.model_h1.specs.Trace.{IsAllowed, IsOutcome}
-use Rattle.model_h1.specs.Deadline.{times_out_by, tells_time_out, is_due, runs_out_at, timeout_at, kept_until, waits_for_next, times_out_at, still_comes, deadline, IsDeadline}
+use Rattle.model_h1.specs.Deadline.{times_out_by, tells_time_out, is_due, runs_out_at, timeout_at, kept_until, times_out_at, still_comes, deadline, IsDeadline}
 use Rattle.model_h1.proofs.PastLemmas.{past_of_unique, allowed_behind, outcome_unique}
 use Rattle.model_h1.proofs.PastExistence.{past_exists}
 

@@ -91,14 +91,14 @@ field_read f e =
     )
 
 -- each field, for the grammar
-grammar_fields : (fields : List Field) → list_all is_plain_field fields ≡ true → AllByRecursion IsField fields
+pub grammar_fields : (fields : List Field) → list_all is_plain_field fields ≡ true → AllByRecursion IsField fields
 grammar_fields [] e = tt
 grammar_fields (f ∷ fields) e =
     let both = and_parts (is_plain_field f) (list_all is_plain_field fields) e in
     ((field_read f both.0).0, grammar_fields fields both.1)
 
 -- each field, as a header's
-header_fields : (fields : List Field) → list_all is_plain_field fields ≡ true → AllByRecursion IsHeaderField fields
+pub header_fields : (fields : List Field) → list_all is_plain_field fields ≡ true → AllByRecursion IsHeaderField fields
 header_fields [] e = tt
 header_fields (f ∷ fields) e =
     let both = and_parts (is_plain_field f) (list_all is_plain_field fields) e in

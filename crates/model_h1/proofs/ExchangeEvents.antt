@@ -18,7 +18,7 @@ use Rattle.model_h1.specs.Sums.{Step, request, answered, answered_by, chunk_len,
 use Rattle.model_h1.specs.Past.{ParsedStep, steps, parse_of, current, upcoming, held}
 use Rattle.model_h1.specs.Text.{step_text}
 use Rattle.model_h1.specs.Closing.{told, fault_end, closing}
-use Rattle.model_h1.specs.Allowed.{is_allowed_closing, is_allowed, is_unanswered}
+use Rattle.model_h1.specs.Allowed.{is_allowed_closing, is_allowed, waits_for_answer}
 use Rattle.model_h1.specs.OutcomeTable.{head_outcome, upcoming_outcome, next_outcome, tick_outcome, is_abandoned, is_slow, is_idle, send_outcome, outcome_of}
 use Rattle.model_h1.specs.Laws.Exchanges.{Exchange, changed_by, Refusal, faulty_head, too_slow, refused_by}
 use Rattle.model_h1.proofs.ClosingLemmas.{running as not_closing}
@@ -194,7 +194,7 @@ tick_goes setting past None first ms es r e sound spoken =
 -- ---- events of an exchange
 
 -- where a request has no answer yet there is a head
-no_request : (before : List Step) (P : Type 0) → is_unanswered before ≡ true → request before ≡ None → P
+no_request : (before : List Step) (P : Type 0) → waits_for_answer before ≡ true → request before ≡ None → P
 no_request before P free none =
     absurd (false≢true (sym (ap is_some none) ∙ (and_parts _ _ (and_parts _ _ (and_parts _ _ free).0).0).0))
 
@@ -203,7 +203,7 @@ no_answer : (before : List Step) (P : Type 0) → is_answering before ≡ true �
 no_answer before P answering none = absurd (false≢true (sym (ap is_some none) ∙ (and_parts _ _ answering).0))
 
 -- an answer
-answer_goes : (setting : Setting) (before : List Step) (head : AnswerHead) (size : BodySize) (es : List Exchange) → is_unanswered before ≡ true
+answer_goes : (setting : Setting) (before : List Step) (head : AnswerHead) (size : BodySize) (es : List Exchange) → waits_for_answer before ≡ true
     → Spoken setting before es None → Goes setting before (on.answer head size) on.done es None
 unfolding changed_by refused_by
 answer_goes setting before head size [] free spoken = no_request before _ free spoken.newest.0
@@ -233,14 +233,14 @@ end_goes setting before (e ∷ es) answering spoken =
     (end_grown setting before e.head e.reply n.asked answering n.reply_is) spoken
 
 -- a client is told to go on
-told_goes : (setting : Setting) (before : List Step) (es : List Exchange) → is_unanswered before ≡ true → had_continue before ≡ false
+told_goes : (setting : Setting) (before : List Step) (es : List Exchange) → waits_for_answer before ≡ true → had_continue before ≡ false
     → Spoken setting before es None → Goes setting before on.send_continue on.done es None
 told_goes setting before [] free once spoken = no_request before _ free spoken.newest.0
 told_goes setting before (e ∷ es) free once spoken = continue_goes setting before e es free once spoken
 
 -- a WebSocket, by what is wrong with the handshake
 accept_goes : (setting : Setting) (before : List Step) (limit : ℕ) (wrong : Option HandshakeError) (es : List Exchange)
-    → is_unanswered before ≡ true → Spoken setting before es None
+    → waits_for_answer before ≡ true → Spoken setting before es None
     → Goes setting before (on.accept limit) (unwrap_or (option_map on.refused wrong) on.done) es None
 unfolding changed_by refused_by step_text
 accept_goes setting before limit (Some error) es free spoken =

@@ -10,7 +10,7 @@ use Rattle.model_h1.specs.Frame.{Message}
 use Rattle.model_h1.specs.Event as on
 use Rattle.model_h1.specs.Sums.{Step, Answered, request, answered_by, answered, answer_len, chunk_len, accepted_limit, accepted, is_upgraded, head_of, completes, is_complete, is_answering, is_draining, now}
 use Rattle.model_h1.specs.Text.{step_text, answer_text, chunk_sent, end_sent, accept_text}
-use Rattle.model_h1.specs.Allowed.{is_unanswered}
+use Rattle.model_h1.specs.Allowed.{waits_for_answer}
 use Rattle.model_h1.specs.Laws.Exchanges.{AnswerGiven, Reply, no_reply, answer_given, session, reply_text, newly_given, with_piece, with_end, with_sent, is_whole, answer_in}
 use Rattle.model_h1.proofs.StepLemmas.{step, accepted-cons, complete-more}
 use Rattle.model_h1.proofs.ClosingLemmas.{answered_still, len_still}
@@ -71,7 +71,7 @@ reply_still s before (session w) none plain other no_chunk no_end x = (
 -- ---- which reply there is
 
 -- where no answer was handed in and no WebSocket was accepted
-pub free_reply : (trace : List Step) (reply : Reply) → is_unanswered trace ≡ true → ReplyIs trace reply → reply ≡ no_reply
+pub free_reply : (trace : List Step) (reply : Reply) → waits_for_answer trace ≡ true → ReplyIs trace reply → reply ≡ no_reply
 free_reply trace no_reply free x = refl
 free_reply trace (answer_given a) free x =
     absurd (false≢true (sym (ap is_none x.0) ∙ (and_parts _ _ (and_parts _ _ free).0).1))
@@ -91,7 +91,7 @@ KnowsNone trace = ReplyIs trace no_reply
 
 -- an answer
 pub answer_grown : (setting : Setting) (before : List Step) (head : AnswerHead) (size : BodySize) (h : Head) (reply : Reply)
-    → request before ≡ Some h → is_unanswered before ≡ true → ReplyIs before reply
+    → request before ≡ Some h → waits_for_answer before ≡ true → ReplyIs before reply
     → Grown setting before (step (on.answer head size) on.done) h reply
     (newly_given (record { head = head; size = size; drained = is_draining before }) (now before))
 unfolding step_text answered
@@ -114,7 +114,7 @@ answer_grown setting before head size h reply asked free x =
 
 -- a WebSocket
 pub accept_grown : (setting : Setting) (before : List Step) (limit : ℕ) (h : Head) (reply : Reply)
-    → request before ≡ Some h → is_unanswered before ≡ true → ReplyIs before reply
+    → request before ≡ Some h → waits_for_answer before ≡ true → ReplyIs before reply
     → Grown setting before (step (on.accept limit) on.done) h reply
     (session (record { drained = is_draining before; moment = now before; sent = [] }))
 unfolding step_text

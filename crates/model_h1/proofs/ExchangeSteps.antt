@@ -12,7 +12,7 @@ use Rattle.model_h1.specs.Event as on
 use Rattle.model_h1.specs.Sums.{Step, request, answered_by, answered, answer_len, chunk_len, accepted_limit, accepted, head_of, is_continue, completes, had_continue, is_open, is_draining}
 use Rattle.model_h1.specs.Closing.{told}
 use Rattle.model_h1.specs.Text.{step_text, text}
-use Rattle.model_h1.specs.Allowed.{is_unanswered}
+use Rattle.model_h1.specs.Allowed.{waits_for_answer}
 use Rattle.model_h1.specs.Laws.Exchanges.{Reply, is_whole, Exchange, exchange_text, begun, changed_by, newest_changed, with_head, exchanges_behind, exchanges_text, Refusal, too_slow, refusal_text, refused_by, answers, answer_in, answers_in}
 use Rattle.model_h1.proofs.StepLemmas.{step, accepted-cons, since_head-more, since_head-head, complete-head}
 use Rattle.model_h1.proofs.ClosingLemmas.{answered_still, since_still}
@@ -190,7 +190,7 @@ reply_goes setting s before e es reply none other g spoken =
     }
 
 -- a client that is told to go on
-pub continue_goes : (setting : Setting) (before : List Step) (e : Exchange) (es : List Exchange) → is_unanswered before ≡ true
+pub continue_goes : (setting : Setting) (before : List Step) (e : Exchange) (es : List Exchange) → waits_for_answer before ≡ true
     → had_continue before ≡ false → Spoken setting before (e ∷ es) None → Goes setting before on.send_continue on.done (e ∷ es) None
 unfolding changed_by refused_by step_text
 continue_goes setting before e es free untold spoken =

@@ -16,7 +16,7 @@ use Rattle.model_h1.specs.Sums.{Step, step_taken, is_eof, is_pull, accepted_limi
 use Rattle.model_h1.specs.Handed.{HandedOut, nothing_handed, handing, marking_answered, handed_out}
 use Rattle.model_h1.specs.Past.{ParsedStep, steps, current, upcoming}
 use Rattle.model_h1.specs.Closing.{told_end, told, closing}
-use Rattle.model_h1.specs.Allowed.{is_allowed_closing, is_allowed, is_unanswered, asks_raw, gives_up, has_body_left}
+use Rattle.model_h1.specs.Allowed.{is_allowed_closing, is_allowed, waits_for_answer, asks_raw, gives_up, has_body_left}
 use Rattle.model_h1.specs.OutcomeTable.{is_trailers, gave_trailers, upcoming_outcome, next_outcome, pull_outcome, tick_outcome, is_abandoned, is_slow, is_idle, send_outcome, outcome_of}
 use Rattle.model_h1.proofs.StepLemmas.{accepted-cons, since_head-more, allowed_open}
 use Rattle.model_h1.proofs.HandedItems.{outcome_items}
@@ -230,7 +230,7 @@ no_limit (Some limit) e = absurd (true≢false e)
 
 -- Accept, by what is wrong with the handshake
 accept_case : (setting : Setting) (before : List ParsedStep) (limit : ℕ) (o : Outcome) (wrong : Option HandshakeError)
-    → o ≡ unwrap_or (option_map on.refused wrong) on.done → is_unanswered (steps before) ≡ true → asks_raw (request (steps before)) ≡ true
+    → o ≡ unwrap_or (option_map on.refused wrong) on.done → waits_for_answer (steps before) ≡ true → asks_raw (request (steps before)) ≡ true
     → (was_pulled (steps before) || was_dropped (steps before)) ≡ false → StepCase setting before (step (on.accept limit) o)
 accept_case setting before limit o (Some e) x unanswered raw unpulled = other (still (on.accept limit) o (on.refused e) x refl refl refl refl refl)
 accept_case setting before limit o None x unanswered raw unpulled =

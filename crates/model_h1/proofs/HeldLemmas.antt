@@ -10,7 +10,7 @@ use Rattle.model_h1.specs.Setting.{Setting}
 use Rattle.model_h1.specs.Parse.{Input, Message, next_start, IsParse}
 use Rattle.model_h1.specs.Sums.{Step, step_taken, taken, is_pull, is_eof, accepted_limit, accepted, head_of, since_head, request, answered, has_ended, is_upgraded, is_complete, is_open, was_pulled, was_dropped}
 use Rattle.model_h1.specs.Past.{ParsedStep, steps, input_of, parse_of, head_count, current, given_bytes, given_frames, passed, held}
-use Rattle.model_h1.specs.Allowed.{is_unanswered}
+use Rattle.model_h1.specs.Allowed.{waits_for_answer}
 use Rattle.model_h1.proofs.BodyLemmas.{input}
 use Rattle.model_h1.proofs.PastLemmas.{Legal}
 use Rattle.model_h1.proofs.PlaceLemmas.{get_before}
@@ -52,7 +52,7 @@ unpulled_given setting (m ∷ before) x e =
     ]
 
 -- the test of what was accepted: no answer was complete
-not_complete : (trace : List Step) → is_unanswered trace ≡ true → is_complete trace ≡ true → ⊥
+not_complete : (trace : List Step) → waits_for_answer trace ≡ true → is_complete trace ≡ true → ⊥
 not_complete trace x complete =
     let parts = and_parts (is_open trace && is_none (answered trace)) (not (is_upgraded trace)) x in
     let opened = (and_parts (is_open trace) (is_none (answered trace)) parts.0).0 in
@@ -65,7 +65,7 @@ not_complete trace x complete =
     go false false a b d = false≢true d
 
 -- what waits for its answer is no WebSocket yet
-pub not_upgraded : (trace : List Step) → is_unanswered trace ≡ true → accepted trace ≡ None
+pub not_upgraded : (trace : List Step) → waits_for_answer trace ≡ true → accepted trace ≡ None
 not_upgraded trace x =
     go (accepted trace) (not-true (is_upgraded trace) (and_parts (is_open trace && is_none (answered trace)) (not (is_upgraded trace)) x).1)
   where

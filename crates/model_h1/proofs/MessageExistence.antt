@@ -17,18 +17,18 @@ use Rattle.model_h1.proofs.ReadingDecisions.{reading_within_of}
 -- ---- bodies
 
 -- a body that ends does so at the place or behind it
-abbrev StopsBehind : ℕ → Stop → Type 0
+abbrev pub StopsBehind : ℕ → Stop → Type 0
 StopsBehind place (ended_at next trailers) = place ≤ next
 StopsBehind place still_open = Unit {0}
 StopsBehind place broken = Unit {0}
 StopsBehind place cut = Unit {0}
 
 -- and then the next message starts there
-abbrev GoesOn : ℕ → Body → Type 0
+abbrev pub GoesOn : ℕ → Body → Type 0
 GoesOn place b = (next : ℕ) → next_start b ≡ Some next → place ≤ next
 
 -- content that stops so goes on so
-content_goes_on : (place : ℕ) (runs : List Run) (stop : Stop) → StopsBehind place stop → GoesOn place (content runs stop)
+pub content_goes_on : (place : ℕ) (runs : List Run) (stop : Stop) → StopsBehind place stop → GoesOn place (content runs stop)
 content_goes_on place runs (ended_at end trailers) behind next e =
     let same : end ≡ next = cc in
     omega arith
@@ -37,12 +37,12 @@ content_goes_on place runs broken behind next e = cc
 content_goes_on place runs cut behind next e = cc
 
 -- what isn't all there stops in no place
-open_or_cut_behind : (place : ℕ) (ended : Bool) → StopsBehind place (open_or_cut ended)
+pub open_or_cut_behind : (place : ℕ) (ended : Bool) → StopsBehind place (open_or_cut ended)
 open_or_cut_behind place true = tt
 open_or_cut_behind place false = tt
 
 -- a body that is parsed at the place
-abbrev HasBody : (Body → Type 0) → ℕ → Type 0
+abbrev pub HasBody : (Body → Type 0) → ℕ → Type 0
 HasBody Is place = (b : Body) × Is b × GoesOn place b
 
 -- a body of a fixed length

@@ -20,7 +20,7 @@ use Rattle.model_h1.proofs.MessageExistence.{parse_exists}
 -- ---- runs and stops
 
 -- runs that are counted from one place and then from another
-shifted-shifted : (len place : ℕ) (runs : List Run) → shifted len (shifted place runs) ≡ shifted (len + place) runs
+pub shifted-shifted : (len place : ℕ) (runs : List Run) → shifted len (shifted place runs) ≡ shifted (len + place) runs
 shifted-shifted len place [] = refl
 shifted-shifted len place (r ∷ runs) =
     let start : len + (place + r.start) ≡ len + place + r.start = omega arith in
@@ -28,7 +28,7 @@ shifted-shifted len place (r ∷ runs) =
     λ i. record { start = start i; end = end i } ∷ shifted-shifted len place runs i
 
 -- the run between two places
-moved_between : (len start end : ℕ) → shifted len (run_between start end) ≡ run_between (len + start) (len + end)
+pub moved_between : (len start end : ℕ) → shifted len (run_between start end) ≡ run_between (len + start) (len + end)
 moved_between len start end =
     elim (cases_lt start end) [
       | inl some ↦
@@ -40,7 +40,7 @@ moved_between len start end =
     ]
 
 -- what has no end has no place
-moved_open_or_cut : (len : ℕ) (ended : Bool) → moved_stop len (open_or_cut ended) ≡ open_or_cut ended
+pub moved_open_or_cut : (len : ℕ) (ended : Bool) → moved_stop len (open_or_cut ended) ≡ open_or_cut ended
 moved_open_or_cut len true = refl
 moved_open_or_cut len false = refl
 
@@ -119,7 +119,7 @@ moved_after len bytes u ended size (faulty fault) place b within x = ap (moved_b
 moved_after len bytes u ended size (head_is h) place b within x = moved_of_kind len bytes u ended size h.body place b within x
 
 -- where the next message starts
-moved_next : (len : ℕ) (b : Body) → next_start (moved_body len b) ≡ option_map (λ place. len + place) (next_start b)
+pub moved_next : (len : ℕ) (b : Body) → next_start (moved_body len b) ≡ option_map (λ place. len + place) (next_start b)
 moved_next len no_content = refl
 moved_next len (content runs (ended_at place trailers)) = refl
 moved_next len (content runs still_open) = refl

@@ -12,7 +12,7 @@ use Rattle.model_h1.specs.Trace.{IsPastOf, IsAllowed, IsOutcome, IsTrace}
 use Rattle.model_h1.proofs.MessageLemmas.{messages_unique}
 
 -- the first step and the others of a list of steps
-first_step : (s t : Step) (ss ts : List Step) → s ∷ ss ≡ t ∷ ts → s ≡ t
+pub first_step : (s t : Step) (ss ts : List Step) → s ∷ ss ≡ t ∷ ts → s ≡ t
 first_step s t ss ts e = cc
 
 -- and the same others

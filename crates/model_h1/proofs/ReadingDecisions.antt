@@ -19,13 +19,13 @@ dec_token : (text : List ℕ) → Dec (IsToken text)
 dec_token text = dec_both (dec_below 0 (length text)) (dec_pass is_token_byte text)
 
 -- a field line's name and value
-dec_header : (f : Field) → Dec (IsHeaderField f)
+pub dec_header : (f : Field) → Dec (IsHeaderField f)
 dec_header f =
     dec_like (λ x. record { name = x.0; value = x.1 }) (λ x. (x.name, x.value))
     (dec_both (dec_both (dec_token f.name) (dec_most (length f.name) 65535)) (dec_pass is_value_byte (field_value f)))
 
 -- a value, if there is one
-dec_some : {A : Type 0} → (o : Option A) → Dec ((x : A) × (o ≡ Some x))
+pub dec_some : {A : Type 0} → (o : Option A) → Dec ((x : A) × (o ≡ Some x))
 dec_some None = no (λ x. none_some x.0 x.1)
   where
     none_some : {A : Type 0} → (x : A) → None ≡ Some x → ⊥

@@ -17,7 +17,7 @@ use Rattle.model_h1.specs.Event as on
 use Rattle.model_h1.specs.Sums.{Step, step_taken, taken, is_eof, is_pull, accepted_limit, has_ended, accepted, head_of, since_head, completes, is_complete, was_pulled, was_dropped, request}
 use Rattle.model_h1.specs.Past.{ParsedStep, steps, input_of, parse_of, head_count, current, upcoming, step_bytes, step_frames, given_bytes, given_frames, held}
 use Rattle.model_h1.specs.Closing.{closing}
-use Rattle.model_h1.specs.Allowed.{is_allowed_running, is_allowed_closing, is_allowed, is_unanswered}
+use Rattle.model_h1.specs.Allowed.{is_allowed_running, is_allowed_closing, is_allowed, waits_for_answer}
 use Rattle.model_h1.specs.OutcomeTable.{head_outcome, upcoming_outcome, next_outcome, pull_outcome, tick_outcome, is_abandoned, is_slow, is_idle, send_outcome, outcome_of}
 use Rattle.model_h1.proofs.MessageLemmas.{messages_unique}
 use Rattle.model_h1.proofs.MessageGrowth.{piece_long}
@@ -134,7 +134,7 @@ pub record Accepts (before : List ParsedStep) (s : Step) : Type 0 where
   pub limit : ℕ
   pub event : s.event ≡ on.accept limit
   pub outcome : s.outcome ≡ on.done
-  pub unanswered : is_unanswered (steps before) ≡ true
+  pub unanswered : waits_for_answer (steps before) ≡ true
   pub unpulled : (was_pulled (steps before) || was_dropped (steps before)) ≡ false
 
 -- a head was handed out
@@ -226,7 +226,7 @@ send_mute (Some e) = (refl, refl, refl)
 
 -- Accept, by what is wrong with the handshake
 accept_case : (setting : Setting) (before : List ParsedStep) (limit : ℕ) (o : Outcome) (wrong : Option HandshakeError)
-    → o ≡ unwrap_or (option_map on.refused wrong) on.done → is_unanswered (steps before) ≡ true
+    → o ≡ unwrap_or (option_map on.refused wrong) on.done → waits_for_answer (steps before) ≡ true
     → (was_pulled (steps before) || was_dropped (steps before)) ≡ false → StepCase setting before (step (on.accept limit) o)
 accept_case setting before limit o (Some e) x unanswered unpulled =
     silent setting before (on.accept limit) o (on.refused e) x (refl, refl, refl) refl refl refl refl

@@ -29,7 +29,7 @@ written-nil : written [] ≡ []
 unfolding written
 written-nil = refl
 
-written-cons : (s : Step) (before : List Step) → written (s ∷ before) ≡ written before ++ step_written s.outcome
+pub written-cons : (s : Step) (before : List Step) → written (s ∷ before) ≡ written before ++ step_written s.outcome
 unfolding written
 written-cons s before = refl
 

@@ -27,15 +27,15 @@ gives_up on.pull on.body_ended = true
 gives_up on.pull (on.broken_by fault) = true
 gives_up _ _ = false
 
--- the open request has a body whose end, fault or drop hasn't come
+-- the open request has a body whose end, fault or drop hasn't come: by the steps here, and by what is noted in `model_state`
 abbrev pub has_body_left : List Step → Option Head → Bool
 has_body_left trace None = false
 has_body_left trace (Some h) =
     has_body h.body && is_open trace && not (list_any (λ s. gives_up s.event s.outcome) (since_head trace))
 
 -- the request is open, has no answer, and is no WebSocket
-abbrev pub is_unanswered : List Step → Bool
-is_unanswered trace = is_open trace && is_none (answered trace) && not (is_upgraded trace)
+abbrev pub waits_for_answer : List Step → Bool
+waits_for_answer trace = is_open trace && is_none (answered trace) && not (is_upgraded trace)
 
 abbrev pub request_expects : Option Head → Bool
 request_expects None = false
@@ -62,7 +62,7 @@ facts_of setting trace =
       is_upgraded = is_upgraded trace;
       is_open = is_open trace;
       has_body_left = has_body_left trace (request trace);
-      waits_for_answer = is_unanswered trace;
+      waits_for_answer = waits_for_answer trace;
       is_owed_continue = request_expects (request trace) && not (had_continue trace);
       may_upgrade = asks_raw (request trace) && not (was_pulled trace || was_dropped trace);
       is_answering = is_answering trace;

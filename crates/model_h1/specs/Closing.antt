@@ -99,6 +99,7 @@ abbrev pub unread_by : List Step → Option Message → Option End
 unread_by trace None = None
 unread_by trace (Some m) = unread_end m.body (has_chunks m.reading && was_dropped trace)
 
+-- the end behind a complete answer: by the parse here, and by what is left of the body in `model_state`, so these are two
 abbrev pub answered_end : Setting → List ParsedStep → Option End
 answered_end setting past =
     if is_complete (steps past)
@@ -112,7 +113,7 @@ abbrev pub has_more_frames : List Step → Option Message → Bool
 has_more_frames trace None = false
 has_more_frames trace (Some m) = nat_lt (given_frames trace) (length (frames_of m.body)) || is_some (fail_of m.body)
 
--- nothing more comes that could be handed out
+-- nothing more comes that could be handed out: by the parse here, and by the bytes that are left in `model_state`
 abbrev pub is_exhausted : List ParsedStep → Bool
 is_exhausted past =
     if is_upgraded (steps past) then not (has_more_frames (steps past) (current past))

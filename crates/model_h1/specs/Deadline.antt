@@ -1,19 +1,19 @@
 -- The deadline of a connection: the least moment at which a tick may come and tells that a time has run out. No tick
 -- before it does, so who drives a connection may sleep until then. It is never before now: where a time ran out while
 -- it didn't count, as the one for the next request while chunks of the last one are still to come, now is the deadline.
-use Rattle.std.specs.Prelude.{◌≡◌, ℕ, ◌+◌, max, Bool, true, false, not, ◌&&◌, List, length, nat_lt, nat_le, ◌==◌, if◌then◌else◌, Option, Some, None, unwrap_or}
+use Rattle.std.specs.Prelude.{◌≡◌, ℕ, ◌+◌, max, Bool, true, false, List, length, nat_lt, nat_le, ◌==◌, if◌then◌else◌, Option, Some, None, unwrap_or}
 use Rattle.std.specs.Option.{option_or}
 use Rattle.model_h1.specs.Setting.{Setting, KeepAlive, timeout}
 use Rattle.model_h1.specs.Limits.{MAX_MOMENT}
 use Rattle.model_h1.specs.End.{End}
 use Rattle.model_h1.specs.Event.{Outcome}
 use Rattle.model_h1.specs.Event as on
-use Rattle.model_h1.specs.Sums.{Step, first_tick, completed_at, is_complete, is_open, now}
-use Rattle.model_h1.specs.Past.{ParsedStep, steps, parse_of, current, held}
+use Rattle.model_h1.specs.Sums.{Step, first_tick, completed_at, now}
+use Rattle.model_h1.specs.Past.{ParsedStep, steps, parse_of}
 use Rattle.model_h1.specs.Text.{buffered}
 use Rattle.model_h1.specs.Closing.{closing, closing_since}
 use Rattle.model_h1.specs.Allowed.{is_over}
-use Rattle.model_h1.specs.OutcomeTable.{Times, times_of, has_ended_body}
+use Rattle.model_h1.specs.OutcomeTable.{Times, times_of}
 use Rattle.model_h1.specs.Trace.{IsPastOf}
 
 -- the outcome of a tick tells that a time has run out
@@ -58,9 +58,6 @@ expires_by setting t first =
 abbrev pub times_out_by : Setting → Times → Option End → Option ℕ → Option ℕ
 times_out_by setting t (Some end) first = abandoned_by setting t first
 times_out_by setting t None first = expires_by setting t first
-
-abbrev pub waits_for_next : List ParsedStep → Bool
-waits_for_next past = is_complete (steps past) && not (is_open (steps past)) && has_ended_body (current past) && (held past == 0)
 
 abbrev pub times_out_at : Setting → List ParsedStep → Option End → Option ℕ → Option ℕ
 times_out_at setting past end first = times_out_by setting (times_of setting past) end first

@@ -125,12 +125,16 @@ abbrev pub has_ended_body : Option parsed.Message → Bool
 has_ended_body None = false
 has_ended_body (Some m) = is_some (next_start m.body)
 
+-- the last answer is complete, nothing is left of its request, and no byte of another one has come
+abbrev pub waits_for_next : List ParsedStep → Bool
+waits_for_next past = is_complete (steps past) && not (is_open (steps past)) && has_ended_body (current past) && (held past == 0)
+
 abbrev pub times_of : Setting → List ParsedStep → Times
 times_of setting past =
     record {
       is_written = length (buffered setting (steps past)) == 0;
       waits_for_first = length (parse_of past) == 0;
-      waits_for_next = is_complete (steps past) && not (is_open (steps past)) && has_ended_body (current past) && (held past == 0);
+      waits_for_next = waits_for_next past;
       closing_since = unwrap_or (closing_since setting past) None;
       completed = completed_at (steps past);
     }

@@ -12,7 +12,7 @@ use Rattle.model_state.specs.Kept.{Kept}
 use Rattle.model_client.specs.ClientEvent as asked
 use Rattle.model_client.specs.ClientEvent.{ClientRequest}
 use Rattle.model_client.specs.ClientKept.{ClientKept, Waiting, SendingBody, fresh_client}
-use Rattle.model_client.specs.ClientTrace.{now_of, sending_of, sending_after, text_of, text_of_event, taken, written, asked_of, asked_by}
+use Rattle.model_client.specs.ClientTrace.{now_of, sending_of, sending_after, text_of, text_of_event, taken, written, requests_of, requests_by}
 use Rattle.model_proxy.specs.Past.{ProxyStep, ProxyEvent, ProxyOutcome, Server, new_server, client, server, client_eof, server_eof, connected, to_client, to_server, tick, took, gave, done, client_bytes, client_taken, client_written, client_given, tick_of, last_tick, now, changed_by, newest_changed, servers_behind, servers}
 use Rattle.model_proxy.specs.Past as past
 use Rattle.model_proxy.specs.Exchange.{pulled}
@@ -65,7 +65,7 @@ quiet_sums event outcome history a b x says same came =
 pub record AddsNoText (e : asked.ClientEvent) : Type 0 where
   pub text : (moment : ℕ) (body : Option SendingBody) → text_of_event e moment body ≡ []
   pub sending : (body : Option SendingBody) → sending_after e body ≡ body
-  pub asked : asked_by e ≡ []
+  pub asked : requests_by e ≡ []
 
 -- the event and its outcome change the sums of the newest server as this step does
 pub record ChangesServer (e : asked.ClientEvent) (o : asked.ClientOutcome) (event : ProxyEvent) (outcome : ProxyOutcome) : Type 0 where
@@ -195,8 +195,8 @@ module _ (theirs ours : Setting) where
                           ap (λ (more : List ℕ). text_of l.happened ++ more) (adds.text (now_of l.happened) (sending_of l.happened))
                           ∙ append-nil (text_of l.happened) ∙ old.0.text;
                       asked =
-                          ap (λ (more : List Waiting). map (λ (w : Waiting). w.method) (asked_of l.happened ++ more)) adds.asked
-                          ∙ ap (map (λ (w : Waiting). w.method)) (append-nil (asked_of l.happened)) ∙ old.0.asked;
+                          ap (λ (more : List Waiting). map (λ (w : Waiting). w.method) (requests_of l.happened ++ more)) adds.asked
+                          ∙ ap (map (λ (w : Waiting). w.method)) (append-nil (requests_of l.happened)) ∙ old.0.asked;
                       whole = old.0.whole;
                     },
                     old.1,

@@ -9,7 +9,7 @@ use Rattle.model_h1.specs.Sums as sums
 use Rattle.model_h1.specs.Sums.{Step, step_taken, step_written, tick_of, head_of}
 use Rattle.model_client.specs.ClientEvent as asked
 use Rattle.model_client.specs.ClientKept.{ClientKept, Waiting}
-use Rattle.model_client.specs.ClientTrace.{Happened, now_of, sending_of, sending_after, text_of, text_of_event, given, taken, written, taken_by, asked_of, asked_by}
+use Rattle.model_client.specs.ClientTrace.{Happened, now_of, sending_of, sending_after, text_of, text_of_event, given, taken, written, taken_by, requests_of, requests_by}
 use Rattle.model_proxy.specs.Forward.{Sent}
 use Rattle.model_proxy.specs.Exchange.{Pulled, pulled, pulled_by, with_head}
 use Rattle.model_proxy.specs.Happenings.{Link, server_of, is_eof}
@@ -49,14 +49,14 @@ pending_brings_nothing = record { head = refl; more = λ p. refl }
 -- a step that takes and gives nothing, adds nothing to the text and asks nothing
 pub quiet : (event : asked.ClientEvent) (o : asked.ClientOutcome) (trace : List Happened) → taken_by event o ≡ [] → given o ≡ [] → is_eof event ≡ false
     → text_of_event event (now_of trace) (sending_of trace) ≡ [] → sending_after event (sending_of trace) ≡ sending_of trace
-    → asked_by event ≡ [] → IsQuiet trace (record { event = event; outcome = o } ∷ trace)
+    → requests_by event ≡ [] → IsQuiet trace (record { event = event; outcome = o } ∷ trace)
 quiet event o trace took gave going says same asks = record {
   taken = ap (λ (b : List ℕ). taken trace ++ b) took ∙ append-nil (taken trace);
   written = ap (λ (b : List ℕ). written trace ++ b) gave ∙ append-nil (written trace);
   ended = ap (λ (e : Bool). e || list_any (λ (s : Happened). is_eof s.event) trace) going;
   text = ap (λ (t : List ℕ). text_of trace ++ t) says ∙ append-nil (text_of trace);
   sending = same;
-  asked = ap (λ (ws : List Waiting). asked_of trace ++ ws) asks ∙ append-nil (asked_of trace);
+  asked = ap (λ (ws : List Waiting). requests_of trace ++ ws) asks ∙ append-nil (requests_of trace);
 }
 
 pub stays_same : (setting : Setting) (k : ClientKept) → Stays setting k k

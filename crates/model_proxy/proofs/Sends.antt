@@ -16,7 +16,7 @@ use Rattle.model_client.specs.ClientEvent as asked
 use Rattle.model_client.specs.ClientEvent.{ClientRequest}
 use Rattle.model_client.specs.ClientKept.{ClientKept, Waiting, SendingBody, waiting_of, client_allows, client_closing, has_room}
 use Rattle.model_client.specs.ClientStep.{piece_of, IsClientStep, begun_body}
-use Rattle.model_client.specs.ClientTrace.{asked_of, now_of, sending_of, text_of, piece_text_of, end_text_of, body_after}
+use Rattle.model_client.specs.ClientTrace.{requests_of, now_of, sending_of, text_of, piece_text_of, end_text_of, body_after}
 use Rattle.model_client.proofs.Written.{is_text}
 use Rattle.model_proxy.specs.Forward.{is_forwardable, forwarded_size, Sent, forward}
 use Rattle.model_proxy.specs.Past.{ProxyStep}
@@ -145,7 +145,7 @@ module _ (theirs ours : Setting) where
           w.forwardable
           (s, server, allowed, step)
           (ap₂ (λ (a b : List ℕ). a ++ b) link.text (w.text moment ∙ sym (begun_text (sent_of r.pulled moment) none is_ended)))
-          (asks_more (asked_of l.happened) l.sent (waiting_of q) (sent_of r.pulled moment) link.asked w.method)
+          (asks_more (requests_of l.happened) l.sent (waiting_of q) (sent_of r.pulled moment) link.asked w.method)
           idle
           (record {
             moment = moment;
@@ -201,7 +201,7 @@ module _ (theirs ours : Setting) where
           ∙ ap (λ n. text_sent (sent_of r.pulled u.moment ∷ u.before) ++ piece_of (asked_shape (forwarded_size p.head.body)) n bytes) body.missing
           ∙ append_assoc (text_sent u.before) (forward (sent_of r.pulled u.moment)) _
           ∙ ap (λ (t : List ℕ). text_sent u.before ++ t) (sym (more_text (sent_of r.pulled u.moment) bytes body.unended)))
-          (none_asked (asked_of l.happened) ∙ link.asked ∙ ap methods_sent u.sent)
+          (none_asked (requests_of l.happened) ∙ link.asked ∙ ap methods_sent u.sent)
           (subst AreWholeBehind u.sent link.whole)
           (record {
             moment = u.moment;
@@ -255,7 +255,7 @@ module _ (theirs ours : Setting) where
           ∙ ap₂ (λ (t : List ℕ) shape. t ++ end_text shape) (link.text ∙ ap text_sent u.sent) body.shape
           ∙ append_assoc (text_sent u.before) (forward (sent_of r.pulled u.moment)) _
           ∙ ap (λ (t : List ℕ). text_sent u.before ++ t) (sym (end_text_sent (sent_of r.pulled u.moment) body.unended)))
-          (none_asked (asked_of l.happened) ∙ link.asked ∙ ap methods_sent u.sent)
+          (none_asked (requests_of l.happened) ∙ link.asked ∙ ap methods_sent u.sent)
           (subst AreWholeBehind u.sent link.whole)
           (record {
             moment = u.moment;

@@ -19,7 +19,7 @@ use Rattle.model_client.specs.ClientKept.{Waiting, SendingBody, ReadingBody, Cli
 use Rattle.model_client.specs.ClientStep.{ClientChange, sending_piece, ending_body, outcome_of, pulled_from, IsPulling, behind_final, behind_head, IsUpcoming, IsNext, IsClientChange, IsClientStep, KnowsComing}
 use Rattle.model_client.specs.ClientTrace.{Happened, IsClientTrace, taken_by, taken}
 use Rattle.model_client.proofs.Left.{step_leaves}
-use Rattle.model_client.proofs.OneStep.{coming_one}
+use Rattle.model_state.proofs.OneStep.{coming_one}
 use Rattle.model_client.specs.Parsed.{has_ended, methods_of}
 use Rattle.model_client.specs.ReadOut.{ReadAnswer, read_out}
 use Rattle.model_client.proofs.Told.{IsSound}

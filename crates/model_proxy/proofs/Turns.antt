@@ -12,7 +12,7 @@ use Rattle.model_state.specs.StandsFor.{StandsFor}
 use Rattle.model_client.specs.RequestText.{request_text, asked_shape, given_request_text}
 use Rattle.model_client.specs.ClientEvent.{ClientRequest}
 use Rattle.model_client.specs.ClientKept.{ClientKept, Waiting}
-use Rattle.model_client.specs.ClientTrace.{Happened, IsClientTrace, text_of, taken, written, asked_of}
+use Rattle.model_client.specs.ClientTrace.{Happened, IsClientTrace, text_of, taken, written, requests_of}
 use Rattle.model_proxy.specs.Forward.{is_forwardable, forwarded, forwarded_size}
 use Rattle.model_proxy.specs.Past.{ProxyStep, Server, servers}
 use Rattle.model_proxy.specs.Exchange.{Pulled, unpulled, pulled, newest_pulled, with_head, pulled_by}
@@ -258,7 +258,7 @@ module _ (theirs ours : Setting) where
       → sums.head_of o ≡ None → r'.pulled ≡ pulled_by o r.pulled → server_of l' ≡ server_of l
       → all_sent (r' ∷ rs) ≡ flat_map (λ (l : Link). l.sent) (l' ∷ links) → IsRightlySent r'.pulled r'.sent_at
       → IsClientTrace ours l'.happened t → text_of l'.happened ≡ text_sent l'.sent
-      → map (λ (w : Waiting). w.method) (asked_of l'.happened) ≡ methods_sent l'.sent → AreWholeBehind l'.sent
+      → map (λ (w : Waiting). w.method) (requests_of l'.happened) ≡ methods_sent l'.sent → AreWholeBehind l'.sent
       → IsUnderWay v (r' ∷ rs) (Some t) (l' ∷ links)
       → (after : Happenings) × Carries theirs ours (record { client = b; server = Some t; under_way = v }) history after
   changed o a b s t u v r r' rs l l' links history all trace requests_are links_are x stands did none pulled_is same sent_is right driven text asked whole under =

@@ -15,7 +15,7 @@ use Rattle.model_client.specs.ClientEvent.{ClientEnd, ClientOutcome}
 use Rattle.model_client.specs.ClientKept.{Waiting, ReadingBody, ClientKept, is_free, is_free_of, is_dropped_of, client_closing, client_allows}
 use Rattle.model_client.specs.ClientStep.{ClientChange, outcome_of, end_of, pulled_from, IsPulling, behind_head, IsUpcoming, IsNext, IsClientStep, KnowsComing}
 use Rattle.model_client.specs.ClientTrace.{Happened, IsClientTrace, taken}
-use Rattle.model_client.proofs.OneStep.{coming_one}
+use Rattle.model_state.proofs.OneStep.{coming_one}
 use Rattle.model_client.specs.Parsed.{has_ended, methods_of}
 use Rattle.model_client.specs.ReadOut.{ReadAnswer, read_out}
 use Rattle.model_client.proofs.Told.{IsSound}

@@ -8,7 +8,7 @@ use Rattle.model_h1.specs.Trace.{IsTrace}
 use Rattle.model_client.specs.ClientEvent as asked
 use Rattle.model_client.specs.ClientEvent.{ClientEvent}
 use Rattle.model_client.specs.ClientKept.{ClientKept}
-use Rattle.model_client.specs.ClientTrace.{Happened, IsClientTrace, taken, written, text_of, asked_of}
+use Rattle.model_client.specs.ClientTrace.{Happened, IsClientTrace, taken, written, text_of, requests_of}
 use Rattle.model_proxy.specs.Forward.{is_forwardable, Sent, forward}
 use Rattle.model_proxy.specs.Past.{ProxyStep, Server, client_taken, client_given, servers, now}
 use Rattle.model_proxy.specs.Exchange.{Pulled, pulled}
@@ -87,7 +87,7 @@ pub record IsLink (setting : Setting) (l : Link) : Type 0 where
   pub kept : ClientKept
   pub driven : IsClientTrace setting l.happened kept
   pub text : text_of l.happened ≡ text_sent l.sent
-  pub asked : map (λ w. w.method) (asked_of l.happened) ≡ methods_sent l.sent
+  pub asked : map (λ w. w.method) (requests_of l.happened) ≡ methods_sent l.sent
   pub whole : AreWholeBehind l.sent
 
 -- ---- the theorem

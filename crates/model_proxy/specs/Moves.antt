@@ -7,7 +7,7 @@ use Rattle.model_state.specs.Kept.{Kept}
 use Rattle.model_state.specs.StandsFor.{StandsFor}
 use Rattle.model_client.specs.ClientEvent as asked
 use Rattle.model_client.specs.ClientKept.{ClientKept}
-use Rattle.model_client.specs.ClientTrace.{Happened, IsClientTrace, sending_of, taken, written, text_of, asked_of}
+use Rattle.model_client.specs.ClientTrace.{Happened, IsClientTrace, sending_of, taken, written, text_of, requests_of}
 use Rattle.model_proxy.specs.Exchange.{Pulled, pulled, newest_pulled, with_head}
 use Rattle.model_proxy.specs.Happenings.{server_of}
 
@@ -34,7 +34,7 @@ pub record IsQuiet (old new : List Happened) : Type 0 where
   pub ended : (server_of (record { happened = new; sent = [] })).ended ≡ (server_of (record { happened = old; sent = [] })).ended
   pub text : text_of new ≡ text_of old
   pub sending : sending_of new ≡ sending_of old
-  pub asked : asked_of new ≡ asked_of old
+  pub asked : requests_of new ≡ requests_of old
 
 -- a connection to a server did something of its own
 abbrev pub Stays : Setting → ClientKept → ClientKept → Type 0

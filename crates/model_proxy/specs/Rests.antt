@@ -7,7 +7,7 @@ use Rattle.model_h1.specs.Sums.{Step, has_ended, is_answering}
 use Rattle.model_h1.specs.Past.{ParsedStep, steps}
 use Rattle.model_h1.specs.Text.{buffered}
 use Rattle.model_h1.specs.Closing.{closing}
-use Rattle.model_h1.specs.Allowed.{is_over, is_allowed, is_unanswered, is_moment}
+use Rattle.model_h1.specs.Allowed.{is_over, is_allowed, waits_for_answer, is_moment}
 use Rattle.model_h1.specs.OutcomeTable.{outcome_of}
 use Rattle.model_h1.specs.Laws.Exchanges.{AnswerGiven, Reply, answer_given, exchanges}
 use Rattle.model_h1.specs.Laws.Exchanges as replies
@@ -35,7 +35,7 @@ is_unsent (x ∷ xs) = is_forwardable x.pulled.head && is_none x.server
 -- a server connection is wanted: for a request that is open, while there is none
 abbrev pub wants_server : Setting → List ParsedStep → Option (List ℕ) → List Exchange → Bool
 wants_server setting past waiting xs =
-    is_running setting past && is_unanswered (steps past) && is_unsent xs && is_none waiting
+    is_running setting past && waits_for_answer (steps past) && is_unsent xs && is_none waiting
 
 -- a server connection is open, and its input hasn't ended
 abbrev pub is_read : List Server → Option (List ℕ) → Bool
@@ -112,7 +112,7 @@ OfNewest P (x ∷ xs) = P x
 pub record Rests (setting : Setting) (past : List ParsedStep) (history : List ProxyStep) (waiting : Option (List ℕ)) (xs : List Exchange) : Type 0 where
   pub next : is_allowed setting past on.next ≡ true → outcome_of setting past on.next ≡ on.pending
   pub told : is_allowed setting past on.send_continue ≡ false
-  pub waits : is_unanswered (steps past) ≡ true → OfNewest (Waits setting history waiting) xs
+  pub waits : waits_for_answer (steps past) ≡ true → OfNewest (Waits setting history waiting) xs
   pub body : is_some waiting ≡ true → OfNewest (λ x. is_some x.server ≡ true) xs → is_allowed setting past on.pull ≡ true
       → outcome_of setting past on.pull ≡ on.pending
   pub passing : is_answering (steps past) ≡ true → length (buffered setting (steps past)) < setting.write_buffer

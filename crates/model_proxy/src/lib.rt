@@ -22,10 +22,10 @@
 //! - [`examples`]: small requests, answers and histories with all their values.
 #![tactic(auto)]
 
-pub mod answers;
 pub mod examples;
 pub mod forwarders;
 pub mod left_laws;
 pub mod replies;
-pub mod requests;
+pub mod request_laws;
+pub mod response_laws;
 pub mod trace_laws;

@@ -13,7 +13,7 @@ use Rattle.model_h1.specs.Event as on
 use Rattle.model_h1.specs.Sums.{Step, request, is_open, is_upgraded}
 use Rattle.model_h1.specs.Past.{ParsedStep, steps}
 use Rattle.model_h1.specs.Closing.{closing}
-use Rattle.model_h1.specs.Allowed.{is_over, is_unanswered, asks_raw, has_room, is_allowed, is_allowed_running}
+use Rattle.model_h1.specs.Allowed.{is_over, waits_for_answer, asks_raw, has_room, is_allowed, is_allowed_running}
 use Rattle.model_h1.specs.Trace.{IsPastOf}
 use Rattle.model_rooms.specs.Seen.{Seen}
 use Rattle.model_rooms.specs.Trace.{core_trace, IsHubTrace}
@@ -35,7 +35,7 @@ and_false true = refl
 and_false false = refl
 
 -- a WebSocket isn't waiting for an answer
-upgraded_answered : (trace : List Step) → is_upgraded trace ≡ true → is_unanswered trace ≡ false
+upgraded_answered : (trace : List Step) → is_upgraded trace ≡ true → waits_for_answer trace ≡ false
 upgraded_answered trace up = rw up (and_false _)
 
 accepts : (setting : Setting) (trace : List Step) → MAX_FRAME_HEAD ≤ setting.hold_size → Tame trace → is_open trace ≡ true → is_upgraded trace ≡ false

@@ -12,7 +12,7 @@ use Rattle.model_h1.specs.Event as on
 use Rattle.model_h1.specs.Sums.{Step, Answered, is_pull, is_drop, head_of, request, since_head, accepted_limit, accepted, is_upgraded, answered_by, answered, completes, is_complete, was_pulled, was_dropped, is_open, is_draining}
 use Rattle.model_h1.specs.Past.{ParsedStep, steps}
 use Rattle.model_h1.specs.Closing.{closing}
-use Rattle.model_h1.specs.Allowed.{is_over, is_unanswered, asks_raw, has_room, is_allowed, is_allowed_running, is_allowed_closing}
+use Rattle.model_h1.specs.Allowed.{is_over, waits_for_answer, asks_raw, has_room, is_allowed, is_allowed_running, is_allowed_closing}
 use Rattle.model_h1.specs.Trace.{IsAllowed}
 use Rattle.model_rooms.specs.Hub.{core_of}
 use Rattle.model_rooms.specs.Seen.{Seen, row_of}
@@ -157,7 +157,7 @@ open_unanswered true false false true e n h = absurd (let x = h refl in cc)
 open_unanswered true false false false e n h = refl
 
 -- an open request that isn't upgraded has no answer
-pub unanswered : (trace : List Step) → Tame trace → is_open trace ≡ true → is_upgraded trace ≡ false → is_unanswered trace ≡ true
+pub unanswered : (trace : List Step) → Tame trace → is_open trace ≡ true → is_upgraded trace ≡ false → waits_for_answer trace ≡ true
 unanswered trace tame is_opened not_up =
     open_unanswered (is_some (request trace)) (is_upgraded trace) (is_complete trace) (is_some (answered trace)) is_opened not_up tame.whole
 

@@ -12,7 +12,7 @@ use Rattle.model_h1.specs.Event as on
 use Rattle.model_h1.specs.Sums.{Step, is_pull, request, completes, is_complete, is_open, is_upgraded, was_pulled, was_dropped, accepted, answered}
 use Rattle.model_h1.specs.Past.{ParsedStep, steps, current, passed}
 use Rattle.model_h1.specs.Text.{answer_head_text, accept_text, step_text, buffered}
-use Rattle.model_h1.specs.Allowed.{is_unanswered, asks_raw}
+use Rattle.model_h1.specs.Allowed.{waits_for_answer, asks_raw}
 use Rattle.model_h1.specs.OutcomeTable.{accept_outcome, outcome_of}
 use Rattle.model_h1.proofs.PastLemmas.{Legal}
 use Rattle.model_h1.proofs.StepLemmas.{accepted-cons, allowed_open}
@@ -24,10 +24,11 @@ use Rattle.model_state.specs.Change.{accepting, accepting_with}
 use Rattle.model_state.specs.KeptOf.{raw_left, rest_of, exchange_with, exchange_of, kept_of}
 use Rattle.model_state.proofs.Changes.{Changes}
 use Rattle.model_h1.proofs.HeldLemmas.{not_upgraded}
+use Rattle.model_h1.proofs.HandedTrace.{request-more}
 use Rattle.model_state.proofs.Current.{Current, current_of}
 use Rattle.model_state.proofs.Frames.{current_carried, current_stays}
 use Rattle.model_state.proofs.Received.{receives}
-use Rattle.model_state.proofs.StepSums.{is_receiving-cons, came-more, buffered-more, request-more}
+use Rattle.model_state.proofs.StepSums.{is_receiving-cons, came-more, buffered-more}
 use Rattle.model_state.proofs.QuietParts.{passed-quiet}
 use Rattle.model_state.proofs.CalmSteps.{calm_accept, taken-calm, since-other, exchange-unpulled, calm_parts}
 use Rattle.model_state.proofs.Pulling.{open_incomplete}
@@ -187,7 +188,7 @@ accept_of_changes : (setting : Setting) (before : List ParsedStep) (limit : ℕ)
 accept_of_changes setting before limit o parse l =
     let t = steps before in
     let test = allowed_open setting before (on.accept limit) refl l.1 in
-    let parts = and_parts (is_unanswered t) (asks_raw (request t) && not (was_pulled t || was_dropped t)) (and_parts _ _ test).0 in
+    let parts = and_parts (waits_for_answer t) (asks_raw (request t) && not (was_pulled t || was_dropped t)) (and_parts _ _ test).0 in
     let asked = and_parts (asks_raw (request t)) (not (was_pulled t || was_dropped t)) parts.1 in
     let waits = and_parts (is_open t) (is_none (answered t)) (and_parts (is_open t && is_none (answered t)) (not (is_upgraded t)) parts.0).0 in
     let plain = not_upgraded t parts.0 in

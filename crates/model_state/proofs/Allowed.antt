@@ -11,7 +11,7 @@ use Rattle.model_h1.specs.Event as on
 use Rattle.model_h1.specs.Sums.{Step, is_drop, request, since_head, answered, is_complete, was_pulled, was_dropped, had_continue}
 use Rattle.model_h1.specs.Sums as sums
 use Rattle.model_h1.specs.Past.{ParsedStep, steps}
-use Rattle.model_h1.specs.Allowed.{is_over, gives_up, is_unanswered, request_expects, asks_raw, is_allowed}
+use Rattle.model_h1.specs.Allowed.{is_over, gives_up, request_expects, asks_raw, is_allowed}
 use Rattle.model_h1.specs.Allowed as model
 use Rattle.model_h1.specs.Facts.{goes_with}
 use Rattle.model_h1.proofs.PastLemmas.{Legal}
@@ -99,7 +99,7 @@ none_incomplete trace o e = go (is_complete trace) refl
 
 -- of the current message
 current_waits : (setting : Setting) (past : List ParsedStep) (m : Message) (h : Head) → Legal setting past → Current setting past m h
-    → waits_for_answer (kept_of setting past) ≡ is_unanswered (steps past)
+    → waits_for_answer (kept_of setting past) ≡ model.waits_for_answer (steps past)
 current_waits setting past m h l c =
     let t = steps past in
     let none = reply_unanswered setting t h in
@@ -111,11 +111,11 @@ current_waits setting past m h l c =
     ∙ sym (ap (λ b. (b && is_none (answered t)) && not (sums.is_upgraded t)) opened))
 
 -- before the first head nothing waits
-none_waits : (past : List ParsedStep) → NoCurrent past → is_unanswered (steps past) ≡ false
+none_waits : (past : List ParsedStep) → NoCurrent past → model.waits_for_answer (steps past) ≡ false
 none_waits past n = ap (λ b. (b && is_none (answered (steps past))) && not (sums.is_upgraded (steps past))) (none_open past n)
 
 -- the last request waits for its answer
-waits_of : (setting : Setting) (past : List ParsedStep) → Legal setting past → waits_for_answer (kept_of setting past) ≡ is_unanswered (steps past)
+waits_of : (setting : Setting) (past : List ParsedStep) → Legal setting past → waits_for_answer (kept_of setting past) ≡ model.waits_for_answer (steps past)
 waits_of setting past l = elim (current_of setting past l) [
   | inl n ↦ rw (exchange_none setting past n) (sym (none_waits past n))
   | inr (m, h, c) ↦ current_waits setting past m h l c

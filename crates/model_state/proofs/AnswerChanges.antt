@@ -11,7 +11,7 @@ use Rattle.model_h1.specs.Event as on
 use Rattle.model_h1.specs.Sums.{Step, head_of, request, Answered, answered_by, answered as answer_of, is_answering, is_complete, is_draining, now, chunk_len, answer_len}
 use Rattle.model_h1.specs.Past.{ParsedStep, steps}
 use Rattle.model_h1.specs.Text.{answer_head_text, answer_text, step_text, buffered}
-use Rattle.model_h1.specs.Allowed.{is_allowed, is_unanswered, has_room}
+use Rattle.model_h1.specs.Allowed.{is_allowed, waits_for_answer, has_room}
 use Rattle.model_h1.specs.OutcomeTable.{outcome_of}
 use Rattle.model_h1.proofs.PastLemmas.{Legal}
 use Rattle.model_h1.proofs.StepLemmas.{Quiet, allowed_open, complete-more}
@@ -82,7 +82,7 @@ answer_text_is setting before head size = refl
 
 -- the last request, of which the answer is handed in
 answer_known : (setting : Setting) (before : List ParsedStep) (head : AnswerHead) (size : BodySize) (parse : List Message) (m : Message) (h : Head)
-    → Legal setting (made (on.answer head size) on.done parse ∷ before) → Current setting before m h → is_unanswered (steps before) ≡ true
+    → Legal setting (made (on.answer head size) on.done parse ∷ before) → Current setting before m h → waits_for_answer (steps before) ≡ true
     → Changes setting before (made (on.answer head size) on.done parse)
 answer_known setting before head size parse m h l c ok =
     let t = steps before in

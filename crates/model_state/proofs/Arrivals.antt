@@ -22,11 +22,11 @@ use Rattle.model_state.specs.Kept.{Rest, frames_rest, Reply, unanswered, sending
 use Rattle.model_h1.specs.Text.{buffered}
 use Rattle.model_h1.specs.Closing.{told_end}
 use Rattle.model_h1.specs.Allowed.{is_over_by}
+use Rattle.model_h1.proofs.HandedTrace.{request-more}
 use Rattle.model_state.specs.KeptOf.{rest_of, reply_of, exchange_with, exchange_of, kept_of}
 use Rattle.model_state.specs.Body.{Passed, pass_rest, passing}
 use Rattle.model_state.proofs.Changes.{bare}
 use Rattle.model_state.proofs.Current.{Current, NoCurrent, current_with}
-use Rattle.model_state.proofs.StepSums.{request-more}
 use Rattle.model_state.proofs.Orderly.{Orderly, orderly}
 use Rattle.model_state.proofs.Frames.{current_carried, current_stays, raw_head}
 use Rattle.model_state.proofs.QuietParts.{rest_by, rest_parts}

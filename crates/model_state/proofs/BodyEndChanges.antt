@@ -20,6 +20,7 @@ use Rattle.model_h1.specs.OutcomeTable.{outcome_of}
 use Rattle.model_h1.proofs.PastLemmas.{Legal}
 use Rattle.model_h1.proofs.StepLemmas.{Quiet, allowed_open, complete-more}
 use Rattle.model_h1.proofs.ClosingLemmas.{running}
+use Rattle.model_h1.proofs.HandedTrace.{request-more}
 use Rattle.model_state.specs.Kept.{sending, answered}
 use Rattle.model_state.specs.Reply.{stated, short_end, ending_body}
 use Rattle.model_state.specs.KeptOf.{reply_of, kept_of}
@@ -28,7 +29,7 @@ use Rattle.model_state.proofs.Changes.{Changes}
 use Rattle.model_state.proofs.Current.{Current, current_of}
 use Rattle.model_state.proofs.Orderly.{orderly}
 use Rattle.model_state.proofs.Parts.{none_answered}
-use Rattle.model_state.proofs.StepSums.{told-cons, request-more, answered-more, answer_len-more, came-more, is_sending-cons, buffered-more}
+use Rattle.model_state.proofs.StepSums.{told-cons, answered-more, answer_len-more, came-more, is_sending-cons, buffered-more}
 use Rattle.model_state.proofs.QuietParts.{option_or-none}
 use Rattle.model_state.proofs.StepForms.{made, at_step, with_exchange, both_none, untold}
 use Rattle.model_state.proofs.ExchangeChanges.{going_out, shape_by, with_reply, kept_sending}

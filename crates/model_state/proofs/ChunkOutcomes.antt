@@ -12,13 +12,14 @@ use Rattle.model_h1.specs.Request.{Header, Reading}
 use Rattle.model_h1.specs.Parse.{Input, Message, content, Stop, open_or_cut, shifted, trailer_header, chunked_stop}
 use Rattle.model_h1.specs.Event.{Outcome, corrupted}
 use Rattle.model_h1.specs.Event as on
-use Rattle.model_h1.specs.Sums.{Step, step_taken, taken, head_of, since_head}
+use Rattle.model_h1.specs.Sums.{Step, step_taken, taken, head_of}
 use Rattle.model_h1.specs.Past.{step_bytes, given_bytes, place_behind, has_chunks, pulled_place, pulled_to}
 use Rattle.model_h1.specs.Allowed.{gives_up}
 use Rattle.model_h1.specs.OutcomeTable.{run_left, is_trailers, gave_trailers, ended_outcome, stop_outcome, run_outcome, body_outcome}
 use Rattle.model_h1.proofs.PlaceLemmas.{run_len, left_place}
 use Rattle.model_h1.proofs.StepLemmas.{step, taken-cons, since_head-more, given_bytes-more}
 use Rattle.model_h1.proofs.PulledLemmas.{pulled_to-more}
+use Rattle.model_h1.proofs.HandedTrace.{gave_up}
 use Rattle.model_state.proofs.ChunkStops.{IsWholeTaken}
 use Rattle.model_state.proofs.PassedText.{part_length, Follows}
 use Rattle.model_state.proofs.ChunkGives.{IsGiven, IsWaiting, Gives, next_of, gives}
@@ -51,10 +52,6 @@ pub outcome_breaks : (trace : List Step) (i : Input) (place : ℕ) (a : Chunked)
 outcome_breaks trace i place a left e kind = λ j. run_outcome trace (chunked_stop i place (kind j)) (e j)
 
 -- ---- behind a step
-
--- the end of the body was told, or it was given up
-abbrev pub gave_up : List Step → Bool
-gave_up trace = list_any (λ s. gives_up s.event s.outcome) (since_head trace)
 
 -- what holds of the text that pulls of a message passed
 abbrev pub FollowsTo : Message → List Step → Type 0

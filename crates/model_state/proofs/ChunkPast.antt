@@ -15,6 +15,7 @@ use Rattle.model_h1.specs.Past.{ParsedStep, steps, input_of, parse_of, head_coun
 use Rattle.model_h1.specs.Allowed.{gives_up}
 use Rattle.model_h1.specs.OutcomeTable.{is_trailers, gave_trailers, body_outcome, pull_outcome}
 use Rattle.model_h1.proofs.PastLemmas.{Legal}
+use Rattle.model_h1.proofs.HandedTrace.{gave_up}
 use Rattle.model_h1.proofs.BodyLemmas.{input}
 use Rattle.model_h1.proofs.PlaceLemmas.{get_before}
 use Rattle.model_h1.proofs.StepLemmas.{step, taken-cons, accepted-cons, since_head-head, head_count-more, given_bytes-head, Pulls, quiet, reads, stops, accepts, begins, pulls, step_case, parsed, same_input, same_parse}
@@ -25,7 +26,7 @@ use Rattle.model_h1.proofs.HeldSteps.{pull_no_head, quiet_idle, reads_idle, ends
 use Rattle.model_h1.proofs.HeldLemmas.{bounded}
 use Rattle.model_state.proofs.Current.{Current, carried, current_with}
 use Rattle.model_state.proofs.PassedText.{Follows, nothing_follows}
-use Rattle.model_state.proofs.ChunkOutcomes.{gave_up, FollowsTo, same_follows, follows_step, in_chunks, follows_pull}
+use Rattle.model_state.proofs.ChunkOutcomes.{FollowsTo, same_follows, follows_step, in_chunks, follows_pull}
 use Rattle.model_state.proofs.IdleText.{only_pulls_give_trailers, follows_idle}
 
 -- ---- the message before a step

@@ -16,6 +16,7 @@ use Rattle.model_h1.specs.Past.{ParsedStep, steps, input_of, given_bytes, has_ch
 use Rattle.model_h1.specs.Allowed.{has_body_left}
 use Rattle.model_h1.specs.OutcomeTable.{run_left, gave_trailers}
 use Rattle.model_h1.proofs.PastLemmas.{Legal}
+use Rattle.model_h1.proofs.HandedTrace.{gave_up}
 use Rattle.model_h1.proofs.StepLemmas.{allowed_open, complete-more}
 use Rattle.model_h1.proofs.CarriedLemmas.{passed_some, passed_pulled}
 use Rattle.model_h1.proofs.PulledLemmas.{pulled_to-more}
@@ -29,7 +30,7 @@ use Rattle.model_state.proofs.CalmSteps.{calm_pull, taken-calm}
 use Rattle.model_state.proofs.Pulling.{pull_of, pull_headless, pull_current, Gives, pulling_with}
 use Rattle.model_state.proofs.ChunkGives as chunks
 use Rattle.model_state.proofs.ChunkGives.{gives}
-use Rattle.model_state.proofs.ChunkOutcomes.{gave_up, FollowsTo}
+use Rattle.model_state.proofs.ChunkOutcomes.{FollowsTo}
 use Rattle.model_state.proofs.ChunkPast.{follows_past}
 use Rattle.model_state.proofs.ChunkRests.{of_chunks, NotBehind, passed_done, done_passed, ended_gives, rest_upto, rest_is, rest_passed, rest_left}
 use Rattle.model_state.proofs.ChunkFits.{Fits, left_of, coming_of, lines_of, fits_chunk, fits_breaks, fits_wait, fits_end, fits_told}

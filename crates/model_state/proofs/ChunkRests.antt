@@ -9,6 +9,7 @@ use Rattle.model_h1.specs.Place.{done, start, after}
 use Rattle.model_h1.specs.Reading.{read}
 use Rattle.model_h1.specs.TakeNext.{ended, Taken}
 use Rattle.model_h1.proofs.Verdicts.{whole_after}
+use Rattle.model_h1.proofs.HandedTrace.{gave_up}
 use Rattle.model_h1.specs.Request.{Reading, Head, chunked_body}
 use Rattle.model_h1.specs.Parse.{Input, Message, open_or_cut, shifted, chunked_stop, next_start}
 use Rattle.model_h1.specs.Sums.{Step, taken, is_complete}
@@ -20,7 +21,7 @@ use Rattle.model_state.proofs.ChunkStops.{IsWholeTaken}
 use Rattle.model_state.proofs.PassedText.{part_front}
 use Rattle.model_state.proofs.ChunkGives.{Gives, gives}
 use Rattle.model_state.proofs.ChunkFollows.{ends_next}
-use Rattle.model_state.proofs.ChunkOutcomes.{gave_up, FollowsTo, in_chunks, whole_within}
+use Rattle.model_state.proofs.ChunkOutcomes.{FollowsTo, in_chunks, whole_within}
 
 -- ---- a body that is passed
 

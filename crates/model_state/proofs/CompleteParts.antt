@@ -15,13 +15,14 @@ use Rattle.model_h1.specs.Allowed.{is_over_by}
 use Rattle.model_h1.proofs.PastLemmas.{Legal}
 use Rattle.model_h1.proofs.StepLemmas.{Quiet, complete-more}
 use Rattle.model_h1.proofs.CarriedLemmas.{passed_pulled}
+use Rattle.model_h1.proofs.HandedTrace.{request-more}
 use Rattle.model_state.specs.Kept.{Reply, answered, Exchange, Kept}
 use Rattle.model_state.specs.Body.{Passed, pass_rest, passing}
 use Rattle.model_state.specs.Reply.{completing}
 use Rattle.model_state.specs.KeptOf.{rest_of, reply_of, exchange_with, exchange_of, clock_of, kept_of}
 use Rattle.model_state.proofs.Changes.{bare}
 use Rattle.model_state.proofs.Current.{Current, current_with}
-use Rattle.model_state.proofs.StepSums.{first_tick-cons, last_tick-cons, completed_at-completes, request-more}
+use Rattle.model_state.proofs.StepSums.{first_tick-cons, last_tick-cons, completed_at-completes}
 use Rattle.model_state.proofs.QuietParts.{rest_by, rest_parts, taken-quiet, accepted-quiet, ended-quiet, current-quiet, exchange-quiet, same_bare, option_or-none}
 use Rattle.model_state.proofs.Completion.{passing_of}
 use Rattle.model_state.proofs.PassedStart.{passed_begun}

@@ -17,7 +17,8 @@ use Rattle.model_h1.proofs.PulledLemmas.{Holds}
 use Rattle.model_h1.proofs.CarriedLemmas.{passed_none, passed_some}
 use Rattle.model_h1.proofs.HeldSteps.{headless_or_begins}
 use Rattle.model_h1.proofs.HeldLemmas.{accepted_message, bounded}
-use Rattle.model_state.proofs.StepSums.{request-cons, request-more}
+use Rattle.model_h1.proofs.HandedTrace.{request-more}
+use Rattle.model_state.proofs.StepSums.{request-cons}
 
 -- the current message and its head
 pub record Current (setting : Setting) (past : List ParsedStep) (m : Message) (h : Head) : Type 0 where

@@ -11,7 +11,7 @@ use Rattle.model_h1.specs.Event as on
 use Rattle.model_h1.specs.Sums.{Step, request, Answered, answered as answer_of, is_answering, is_complete, is_upgraded, had_continue, answer_len}
 use Rattle.model_h1.specs.Past.{ParsedStep, steps}
 use Rattle.model_h1.specs.Text.{chunk_sent, step_text}
-use Rattle.model_h1.specs.Allowed.{has_body_left, is_unanswered, request_expects, has_room}
+use Rattle.model_h1.specs.Allowed.{has_body_left, waits_for_answer, request_expects, has_room}
 use Rattle.model_h1.specs.OutcomeTable.{outcome_of}
 use Rattle.model_h1.proofs.PastLemmas.{Legal}
 use Rattle.model_h1.proofs.StepLemmas.{Quiet, allowed_open}
@@ -92,7 +92,7 @@ continue_made setting before parse l = elim (current_of setting before l.3) [
   | inl none ↦
       let t = steps before in
       let ok = allowed_open setting before on.send_continue refl l.1 in
-      let waits = (and_parts (is_unanswered t) (request_expects (request t) && not (had_continue t)) ok).0 in
+      let waits = (and_parts (waits_for_answer t) (request_expects (request t) && not (had_continue t)) ok).0 in
       absurd (no_request t none.request_is (open_request t waits).0)
   | inr (m, h, c) ↦
       let t = steps before in

@@ -21,10 +21,11 @@ use Rattle.model_h1.specs.Closing.{closing}
 use Rattle.model_h1.specs.Allowed.{gives_up}
 use Rattle.model_h1.specs.OutcomeTable.{is_trailers, gave_trailers, head_outcome, upcoming_outcome, next_outcome, tick_outcome, is_abandoned, is_slow, is_idle, send_outcome, outcome_of}
 use Rattle.model_h1.proofs.HeadPieceLemmas.{slice_range-append}
+use Rattle.model_h1.proofs.HandedTrace.{gave_up}
 use Rattle.model_h1.proofs.StepLemmas.{taken-cons, since_head-more, given_bytes-more}
 use Rattle.model_h1.proofs.PulledLemmas.{Idle, idle_pulled}
 use Rattle.model_state.proofs.PassedText.{Follows}
-use Rattle.model_state.proofs.ChunkOutcomes.{gave_up, FollowsTo, same_follows}
+use Rattle.model_state.proofs.ChunkOutcomes.{FollowsTo, same_follows}
 
 -- ---- trailers
 

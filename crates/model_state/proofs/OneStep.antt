@@ -39,7 +39,7 @@ chunks_one is_ended place section bytes (ended behind) noted p q x y = ends_one 
 chunks_one is_ended place section bytes breaks noted p q x y = x ∙ sym y
 
 -- and what it gives of any rest
-pull_one : (is_ended : Bool) (rest : Rest) (bytes : List ℕ) (p q : Pulled) → IsPull is_ended rest bytes p → IsPull is_ended rest bytes q → p ≡ q
+pub pull_one : (is_ended : Bool) (rest : Rest) (bytes : List ℕ) (p q : Pulled) → IsPull is_ended rest bytes p → IsPull is_ended rest bytes q → p ≡ q
 pull_one is_ended no_rest bytes p q x y = x ∙ sym y
 pull_one is_ended raw_rest bytes p q x y = x ∙ sym y
 pull_one is_ended (fixed_rest n) bytes p q x y = x ∙ sym y

@@ -12,13 +12,13 @@ use Rattle.model_h1.specs.End.{End}
 use Rattle.model_h1.specs.Sums.{Step, accepted_limit, accepted, head_of, since_head, request, answered_by, answered, is_draining, completes, is_complete, is_open, is_upgraded, is_answering}
 use Rattle.model_h1.specs.Past.{ParsedStep, steps}
 use Rattle.model_h1.specs.Closing.{closing}
-use Rattle.model_h1.specs.Allowed.{is_allowed, is_allowed_running, is_unanswered, asks_raw}
+use Rattle.model_h1.specs.Allowed.{is_allowed, is_allowed_running, waits_for_answer, asks_raw}
 use Rattle.model_h1.specs.OutcomeTable.{next_outcome, outcome_of}
 use Rattle.model_h1.proofs.PastLemmas.{Legal}
 use Rattle.model_h1.proofs.StepLemmas.{step, accepted-cons, complete-head, complete-more, allowed_open}
 use Rattle.model_h1.proofs.HeldSteps.{headless_or_begins}
 use Rattle.model_h1.proofs.HeldLemmas.{not_upgraded}
-use Rattle.model_state.proofs.StepSums.{request-more}
+use Rattle.model_h1.proofs.HandedTrace.{request-more}
 
 -- ---- the answer, of one more step
 
@@ -113,7 +113,7 @@ head_orderly s before h some unaccepted free x =
     }
 
 -- what waits for its answer was asked
-unanswered_parts : (trace : List Step) → is_unanswered trace ≡ true → (is_open trace ≡ true) × (answered trace ≡ None) × (accepted trace ≡ None)
+unanswered_parts : (trace : List Step) → waits_for_answer trace ≡ true → (is_open trace ≡ true) × (answered trace ≡ None) × (accepted trace ≡ None)
 unanswered_parts trace x =
     let parts = and_parts (is_open trace && is_none (answered trace)) (not (is_upgraded trace)) x in
     let both = and_parts (is_open trace) (is_none (answered trace)) parts.0 in
@@ -131,7 +131,7 @@ open_parts trace x plain =
 
 -- an answer
 answer_orderly : (s : Step) (before : List Step) → head_of s.outcome ≡ None → is_some (answered_by s.event (is_draining before)) ≡ true
-    → accepted_limit s.event s.outcome ≡ None → is_unanswered before ≡ true → Orderly (s ∷ before)
+    → accepted_limit s.event s.outcome ≡ None → waits_for_answer before ≡ true → Orderly (s ∷ before)
 answer_orderly s before none some unaccepted waits =
     let parts = unanswered_parts before waits in
     let asked = (open_parts before parts.0 parts.2).0 in
@@ -163,7 +163,7 @@ end_orderly s before none other unaccepted answering x =
 
 -- a WebSocket that is asked for, accepted or not
 accept_orderly : (s : Step) (before : List Step) → head_of s.outcome ≡ None → ((drained : Bool) → answered_by s.event drained ≡ None)
-    → completes s.event ≡ false → is_unanswered before ≡ true → asks_raw (request before) ≡ true → Orderly before → Orderly (s ∷ before)
+    → completes s.event ≡ false → waits_for_answer before ≡ true → asks_raw (request before) ≡ true → Orderly before → Orderly (s ∷ before)
 accept_orderly s before none other incomplete waits raw x =
     let parts = unanswered_parts before waits in
     let asked = open_parts before parts.0 parts.2 in

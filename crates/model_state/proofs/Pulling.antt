@@ -16,13 +16,14 @@ use Rattle.model_h1.specs.Allowed.{is_over_by, is_over}
 use Rattle.model_h1.specs.OutcomeTable.{pull_outcome, outcome_of}
 use Rattle.model_h1.proofs.PastLemmas.{Legal}
 use Rattle.model_h1.proofs.HeldSteps.{pull_no_head}
+use Rattle.model_h1.proofs.HandedTrace.{request-more}
 use Rattle.model_state.specs.Pull.{Pulled, IsPull}
 use Rattle.model_state.specs.Kept.{Change}
 use Rattle.model_state.specs.Change.{IsPulling, pulled_from}
 use Rattle.model_state.specs.KeptOf.{rest_of, tells_done, exchange_with, exchange_of, kept_of}
 use Rattle.model_state.proofs.Changes.{Changes}
 use Rattle.model_state.proofs.Current.{Current}
-use Rattle.model_state.proofs.StepSums.{buffered-more, request-more}
+use Rattle.model_state.proofs.StepSums.{buffered-more}
 use Rattle.model_state.proofs.CalmSteps.{calm_pull, taken-calm, exchange-aside, current-calm, calm_parts}
 
 -- a pull with its outcome

@@ -23,11 +23,12 @@ use Rattle.model_h1.proofs.PastLemmas.{Legal}
 use Rattle.model_h1.proofs.StepLemmas.{Quiet, taken-cons, accepted-cons, head_count-more, complete-more, same_input, same_parse, parsed}
 use Rattle.model_h1.proofs.CarriedLemmas.{passed_none, passed_some}
 use Rattle.model_h1.proofs.PulledLemmas.{Idle, idle_pulled}
+use Rattle.model_h1.proofs.HandedTrace.{request-more}
 use Rattle.model_state.specs.Kept.{Rest, no_rest, raw_rest, chunks_rest, frames_rest, Exchange, Clock, Kept}
 use Rattle.model_state.specs.KeptOf.{is_passed, fixed_left, rest_of, raw_left, reply_of, tells_done, exchange_with, exchange_of, clock_of, kept_of}
 use Rattle.model_state.proofs.Changes.{bare}
 use Rattle.model_state.proofs.Current.{Current, NoCurrent}
-use Rattle.model_state.proofs.StepSums.{told-cons, first_tick-cons, last_tick-cons, completed_at-more, is_receiving-cons, request-more, answered-more, answer_len-more, came-more, any-more}
+use Rattle.model_state.proofs.StepSums.{told-cons, first_tick-cons, last_tick-cons, completed_at-more, is_receiving-cons, answered-more, answer_len-more, came-more, any-more}
 
 -- ---- what is left of a body, by its parts
 

@@ -11,7 +11,7 @@ use Rattle.model_h1.specs.Allowed.{is_allowed}
 use Rattle.model_h1.specs.OutcomeTable.{outcome_of}
 use Rattle.model_h1.specs.Trace.{IsPastOf, IsAllowed, IsMisplaced, IsOutcome, IsTrace}
 use Rattle.model_h1.proofs.MessageExistence.{parse_exists}
-use Rattle.model_h1.proofs.PastLemmas.{Legal, legal_of, past_of_unique, allowed_behind}
+use Rattle.model_h1.proofs.PastLemmas.{first_step, Legal, legal_of, past_of_unique, allowed_behind}
 use Rattle.model_state.specs.Kept.{Kept, fresh}
 use Rattle.model_state.specs.Local.{closing_by, allowed_by}
 use Rattle.model_state.specs.Change.{IsStep}
@@ -79,10 +79,6 @@ misplaced_of_trace setting k trace event x =
     (λ is. (x.past, x.of_trace, subst IsFalse same is), λ a. subst IsFalse (sym same) (misplaced_behind setting trace event x.past a x.of_trace))
 
 -- ---- a step of the table
-
--- the first step of a list
-first_step : (s t : Step) (ss ts : List Step) → s ∷ ss ≡ t ∷ ts → s ≡ t
-first_step s t ss ts e = cc
 
 -- an allowed event with the table's outcome is a step
 pub table_steps : (setting : Setting) (s : Step) (before : List Step) (p q : List ParsedStep) → IsTrace setting (s ∷ before)

@@ -13,7 +13,7 @@ use Rattle.model_h1.specs.Event as on
 use Rattle.model_h1.specs.Sums.{Step, request, since_head, answered, is_body_end, completes, came_since_head, is_complete, is_open, is_upgraded}
 use Rattle.model_h1.specs.Past.{ParsedStep, steps}
 use Rattle.model_h1.specs.Closing.{told, body_end_of, closing}
-use Rattle.model_h1.specs.Allowed.{is_unanswered}
+use Rattle.model_h1.specs.Allowed.{waits_for_answer}
 use Rattle.model_h1.specs.OutcomeTable.{outcome_of}
 use Rattle.model_h1.proofs.PastLemmas.{Legal}
 use Rattle.model_state.specs.Kept.{Exchange, Kept}
@@ -69,7 +69,7 @@ untold setting past e =
     (parts.0, (both_none _ _ parts.1).0)
 
 -- a request that waits for its answer is there, and its answer isn't complete
-pub open_request : (trace : List Step) → is_unanswered trace ≡ true → (is_some (request trace) ≡ true) × (answered trace ≡ None)
+pub open_request : (trace : List Step) → waits_for_answer trace ≡ true → (is_some (request trace) ≡ true) × (answered trace ≡ None)
 open_request trace x =
     let parts = and_parts (is_open trace && is_none (answered trace)) (not (is_upgraded trace)) x in
     let both = and_parts (is_open trace) (is_none (answered trace)) parts.0 in
@@ -80,7 +80,7 @@ open_request trace x =
     none_is (Some a) e = absurd (false≢true e)
 
 -- and nothing of its answer is complete
-pub open_incomplete : (trace : List Step) → is_unanswered trace ≡ true → is_complete trace ≡ false
+pub open_incomplete : (trace : List Step) → waits_for_answer trace ≡ true → is_complete trace ≡ false
 open_incomplete trace x =
     let parts = and_parts (is_open trace && is_none (answered trace)) (not (is_upgraded trace)) x in
     let both = and_parts (is_open trace) (is_none (answered trace)) parts.0 in

@@ -15,7 +15,7 @@ use Rattle.model_h1.specs.Closing.{told_end, told}
 use Rattle.model_h1.specs.Trace.{IsPastOf, IsTrace}
 use Rattle.model_h1.proofs.PastLemmas.{Legal}
 use Rattle.model_h1.proofs.StepLemmas.{since_head-more}
-use Rattle.model_h1.proofs.WrittenLemmas.{written_buffered}
+use Rattle.model_h1.proofs.WrittenLemmas.{written-cons, text-cons, written_buffered}
 
 -- ---- any step
 
@@ -61,10 +61,6 @@ pub request-cons : (s : Step) (before : List Step) → request (s ∷ before) �
 unfolding request
 request-cons s before = refl
 
--- behind a step that hands out no head
-pub request-more : (s : Step) (before : List Step) → head_of s.outcome ≡ None → request (s ∷ before) ≡ request before
-request-more s before none = request-cons s before ∙ ap (λ o. option_or o (request before)) none
-
 -- its answer
 pub answered-more : (s : Step) (before : List Step) → head_of s.outcome ≡ None
     → answered (s ∷ before) ≡ option_or (answered_by s.event (is_draining before)) (answered before)
@@ -105,17 +101,6 @@ traced setting [] l = tt
 traced setting (m ∷ before) l =
     let here : IsPastOf setting (steps before) before = record { same = refl; right = right setting before l.3 } in
     ((before, here, l.1), (before, here, l.2), traced setting before l.3)
-
--- the text
-text-cons : (setting : Setting) (s : Step) (before : List Step)
-    → text setting (s ∷ before) ≡ text setting before ++ step_text setting before s.event s.outcome
-unfolding text
-text-cons setting s before = refl
-
--- the bytes handed out for writing
-written-cons : (s : Step) (before : List Step) → written (s ∷ before) ≡ written before ++ step_written s.outcome
-unfolding written
-written-cons s before = refl
 
 -- a step that hands out nothing for writing adds its text
 pub buffered-more : (setting : Setting) (s : Step) (before : List ParsedStep) → Legal setting before → step_written s.outcome ≡ []

@@ -5,9 +5,9 @@ use Rattle.model_h1.specs.Sums.{Step, head_of, is_pull, request, accepted_limit}
 use Rattle.model_h1.specs.Past.{ParsedStep, steps, current, step_bytes, step_frames}
 use Rattle.model_h1.proofs.PastLemmas.{Legal}
 use Rattle.model_h1.proofs.StepLemmas.{Quiet}
+use Rattle.model_h1.proofs.HandedTrace.{request-more}
 use Rattle.model_state.specs.KeptOf.{exchange_with, exchange_of}
 use Rattle.model_state.proofs.Current.{current_of}
-use Rattle.model_state.proofs.StepSums.{request-more}
 use Rattle.model_state.proofs.CalmSteps.{IsCalm, exchange-unpulled, current-calm}
 use Rattle.model_state.proofs.QuietParts.{rest-quiet}
 

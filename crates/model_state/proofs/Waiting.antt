@@ -2,13 +2,10 @@
 use Rattle.std.proofs.Common.{◌≡◌, ◌+◌, List, [], ◌∷◌, ◌++◌, length, refl, sym, ap, ◌∙◌, append-nil, length-append}
 use Rattle.model_h1.specs.Setting.{Setting}
 use Rattle.model_h1.specs.Sums.{Step, step_written, written}
+use Rattle.model_h1.proofs.WrittenLemmas.{written-cons}
 use Rattle.model_state.specs.Runs.{runs_behind}
 use Rattle.model_state.specs.Marks.{step_runs, body_runs, buffered_runs}
 use Rattle.model_state.proofs.Behind.{runs_behind_more, runs_behind-append}
-
-written-cons : (s : Step) (before : List Step) → written (s ∷ before) ≡ written before ++ step_written s.outcome
-unfolding written
-written-cons s before = refl
 
 runs-cons : (setting : Setting) (s : Step) (before : List Step) → body_runs setting (s ∷ before) ≡ body_runs setting before ++ step_runs setting before s.event s.outcome
 unfolding body_runs

@@ -66,19 +66,19 @@ AreAhead hold_size (suc limit) true bytes (what ∷ more) =
 -- ---- over a trace
 
 -- a head was handed out: where none was decoded, these are now, and else there is one fewer
-abbrev pub behind_head : ℕ → ℕ → ℕ
-behind_head zero decoded = decoded
-behind_head (suc fewer) decoded = fewer
+abbrev pub ahead_after_head : ℕ → ℕ → ℕ
+ahead_after_head zero decoded = decoded
+ahead_after_head (suc fewer) decoded = fewer
 
 -- a fault was, behind which nothing is decoded
-abbrev pub behind_fault : ℕ → ℕ
-behind_fault zero = zero
-behind_fault (suc fewer) = fewer
+abbrev pub ahead_after_fault : ℕ → ℕ
+ahead_after_fault zero = zero
+ahead_after_fault (suc fewer) = fewer
 
 -- what becomes of the number behind an event; none changes it but a call for the next head that hands out something
 abbrev pub ahead_after : Event → Outcome → ℕ → ℕ → ℕ
-ahead_after on.next (on.head h) before decoded = behind_head before decoded
-ahead_after on.next (on.fault f) before decoded = behind_fault before
+ahead_after on.next (on.head h) before decoded = ahead_after_head before decoded
+ahead_after on.next (on.fault f) before decoded = ahead_after_fault before
 ahead_after _ _ before decoded = before
 
 -- how many heads are decoded ahead behind a past

@@ -31,6 +31,7 @@ abbrev pub answered_end_of : Exchange → Reply → Option End
 answered_end_of x (answered kind) = option_or (end_where (not (is_kept kind)) ends.asked) (rest_end x.was_dropped x.rest)
 answered_end_of x _ = None
 
+-- the end behind a complete answer: by what is left of the body here, and by the parse in `model_h1`, so these are two
 abbrev pub answered_end : Option Exchange → Option End
 answered_end None = None
 answered_end (Some x) = answered_end_of x x.reply
@@ -44,7 +45,7 @@ abbrev pub has_no_frame : List ℕ → Rest → Bool
 has_no_frame unread (frames_rest under_way limit) = is_partial (front_frame (connection_reader limit) under_way unread)
 has_no_frame unread _ = false
 
--- nothing more comes that could be handed out
+-- nothing more comes that could be handed out: by the bytes that are left here, and by the parse in `model_h1`
 abbrev pub is_exhausted : Kept → Bool
 is_exhausted k =
     if is_upgraded k then of_exchange (λ x. has_no_frame k.unread x.rest) k else not (is_open k) && not k.is_coming
@@ -73,7 +74,7 @@ closing_by setting k = option_or k.failed (end_by setting (reasons_of k))
 
 -- ---- allowed
 
--- the open request has a body whose end, fault or drop hasn't come
+-- the open request has a body whose end, fault or drop hasn't come: by what is noted here, and by the steps in `model_h1`
 abbrev pub has_body_left : Kept → Bool
 has_body_left k = of_exchange (λ x. x.has_body && not (x.body_is_done || x.was_dropped)) k && is_open k
 

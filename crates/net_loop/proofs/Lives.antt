@@ -6,7 +6,7 @@ use Rattle.futures.specs.declared.task.context.Context.{Context}
 use Rattle.net_loop.specs.Slots.{poll_of, PollsTo}
 use Rattle.net_loop.specs.declared.polls.Polled.{Polled}
 use Rattle.net_loop.specs.declared.polls.Polled.TheVariants.{Quiet, Woken, Over}
-use Rattle.net_loop.specs.Runs.{Polling, Draining, Act, poll, drain, Does, Runs, Leads, EndsBy, Lives}
+use Rattle.net_loop.specs.LoopRuns.{Polling, Draining, Act, poll, drain, Does, Runs, Leads, EndsBy, Lives}
 
 module _ {J O : Type 0} (polled : Polling J O) (drained : Draining J) where
   -- one run after another

@@ -2,9 +2,9 @@
 use Rattle.std.proofs.Common.{◌≡◌, ◌≢◌, ◌≤◌, ◌<◌, ◌+◌, ℕ, List, [], Option, Some, None, IfSome, IsSome, refl, subst, sym, ◌∙◌, ◌⊎◌, inl, inr, arith, ap, count_by, is_some}
 use Rattle.std.proofs.lemmas.Bool.{cases_eq}
 use Rattle.slab.specs.Slab.{Slab, get, slab_len, Updates}
-use Rattle.net_loop.specs.Runs.{Polling, Draining, Leads, Lives}
+use Rattle.net_loop.specs.LoopRuns.{Polling, Draining, Leads, Lives}
 use Rattle.net_loop.specs.Slots.{Taken, job_of, IsHall, OthersStay, TakenStay, Becomes}
-use Rattle.net_loop.specs.declared.seat.Went.TheVariants.{Stays}
+use Rattle.net_loop.specs.declared.slot.Went.TheVariants.{Stays}
 use Rattle.net_loop.proofs.Lives.{lives_new, lives_on, leads_by_drain}
 
 module _ {J O : Type 0} (polled : Polling J O) (drained : Draining J) (begun can_poll : J → Type 0) where

@@ -1,4 +1,4 @@
-pub mod Runs
+pub mod LoopRuns
 pub mod Slots
 pub mod Watching
 pub mod Tree

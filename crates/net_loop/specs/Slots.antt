@@ -5,15 +5,15 @@ use Rattle.std.specs.declared.boxed.Box.{Box}
 use Rattle.slab.specs.Slab.{Slab, get, slab_len}
 use Rattle.futures.specs.declared.task.Poll.{Poll}
 use Rattle.futures.specs.declared.task.Poll.TheVariants.{Ready, Pending}
-use Rattle.net_loop.specs.Runs.{Polling, Draining, Leads, EndsBy, Lives}
+use Rattle.net_loop.specs.LoopRuns.{Polling, Draining, Leads, EndsBy, Lives}
 use Rattle.net_loop.specs.declared.limits.Limits.{Limits}
 use Rattle.net_loop.specs.declared.polls.Polled.{Polled}
 use Rattle.net_loop.specs.declared.polls.Polled.TheVariants.{Quiet, Woken, Over}
-use Rattle.net_loop.specs.declared.seat.Seat.{Seat}
-use Rattle.net_loop.specs.declared.seat.Went.{Went}
-use Rattle.net_loop.specs.declared.seat.Went.TheVariants.{Nobody, Stays, GivenUp, Ended}
-use Rattle.net_loop.specs.declared.seat.Why.{Why}
-use Rattle.net_loop.specs.declared.seat.Why.TheVariants as why
+use Rattle.net_loop.specs.declared.slot.Slot.{Slot}
+use Rattle.net_loop.specs.declared.slot.Went.{Went}
+use Rattle.net_loop.specs.declared.slot.Went.TheVariants.{Nobody, Stays, GivenUp, Ended}
+use Rattle.net_loop.specs.declared.slot.Why.{Why}
+use Rattle.net_loop.specs.declared.slot.Why.TheVariants as why
 
 -- what a poll answered
 abbrev pub poll_of : {O : Type 0} → Polled O → Poll O
@@ -23,7 +23,7 @@ poll_of (Over output) = Ready output
 
 -- a slot that is taken, and the job that has it
 abbrev pub Taken : Type 0 → Type 0
-Taken J = Box (Seat J) Global
+Taken J = Box (Slot J) Global
 
 abbrev pub job_of : {J : Type 0} → Taken J → J
 job_of taken = taken.value.job

@@ -1,7 +1,7 @@
 //! What is polled.
 ghost use Rattle.futures.specs.Poll.{OnPending};
 ghost use Rattle.futures.specs.Task.{IsArmed, Keeps};
-ghost use Rattle.net_loop.specs.Runs.{Polling, Draining};
+ghost use Rattle.net_loop.specs.LoopRuns.{Polling, Draining};
 ghost use Rattle.http_transport.specs.Opening.{IsFresh};
 
 use futures::task::{Context, Poll};

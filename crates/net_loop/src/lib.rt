@@ -1,7 +1,7 @@
 //! An event loop's slots: any number of jobs that one thread polls. For `serve_loop`, or any program with a job for each
 //! connection: it knows nothing of HTTP.
 //!
-//! - [`Seats`] has a slot for each [`Job`], up to [`Limits`]. A job is polled only where its connection is ready, its
+//! - [`Slots`] has a slot for each [`Job`], up to [`Limits`]. A job is polled only where its connection is ready, its
 //!   deadline has passed, or it asked for it.
 //! - [`turn`] is one turn of the loop: it waits on a [`Watch`], polls, and lets new connections in, which a [`Makes`] turns
 //!   into jobs.
@@ -27,17 +27,17 @@
 
 mod job;
 mod limits;
+mod loop_turn;
 mod minima;
 mod polls;
-mod seat;
-mod seats;
+mod slot;
+mod slots;
 mod tree;
-mod turns;
 mod watch;
 
 pub use job::{Job, Makes};
 pub use limits::Limits;
+pub use loop_turn::{Going, Lost, turn};
 pub use minima::{Least, Minima};
-pub use seats::{Seats, Went, Why};
-pub use turns::{Going, Lost, turn};
+pub use slots::{Slots, Went, Why};
 pub use watch::{Happening, Watch};

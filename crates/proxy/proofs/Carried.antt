@@ -6,8 +6,8 @@ use Rattle.model_h1.specs.Event as on
 use Rattle.proxy.specs.Puts.{continues, request_breaks, Puts, Handed, body_bytes}
 use Rattle.proxy.proofs.Puts.{puts_none, puts_then, then_none, hands_same, hands_both}
 use Rattle.proxy.specs.declared.proxy.Proxy.{Proxy}
-use Rattle.proxy.specs.declared.proxy.Sent.{Sent}
-use Rattle.proxy.specs.Kept.{IsIdle}
+use Rattle.proxy.specs.declared.proxy.SentRequest.{SentRequest}
+use Rattle.proxy.specs.Kept.{HoldsNoRequest}
 use Rattle.proxy.specs.Replies.{nothing_put, broken_body, broken_late, not_forwardable, no_answer, passed_on, piece_on, end_on, cut_off, told_closed, IsUnanswered, WasAnswered, Marks, marks_of, GoesOnBy, HasCause, HasBytes, TurnReplies, HasReplied, nothing, turned, none_yet, one_more, broke_late, CarriesOn, IsCarried}
 use Rattle.proxy.proofs.Replies.{same_marks, goes_as}
 
@@ -28,12 +28,12 @@ module _ (marks : Marks) (answered : marks.is_answered ≡ true) (s : servers.St
   is_answered : x.goes.sent.is_answered ≡ true
   is_answered = ap (λ (m : Marks). m.is_answered) x.goes.marked ∙ answered
 
-  not_both : (other : Sent) → IsUnanswered other mid → ⊥
+  not_both : (other : SentRequest) → IsUnanswered other mid → ⊥
   not_both other y =
       false≢true (sym y.unanswered ∙ sym (ap (λ (m : Marks). m.is_answered) (same_marks mid x.goes.sent other x.goes.runs.sent y.runs.sent)) ∙ is_answered)
 
-  not_idle : IsIdle mid → ⊥
-  not_idle idle = let no : ◌≡◌ {A = Option Sent} None (Some x.goes.sent) = sym idle.sent ∙ x.goes.runs.sent in cc no
+  not_idle : HoldsNoRequest mid → ⊥
+  not_idle idle = let no : ◌≡◌ {A = Option SentRequest} None (Some x.goes.sent) = sym idle.sent ∙ x.goes.runs.sent in cc no
 
   by_nothing : HasCause nothing_put mid new → Puts [] mid.client new.client → CarriesOn marks s old new
   by_nothing cause puts = record {
@@ -46,7 +46,7 @@ module _ (marks : Marks) (answered : marks.is_answered ≡ true) (s : servers.St
   }
 
   -- the request of a cause is this one
-  marked_as : (other : Sent) → WasAnswered other mid → marks_of other ≡ marks
+  marked_as : (other : SentRequest) → WasAnswered other mid → marks_of other ≡ marks
   marked_as other y = sym (same_marks mid x.goes.sent other x.goes.runs.sent y.runs.sent) ∙ x.goes.marked
 
   by_late : (fault : on.BodyFault) → HasCause (broken_late fault) mid new → Puts (request_breaks fault ∷ []) mid.client new.client → CarriesOn marks s old new
@@ -93,7 +93,7 @@ carried_then marks answered s old mid _ x (turned last new before turn) = by_bef
     by_before (inr y) = inr (y.0, y.1, y.2, y.3, turned last new y.4 turn)
 
 -- over all turns
-pub is_carried : (old new : Proxy) (sent : Sent) (s : servers.State) → HasReplied old new → WasAnswered sent old → old.server ≡ Some s
+pub is_carried : (old new : Proxy) (sent : SentRequest) (s : servers.State) → HasReplied old new → WasAnswered sent old → old.server ≡ Some s
     → IsCarried (marks_of sent) s old new
 is_carried old new sent s turns answered there =
     carried_then (marks_of sent) answered.answered s old old new

@@ -4,7 +4,7 @@ use Rattle.model_h1.specs.Answer.{BodySize}
 use Rattle.model_client.specs.ClientEvent as asked
 use Rattle.model_client.specs.ClientEvent.{ClientRequest}
 use Rattle.model_client.specs.ClientStep.{IsClientStep}
-use Rattle.h1_client.specs.Meaning as asking
+use Rattle.h1_client.specs.ClientMeaning as asking
 use Rattle.h1_client.specs.State as servers
 use Rattle.h1_payload.specs.declared.pulled.Pulled.{Pulled}
 use Rattle.h1_connection.specs.State.{State}

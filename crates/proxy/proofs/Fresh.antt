@@ -13,14 +13,14 @@ use Rattle.model_client.specs.ClientTrace.{Happened, IsClientTrace, taken_by, ta
 use Rattle.model_client.proofs.OneStep.{one_state}
 use Rattle.model_client.proofs.Left.{step_leaves}
 use Rattle.model_client.proofs.Answered.{answered}
-use Rattle.h1_client.specs.Meaning as asking
-use Rattle.h1_client.specs.Meaning.{request_of}
+use Rattle.h1_client.specs.ClientMeaning as asking
+use Rattle.h1_client.specs.ClientMeaning.{request_of}
 use Rattle.h1_client.specs.State as servers
 use Rattle.h1_encoder.specs.Meaning.{size_of}
 use Rattle.proxy.specs.Sides.{MayAsk}
 use Rattle.proxy.specs.declared.proxy.Proxy.{Proxy}
 use Rattle.proxy.specs.declared.proxy.Unsent.{Unsent}
-use Rattle.proxy.specs.declared.proxy.Sent.{Sent}
+use Rattle.proxy.specs.declared.proxy.SentRequest.{SentRequest}
 use Rattle.model_proxy.specs.Rests.{MAX_WAITING}
 use Rattle.proxy.specs.Kept.{is_closing}
 use Rattle.proxy.specs.Rests.{may_begin, is_over, may_turn}
@@ -45,13 +45,13 @@ may_of still p is now = not_false (may_turn p) (sym is ∙ now)
 pub begins_by : (p q : Proxy) → may_turn p ≡ true → ClosesOver p q → BeginsWhereItMay p q
 begins_by p q may closes = inr (may, by_sent p.sent refl)
   where
-    only_over : (s : Option Sent) (room over : Bool) → (room || over) ≡ true → (over ≡ true → s ≡ None → q ≡ record p { server = None }) → s ≡ None
+    only_over : (s : Option SentRequest) (room over : Bool) → (room || over) ≡ true → (over ≡ true → s ≡ None → q ≡ record p { server = None }) → s ≡ None
         → (room ≡ true) ⊎ ((over ≡ true) × (q ≡ record p { server = None }))
     only_over s true over is closes none = inl refl
     only_over s false over is closes none = inr (is, closes is none)
 
-    by_sent : (s : Option Sent) → p.sent ≡ s → (may_begin p.sent p.server ≡ true) ⊎ ((is_over p.server ≡ true) × (q ≡ record p { server = None }))
-    by_sent (Some s) is = inl (ap (λ (t : Option Sent). may_begin t p.server) is)
+    by_sent : (s : Option SentRequest) → p.sent ≡ s → (may_begin p.sent p.server ≡ true) ⊎ ((is_over p.server ≡ true) × (q ≡ record p { server = None }))
+    by_sent (Some s) is = inl (ap (λ (t : Option SentRequest). may_begin t p.server) is)
     by_sent None is =
         only_over p.sent (may_begin p.sent p.server) (is_over p.server)
         (second_true (nat_lt (length p.client.kept.buffered) MAX_WAITING) (may_begin p.sent p.server || is_over p.server) (not (is_closing p)) may) closes is
@@ -65,8 +65,8 @@ pub goes_on_closes : (p q : Proxy) → is_over p.server ≡ false → ClosesOver
 goes_on_closes p q goes = λ over none. absurd (false≢true (sym goes ∙ over))
 
 -- a request that was sent on
-pub sent_closes : (p q : Proxy) (s : Sent) → p.sent ≡ Some s → ClosesOver p q
-sent_closes p q s is = λ over none. let no : ◌≡◌ {A = Option Sent} (Some s) None = sym is ∙ none in absurd (cc no)
+pub sent_closes : (p q : Proxy) (s : SentRequest) → p.sent ≡ Some s → ClosesOver p q
+sent_closes p q s is = λ over none. let no : ◌≡◌ {A = Option SentRequest} (Some s) None = sym is ∙ none in absurd (cc no)
 
 -- one that waits isn't sent on over a connection that is to end
 pub over_used : (o : Option servers.State) → is_over o ≡ true → is_server_used o ≡ true

@@ -14,10 +14,10 @@ use Rattle.model_client.specs.ClientEvent as asked
 use Rattle.model_client.specs.ClientKept.{client_allows}
 use Rattle.model_client.specs.ClientStep.{IsClientStep}
 use Rattle.model_client.specs.ClientTrace.{Happened, IsClientTrace, now_after}
-use Rattle.h1_client.specs.Meaning as asking
-use Rattle.h1_client.specs.Meaning.{request_of}
+use Rattle.h1_client.specs.ClientMeaning as asking
+use Rattle.h1_client.specs.ClientMeaning.{request_of}
 use Rattle.h1_client.specs.State as servers
-use Rattle.h1_connection.specs.Meaning.{setting_of}
+use Rattle.h1_connection.specs.EventMeaning.{setting_of}
 use Rattle.h1_connection.specs.State.{State}
 use Rattle.model_proxy.specs.Forward.{is_forwardable}
 use Rattle.model_proxy.specs.Past.{ProxyStep, ProxyEvent, ProxyOutcome, client_bytes, client_written, tick_of, connected, done}
@@ -30,10 +30,10 @@ use Rattle.model_proxy.proofs.Sends.{keeps_asked, keeps_piece, keeps_end, keeps_
 use Rattle.model_proxy.proofs.Events.{SaysNoBytes, LeavesServers, AddsNoText, ChangesServer, by_nothing, by_client, by_server, by_connected}
 use Rattle.proxy.specs.declared.proxy.Proxy.{Proxy}
 use Rattle.proxy.specs.declared.proxy.Unsent.{Unsent}
-use Rattle.proxy.specs.declared.proxy.Sent.{Sent}
+use Rattle.proxy.specs.declared.proxy.SentRequest.{SentRequest}
 use Rattle.proxy.specs.declared.notes.Notes.{Notes}
 use Rattle.proxy.specs.Sides.{ClientBrings, ClientBringsHead, ServerStays, KeepsTime, ServerDid}
-use Rattle.proxy.specs.Kept.{under_way_of, kept_of, IsTimed, Forwards, Goes, GoesBy, GoesFrom, IsIdle, Runs, IsUnsent}
+use Rattle.proxy.specs.Kept.{under_way_of, kept_of, IsTimed, Forwards, Goes, GoesBy, GoesFrom, HoldsNoRequest, Runs, IsUnsent}
 use Rattle.proxy.specs.Fresh.{IsToldTime}
 use Rattle.proxy.proofs.Times.{trace_of, did_now, happened_now, moved_time, closed_time, told_time, quiet_time, fresh_time}
 
@@ -150,7 +150,7 @@ told_moves p a b x told =
 -- ---- the request under way
 
 -- it goes on under another mark
-pub resent : (p : Proxy) (s t : Sent) → Runs s p → t.is_whole ≡ s.is_whole → t.is_broken ≡ s.is_broken → Goes p (record p { sent = Some t })
+pub resent : (p : Proxy) (s t : SentRequest) → Runs s p → t.is_whole ≡ s.is_whole → t.is_broken ≡ s.is_broken → Goes p (record p { sent = Some t })
 resent p s t runs whole broken = (
   refl,
   λ history all f. (
@@ -185,14 +185,14 @@ fails p none = (
       ),
 )
   where
-    left : {history : List ProxyStep} {all : Happenings} (sent : Option Sent)
+    left : {history : List ProxyStep} {all : Happenings} (sent : Option SentRequest)
         → Carries (theirs p) (ours p) (record { client = p.client.kept; server = None; under_way = under_way_of None sent }) history all
         → (after : Happenings) × Carries (theirs p) (ours p) (record { client = p.client.kept; server = None; under_way = nothing }) history after
     left {history} {all} None x = (all, x)
     left {history} {all} (Some s) x = keeps_left (theirs p) (ours p) s.is_whole s.is_broken p.client.kept history all x
 
 -- it is over and whole
-pub is_over : (p : Proxy) (sent : Sent) → Runs sent p → sent.is_whole ≡ true → Goes p (record p { sent = None })
+pub is_over : (p : Proxy) (sent : SentRequest) → Runs sent p → sent.is_whole ≡ true → Goes p (record p { sent = None })
 is_over p sent runs whole = (
   refl,
   λ history all f.
@@ -210,7 +210,7 @@ is_over p sent runs whole = (
 )
 
 -- a new one was handed out
-pub from_head : (item : HeadItem) (p q : Proxy) (c : State) → IsIdle p → ClientBringsHead item p.client c → GoesFrom item (record p { client = c }) q → Goes p q
+pub from_head : (item : HeadItem) (p q : Proxy) (c : State) → HoldsNoRequest p → ClientBringsHead item p.client c → GoesFrom item (record p { client = c }) q → Goes p q
 from_head item p q c idle x rest = (
   rest.0,
   λ history all f.
@@ -230,7 +230,7 @@ pub from_any : (item : HeadItem) (p q : Proxy) → Goes p q → GoesFrom item p 
 from_any item p q x = (x.0, λ history all h says f newest. x.1 history all f)
 
 -- it waits to be sent on
-pub waits_from : (item : HeadItem) (p : Proxy) (u : Unsent) → IsIdle p → ((h : Head) → SaysHead item h → is_forwardable h ≡ true)
+pub waits_from : (item : HeadItem) (p : Proxy) (u : Unsent) → HoldsNoRequest p → ((h : Head) → SaysHead item h → is_forwardable h ≡ true)
     → ((h : Head) → SaysHead item h → is_forwardable h ≡ true → IsUnsent u h) → GoesFrom item p (record p { unsent = Some u })
 waits_from item p u idle may is = (
   refl,
@@ -270,7 +270,7 @@ asks p u a b x = (
 )
 
 -- more of its body is
-pub pieces : (bytes : List ℕ) (p : Proxy) (sent : Sent) (c : State) (a b : servers.State) → Runs sent p → ClientBrings (on.bytes bytes) p.client c
+pub pieces : (bytes : List ℕ) (p : Proxy) (sent : SentRequest) (c : State) (a b : servers.State) → Runs sent p → ClientBrings (on.bytes bytes) p.client c
     → ServerDid (asked.chunk bytes) a b → Goes (record p { server = Some a }) (record p { client = c; server = Some b })
 pieces bytes p sent c a b runs brings x = (
   refl,
@@ -292,7 +292,7 @@ pieces bytes p sent c a b runs brings x = (
 )
 
 -- its end is
-pub ends : (p : Proxy) (sent t : Sent) (c : State) (a b : servers.State) → Runs sent p → t.is_whole ≡ true → t.is_broken ≡ sent.is_broken
+pub ends : (p : Proxy) (sent t : SentRequest) (c : State) (a b : servers.State) → Runs sent p → t.is_whole ≡ true → t.is_broken ≡ sent.is_broken
     → ClientBrings on.body_ended p.client c → ServerDid asked.body_end a b
     → Goes (record p { server = Some a }) (record p { client = c; server = Some b; sent = Some t })
 ends p sent t c a b runs whole broken brings x = (
@@ -317,12 +317,12 @@ ends p sent t c a b runs whole broken brings x = (
 )
 
 -- it broke
-pub breaks : (fault : on.BodyFault) (p : Proxy) (sent : Sent) (c : State) (s : servers.State) → Runs sent p → ClientBrings (on.broken_by fault) p.client c
+pub breaks : (fault : on.BodyFault) (p : Proxy) (sent : SentRequest) (c : State) (s : servers.State) → Runs sent p → ClientBrings (on.broken_by fault) p.client c
     → Goes (record p { server = Some s }) (record p { client = c; server = Some s; sent = Some (record sent { is_broken = true }) })
 breaks fault p sent c s runs brings = (
   refl,
   λ history all f.
-      let t : Sent = record sent { is_broken = true } in
+      let t : SentRequest = record sent { is_broken = true } in
       let is : under_way_of p.unsent p.sent ≡ is_sent sent.is_whole sent.is_broken = ap₂ under_way_of runs.unsent runs.sent in
       let old = as_under_way (record p { server = Some s }) history all (is_sent sent.is_whole sent.is_broken) is f.carries in
       let y = keeps_broken (theirs p) (ours p) fault sent.is_whole sent.is_broken p.client.kept c.kept s.kept

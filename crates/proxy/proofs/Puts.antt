@@ -7,7 +7,7 @@ use Rattle.model_h1.specs.Request.{Head, head_is, faulty, too_large}
 use Rattle.model_state.specs.Kept.{Kept, Change}
 use Rattle.model_state.specs.Local.{closing_by}
 use Rattle.model_state.specs.Change.{behind_head, IsUpcoming, IsNext}
-use Rattle.h1_connection.specs.Meaning.{setting_of, end_of}
+use Rattle.h1_connection.specs.EventMeaning.{setting_of, end_of}
 use Rattle.model_h1.specs.Sums.{Step}
 use Rattle.h1_payload.specs.Rests.{SaysPulled, fault_of}
 use Rattle.h1_payload.specs.declared.pulled.Pulled.{Pulled}
@@ -25,7 +25,7 @@ use Rattle.model_client.proofs.Answered as reads
 use Rattle.model_h1.specs.Setting.{Setting}
 use Rattle.h1_client.specs.Answers as answers
 use Rattle.h1_client.specs.Bodies as bodies
-use Rattle.h1_client.specs.Meaning as asking
+use Rattle.h1_client.specs.ClientMeaning as asking
 use Rattle.h1_client.specs.State as servers
 use Rattle.h1_client.specs.declared.event.NextAnswer.{NextAnswer}
 use Rattle.h1_client.specs.declared.event.NextAnswer.TheVariants as answered

@@ -26,9 +26,9 @@ use Rattle.proxy.specs.Leaves.{LeavesAnswer}
 use Rattle.proxy.specs.Puts.{Part, begins, continues, ends, breaks_off, request_breaks, has_closed, Puts, IsRefused, MayPut, MayLeave, HandsHead, HandsAnswer, HandsPiece, is_refused, is_good, Handed, good_answer, refused_answer, body_bytes, body_fault, Hands, HandsNone, CannotPull, IsReadUp}
 use Rattle.proxy.proofs.Puts.{puts_none, then_none, head_puts, hands_same, hands_then, tells_none}
 use Rattle.proxy.specs.declared.proxy.Proxy.{Proxy}
-use Rattle.proxy.specs.declared.proxy.Sent.{Sent}
+use Rattle.proxy.specs.declared.proxy.SentRequest.{SentRequest}
 use Rattle.proxy.specs.declared.proxy.Unsent.{Unsent}
-use Rattle.proxy.specs.Kept.{IsIdle, Runs, GoesBy, wants_server, is_closing}
+use Rattle.proxy.specs.Kept.{HoldsNoRequest, Runs, GoesBy, wants_server, is_closing}
 use Rattle.proxy.specs.Rests.{IsNoted}
 use Rattle.proxy.proofs.EventMoves.{three_parts}
 use Rattle.proxy.specs.Replies.{nothing_put, broken_body, broken_late, not_forwardable, no_answer, passed_on, piece_on, end_on, cut_off, told_closed, own, passed, PutsLast, PutsHead, IsUnanswered, WasAnswered, Marks, marks_of, GoesOnBy, GoesOnWaiting, IsDropped, ReplyIsOver, KeepsServer, KeepsIdle, KeepsFor, LacksAnswer, Follows, FollowsHead, LacksEnd, AwaitsAnswer, HasCause, TurnReplies, Fails, Breaks, PassesBody, UsesAnswer, TakesAnswer, Opens, ClientAdds, AddsTo, PutsNothing, HasReplied, Replies, RepliesRefused}
@@ -113,29 +113,29 @@ is_passed_on a x = good_by a (is_refused a) (is_interim a.status) (x received bo
 
 -- ---- nothing waits for an answer
 
-pub idle_cause : (p q : Proxy) → IsIdle p → HasCause nothing_put p q
-idle_cause p q idle = λ sent s x is. let no : ◌≡◌ {A = Option Sent} None (Some sent) = sym idle.sent ∙ x.sent in absurd (cc no)
+pub idle_cause : (p q : Proxy) → HoldsNoRequest p → HasCause nothing_put p q
+idle_cause p q idle = λ sent s x is. let no : ◌≡◌ {A = Option SentRequest} None (Some sent) = sym idle.sent ∙ x.sent in absurd (cc no)
 
 pub unsent_cause : (p q : Proxy) (u : Unsent) → HasCause nothing_put (record p { unsent = Some u }) q
 unsent_cause p q u = λ sent s x is. let no : ◌≡◌ {A = Option Unsent} (Some u) None = x.unsent in absurd (cc no)
 
 -- this is the request that was sent on
-abbrev marks_or : Marks → Option Sent → Marks
+abbrev marks_or : Marks → Option SentRequest → Marks
 marks_or marks None = marks
 marks_or marks (Some s) = marks_of s
 
-pub same_marks : (p : Proxy) (sent other : Sent) → p.sent ≡ Some sent → p.sent ≡ Some other → marks_of sent ≡ marks_of other
+pub same_marks : (p : Proxy) (sent other : SentRequest) → p.sent ≡ Some sent → p.sent ≡ Some other → marks_of sent ≡ marks_of other
 same_marks p sent other here there = let same : Some sent ≡ Some other = sym here ∙ there in ap (marks_or (marks_of sent)) same
 
-pub unanswered_here : (p : Proxy) (sent : Sent) (o : Option servers.State) → Runs sent p → sent.is_answered ≡ false → IsUnanswered sent (record p { server = o })
+pub unanswered_here : (p : Proxy) (sent : SentRequest) (o : Option servers.State) → Runs sent p → sent.is_answered ≡ false → IsUnanswered sent (record p { server = o })
 unanswered_here p sent o runs is = record { runs = record { unsent = runs.unsent; sent = runs.sent }; unanswered = is }
 
-pub answered_here : (p : Proxy) (sent : Sent) (o : Option servers.State) → Runs sent p → sent.is_answered ≡ true → WasAnswered sent (record p { server = o })
+pub answered_here : (p : Proxy) (sent : SentRequest) (o : Option servers.State) → Runs sent p → sent.is_answered ≡ true → WasAnswered sent (record p { server = o })
 answered_here p sent o runs is = record { runs = record { unsent = runs.unsent; sent = runs.sent }; answered = is }
 
 -- ---- it goes on
 
-pub waits_cause : (p q : Proxy) (sent : Sent) (server : servers.State) → Runs sent p → GoesOnWaiting (marks_of sent) server q
+pub waits_cause : (p q : Proxy) (sent : SentRequest) (server : servers.State) → Runs sent p → GoesOnWaiting (marks_of sent) server q
     → HasCause nothing_put (record p { server = Some server }) q
 waits_cause p q sent server runs waits = λ other s x is.
     let same : server ≡ s = cc is in
@@ -154,7 +154,7 @@ goes_on_before marks handed s t q none x = record {
 }
 
 -- under these marks, by this server connection
-pub goes_as : (q : Proxy) (sent : Sent) (s t : servers.State) (marks : Marks) (handed : List Handed) → Runs sent q → marks_of sent ≡ marks
+pub goes_as : (q : Proxy) (sent : SentRequest) (s t : servers.State) (marks : Marks) (handed : List Handed) → Runs sent q → marks_of sent ≡ marks
     → q.server ≡ Some t → Hands handed s t → GoesOnBy marks handed s q
 goes_as q sent s t marks handed runs marked is hands = record {
   sent = sent;
@@ -187,7 +187,7 @@ pub noted_unsent : (p q : Proxy) → IsNoted p q → q.unsent ≡ p.unsent
 noted_unsent p q (n, is) = ap (λ (p : Proxy). p.unsent) is
 
 -- a reply of the forwarder's own was put, while no request was under way and no server connection was there
-pub dropped : (p q : Proxy) → p.unsent ≡ None → p.sent ≡ None → p.server ≡ None → (IsIdle p → IsIdle q) → q.server ≡ p.server → IsDropped q
+pub dropped : (p q : Proxy) → p.unsent ≡ None → p.sent ≡ None → p.server ≡ None → (HoldsNoRequest p → HoldsNoRequest q) → q.server ≡ p.server → IsDropped q
 dropped p q unsent sent server idle same = record {
   sent = (idle (record { unsent = unsent; sent = sent })).sent;
   server = same ∙ server;
@@ -208,15 +208,15 @@ kept_over t s is = subst (λ (t : Bool). ◌≡◌ {A = Option servers.State} (S
 pub closed_over : (t : Bool) (s : servers.State) → t ≡ false → None ≡ (if t then Some s else None)
 closed_over t s is = subst (λ (t : Bool). ◌≡◌ {A = Option servers.State} None (if t then Some s else None)) (sym is) refl
 
-noted_follows : (t : Bool) (sent : Sent) (a : Answer) (server : servers.State) (p q : Proxy) → IsNoted p q → Follows t sent a server p → Follows t sent a server q
+noted_follows : (t : Bool) (sent : SentRequest) (a : Answer) (server : servers.State) (p q : Proxy) → IsNoted p q → Follows t sent a server p → Follows t sent a server q
 noted_follows true sent a server p q noted x = record { sent = noted_sent p q noted ∙ x.sent; server = noted_server p q noted ∙ x.server }
 noted_follows false sent a server p q noted x = noted_goes_on _ [] server p q noted x
 
-pub noted_head : (sent : Sent) (a : Answer) (server : servers.State) (p q : Proxy) → IsNoted p q → FollowsHead sent a server p → FollowsHead sent a server q
+pub noted_head : (sent : SentRequest) (a : Answer) (server : servers.State) (p q : Proxy) → IsNoted p q → FollowsHead sent a server p → FollowsHead sent a server q
 noted_head sent a server p q noted x = noted_follows (is_at_once (reply_size sent.is_head a)) sent a server p q noted x
 
 -- what follows a head of this size
-pub follows_on : (size : BodySize) (t : Bool) (sent : Sent) (a : Answer) (server : servers.State) (q : Proxy) → size ≡ reply_size sent.is_head a
+pub follows_on : (size : BodySize) (t : Bool) (sent : SentRequest) (a : Answer) (server : servers.State) (q : Proxy) → size ≡ reply_size sent.is_head a
     → is_at_once size ≡ t → Follows t sent a server q → FollowsHead sent a server q
 follows_on size t sent a server q same once x =
     subst (λ (b : Bool). Follows b sent a server q) (sym once ∙ ap is_at_once same) x
@@ -233,7 +233,7 @@ still_replies p = (
 pub no_part_put : (p q : Proxy) → HasCause nothing_put p q → Puts [] p.client q.client → TurnReplies p q
 no_part_put p q cause puts = (nothing_put, cause, puts)
 
-pub body_replies : (p q : Proxy) (sent : Sent) (server : servers.State) → Runs sent p → (sent.is_answered ≡ false → AwaitsAnswer (Some server))
+pub body_replies : (p q : Proxy) (sent : SentRequest) (server : servers.State) → Runs sent p → (sent.is_answered ≡ false → AwaitsAnswer (Some server))
     → PassesBody sent server p.client q → TurnReplies (record p { server = Some server }) q
 body_replies p q sent server runs awaits (inl x) = (nothing_put, waits_cause p q sent server runs x.1, x.0)
 body_replies p q sent server runs awaits (inr x) = by_mark sent.is_answered refl x.3
@@ -254,12 +254,12 @@ body_replies p q sent server runs awaits (inr x) = by_mark sent.is_answered refl
       then_last (request_breaks x.0 ∷ []) (own 400) p.client x.1 q.client x.2 y.0,
     )
 
-breaks_before : (answered : Bool) (sent : Sent) (s t : servers.State) (client : State) (q : Proxy) → HandsNone s t → Breaks answered sent t client q
+breaks_before : (answered : Bool) (sent : SentRequest) (s t : servers.State) (client : State) (q : Proxy) → HandsNone s t → Breaks answered sent t client q
     → Breaks answered sent s client q
 breaks_before true sent s t client q none x = (x.0, goes_on_before (marks_of sent) [] s t q none x.1)
 breaks_before false sent s t client q none x = x
 
-pub body_before : (client : State) (q : Proxy) (sent : Sent) (s t : servers.State) → HandsNone s t → PassesBody sent t client q → PassesBody sent s client q
+pub body_before : (client : State) (q : Proxy) (sent : SentRequest) (s t : servers.State) → HandsNone s t → PassesBody sent t client q → PassesBody sent s client q
 body_before client q sent s t none (inl x) = inl (x.0, goes_on_before (marks_of sent) [] s t q none x.1)
 body_before client q sent s t none (inr x) = inr (x.0, x.1, x.2, breaks_before sent.is_answered sent s t x.1 q none x.3)
 
@@ -267,7 +267,7 @@ body_before client q sent s t none (inr x) = inr (x.0, x.1, x.2, breaks_before s
 pub awaits_by : (s t : servers.State) → HandsNone s t → LeavesAnswer answered.Pending s t → AwaitsAnswer (Some s)
 awaits_by s t none leaves = (t, none, leaves)
 
-pub fails_replies : (p q : Proxy) (sent : Sent) (o : Option servers.State) → Runs sent p → (sent.is_answered ≡ false → LacksAnswer o)
+pub fails_replies : (p q : Proxy) (sent : SentRequest) (o : Option servers.State) → Runs sent p → (sent.is_answered ≡ false → LacksAnswer o)
     → (sent.is_answered ≡ true → LacksEnd o) → Fails sent.is_answered p.client q → TurnReplies (record p { server = o }) q
 fails_replies p q sent o runs no_answer_comes no_end_comes fails = by_mark sent.is_answered refl fails
   where
@@ -275,7 +275,7 @@ fails_replies p q sent o runs no_answer_comes no_end_comes fails = by_mark sent.
     by_mark true is x = (cut_off, (sent, answered_here p sent o runs is, no_end_comes is, x.1), x.0)
     by_mark false is x = (no_answer, (sent, unanswered_here p sent o runs is, no_answer_comes is, x.1), x.0)
 
-pub answer_replies : (p q : Proxy) (sent : Sent) (s t : servers.State) (item : ResponseItem) → Runs sent p → sent.is_answered ≡ false
+pub answer_replies : (p q : Proxy) (sent : SentRequest) (s t : servers.State) (item : ResponseItem) → Runs sent p → sent.is_answered ≡ false
     → HandsAnswer (answered.Answer item) s t → TakesAnswer sent t item p q → TurnReplies (record p { server = Some s }) q
 answer_replies p q sent s t item runs unanswered (a, says, read, tells) takes = by_use (takes unanswered a read says)
   where
@@ -292,7 +292,7 @@ answer_replies p q sent s t item runs unanswered (a, says, read, tells) takes = 
     )
     by_use (inr (inr x)) = (passed_on sent.is_head a, (sent, waits, refl, (x.0, read, t, tells, x.2)), x.1)
 
-pub head_replies : (p q : Proxy) (item : HeadItem) (c : State) → IsIdle p → HandsHead (SaysHead item) p.client c → Opens item c q → TurnReplies p q
+pub head_replies : (p q : Proxy) (item : HeadItem) (c : State) → HoldsNoRequest p → HandsHead (SaysHead item) p.client c → Opens item c q → TurnReplies p q
 head_replies p q item c idle hands (inl x) =
     (nothing_put, idle_cause p q idle, then_none [] p.client c q.client (head_puts (SaysHead item) p.client c hands) x)
 head_replies p q item c idle hands (inr x) = (
@@ -302,7 +302,7 @@ head_replies p q item c idle hands (inr x) = (
 )
 
 -- the client's connection has closed
-pub closed_replies : (p : Proxy) (c : State) → IsIdle p → Puts (has_closed ∷ []) p.client c
+pub closed_replies : (p : Proxy) (c : State) → HoldsNoRequest p → Puts (has_closed ∷ []) p.client c
     → ((trace : List Step) → Stands p.client trace → is_closing p ≡ true) → TurnReplies p (record p { client = c })
 closed_replies p c idle puts closing = (told_closed, (idle, closing), puts)
 
@@ -315,8 +315,8 @@ head_keeps p b q item same hands (none, x) = λ idle. (none, by_case x)
     by_case (inl x) = inl (x ∙ same)
     by_case (inr x) = inr (inr (x.0, b.client, (λ trace stands. let y = hands trace stands in (y.0, x.1 y.0 y.1, y.2))))
 
-pub busy_keeps : (p q : Proxy) (sent : Sent) → p.sent ≡ Some sent → KeepsIdle p q
-busy_keeps p q sent is = λ idle. let no : ◌≡◌ {A = Option Sent} None (Some sent) = sym idle.sent ∙ is in absurd (cc no)
+pub busy_keeps : (p q : Proxy) (sent : SentRequest) → p.sent ≡ Some sent → KeepsIdle p q
+busy_keeps p q sent is = λ idle. let no : ◌≡◌ {A = Option SentRequest} None (Some sent) = sym idle.sent ∙ is in absurd (cc no)
 
 pub waiting_keeps : (p q : Proxy) (u : Unsent) → p.unsent ≡ Some u → KeepsIdle p q
 waiting_keeps p q u is = λ idle. let no : ◌≡◌ {A = Option Unsent} None (Some u) = sym idle.unsent ∙ is in absurd (cc no)
@@ -326,7 +326,7 @@ keeps_of_unsent p q o is x = subst (λ (o : Option Unsent). KeepsIdle (record p 
 
 -- ---- the body of an answer
 
-pub piece_replies : (p q : Proxy) (sent : Sent) (s t : servers.State) (bytes : List ℕ) → Runs sent p → sent.is_answered ≡ true
+pub piece_replies : (p q : Proxy) (sent : SentRequest) (s t : servers.State) (bytes : List ℕ) → Runs sent p → sent.is_answered ≡ true
     → HandsPiece (pulled.Bytes bytes) s t → Runs sent q → q.server ≡ Some t → MayPut (continues bytes) p.client q.client
     → (IsRefused (continues bytes) p.client → ⊥) → TurnReplies (record p { server = Some s }) q
 piece_replies p q sent s t bytes runs answered hands after there (inl x) may = absurd (may x.0)
@@ -337,7 +337,7 @@ piece_replies p q sent s t bytes runs answered hands after there (inr x) may = (
 )
 
 -- trailers are left out
-pub trailers_reply : (p q : Proxy) (sent : Sent) (s t : servers.State) → Runs sent p → HandsNone s t → Runs sent q → q.server ≡ Some t
+pub trailers_reply : (p q : Proxy) (sent : SentRequest) (s t : servers.State) → Runs sent p → HandsNone s t → Runs sent q → q.server ≡ Some t
     → q.client ≡ p.client → TurnReplies (record p { server = Some s }) q
 trailers_reply p q sent s t runs none after there same = (
   nothing_put,
@@ -345,7 +345,7 @@ trailers_reply p q sent s t runs none after there same = (
   same_puts p.client q.client same,
 )
 
-pub end_replies : (p q : Proxy) (sent : Sent) (s t : servers.State) → Runs sent p → sent.is_answered ≡ true → HandsPiece pulled.End s t
+pub end_replies : (p q : Proxy) (sent : SentRequest) (s t : servers.State) → Runs sent p → sent.is_answered ≡ true → HandsPiece pulled.End s t
     → PutsLast [] ends p.client q.client → ReplyIsOver sent.is_whole sent.closes t q → TurnReplies (record p { server = Some s }) q
 end_replies p q sent s t runs answered hands puts over =
     (end_on, (sent, answered_here p sent (Some s) runs answered, (t, hands, over)), puts)
@@ -368,18 +368,18 @@ pub own_fails : (t : Bool) (a : State) (q : Proxy) → t ≡ false → PutsLast 
 own_fails true a q is x over = absurd (false≢true (sym is))
 own_fails false a q is x over = (x, over)
 
-pub kept_breaks : (t : Bool) (sent : Sent) (server : servers.State) (a : State) (q : Proxy) → t ≡ true → Puts [] a q.client
+pub kept_breaks : (t : Bool) (sent : SentRequest) (server : servers.State) (a : State) (q : Proxy) → t ≡ true → Puts [] a q.client
     → GoesOnWaiting (marks_of sent) server q → Breaks t sent server a q
 kept_breaks true sent server a q is x y = (x, y)
 kept_breaks false sent server a q is x y = absurd (false≢true is)
 
-pub own_breaks : (t : Bool) (sent : Sent) (server : servers.State) (a : State) (q : Proxy) → t ≡ false → PutsLast [] (own 400) a q.client → IsDropped q
+pub own_breaks : (t : Bool) (sent : SentRequest) (server : servers.State) (a : State) (q : Proxy) → t ≡ false → PutsLast [] (own 400) a q.client → IsDropped q
     → Breaks t sent server a q
 own_breaks true sent server a q is x over = absurd (false≢true (sym is))
 own_breaks false sent server a q is x over = (x, over)
 
 -- its body breaks
-pub body_breaks : (q : Proxy) (sent : Sent) (server : servers.State) (client c : State) (fault : on.BodyFault) → Puts (request_breaks fault ∷ []) client c
+pub body_breaks : (q : Proxy) (sent : SentRequest) (server : servers.State) (client c : State) (fault : on.BodyFault) → Puts (request_breaks fault ∷ []) client c
     → Breaks sent.is_answered sent server c q → PassesBody sent server client q
 body_breaks q sent server client c fault puts breaks = inr (fault, c, puts, breaks)
 
@@ -432,7 +432,7 @@ pub replies_by : (by : ProxyEvent) (outcome : ProxyOutcome) (p mid q : Proxy) �
 replies_by by outcome p mid q goes event turns = record { mid = mid; goes = goes; event = event; turns = turns }
 
 -- no server connection is to be had
-pub refuses_by : (p a b mid q : Proxy) → GoesBy past.refused past.done p mid → IsIdle mid → mid.server ≡ p.server → a.client ≡ p.client → b.client ≡ a.client
+pub refuses_by : (p a b mid q : Proxy) → GoesBy past.refused past.done p mid → HoldsNoRequest mid → mid.server ≡ p.server → a.client ≡ p.client → b.client ≡ a.client
     → PutsLast [] (own 502) b.client mid.client → HasReplied mid q → RepliesRefused p q
 refuses_by p a b mid q goes idle server first second puts turns = record {
   mid = mid;

@@ -9,12 +9,12 @@ use Rattle.model_state.specs.Kept.{Kept, Change}
 use Rattle.model_state.specs.Change.{IsStep}
 use Rattle.model_state.specs.StandsFor.{StandsFor}
 use Rattle.model_state.proofs.Stands.{table_steps}
-use Rattle.h1_connection.specs.Meaning.{setting_of}
+use Rattle.h1_connection.specs.EventMeaning.{setting_of}
 use Rattle.h1_connection.specs.State.{State, GoesOn, Is}
 use Rattle.model_client.specs.ClientEvent as asked
 use Rattle.model_client.specs.ClientKept.{client_allows}
 use Rattle.model_client.specs.ClientStep.{ClientChange}
-use Rattle.h1_client.specs.Meaning as asking
+use Rattle.h1_client.specs.ClientMeaning as asking
 use Rattle.h1_client.specs.State as servers
 use Rattle.model_proxy.specs.Past.{ProxyStep}
 use Rattle.model_proxy.specs.Rests.{MAX_WAITING}

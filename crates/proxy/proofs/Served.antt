@@ -20,7 +20,7 @@ use Rattle.http_framing.specs.declared.body.size.BodySize.TheVariants as sizes
 use Rattle.h1_encoder.specs.Meaning.{size_of}
 use Rattle.h1_decoder.specs.HeadItem.{SaysHead}
 use Rattle.h1_decoder.specs.declared.decoder.HeadItem.{HeadItem}
-use Rattle.h1_connection.specs.Meaning.{setting_of}
+use Rattle.h1_connection.specs.EventMeaning.{setting_of}
 use Rattle.h1_connection.specs.State.{State, GoesOn, Is, IsAllowed, fresh_state}
 use Rattle.h1_connection.specs.declared.connection.heads.NextHead.TheVariants as next
 use Rattle.model_client.specs.ClientEvent.{ClientEnd}
@@ -36,8 +36,8 @@ use Rattle.proxy.specs.Wants.{IsAnswered, IsAnswering, IsAskedBy, IsTold, WantsT
 use Rattle.proxy.proofs.Wants.{client_wants}
 use Rattle.proxy.specs.declared.proxy.Proxy.{Proxy}
 use Rattle.proxy.specs.declared.proxy.Unsent.{Unsent}
-use Rattle.proxy.specs.declared.proxy.Sent.{Sent}
-use Rattle.proxy.specs.Kept.{Forwards, Runs, IsIdle, is_closing, wants_server}
+use Rattle.proxy.specs.declared.proxy.SentRequest.{SentRequest}
+use Rattle.proxy.specs.Kept.{Forwards, Runs, HoldsNoRequest, is_closing, wants_server}
 use Rattle.proxy.proofs.EventMoves.{three_parts, some_unsent}
 use Rattle.model_proxy.specs.Rests.{MAX_WAITING}
 use Rattle.proxy.specs.Rests.{IsNoted, may_begin, is_over, may_turn, IsFull, IsHeldUp, RestsBy, RestsWhereItMay}
@@ -52,7 +52,7 @@ told_by o a b x (trace, stands) =
     let y = x.brings trace stands in
     (y.0, subst (λ (s : Settings). StandsFor (setting_of s) b.kept y.0) (sym x.settings) y.1)
 
-fits_less : (u : Option Unsent) (s : Option Sent) (a b : State) → WantsTheSame a b → Fits u s a → Fits u s b
+fits_less : (u : Option Unsent) (s : Option SentRequest) (a b : State) → WantsTheSame a b → Fits u s a → Fits u s b
 fits_less (Some u) s a b x f = ((x.complete f.0.0, x.waited f.0.1), f.1, x.asked u.sent.is_head f.2, x.told f.3)
 fits_less None (Some s) a b x f = (by_answer s.is_answered f.0, x.asked s.is_head f.1, x.told f.2)
   where
@@ -89,8 +89,8 @@ with_moment p m s = record { told = s.told; served = s.served }
 pub noted_serves : (p q : Proxy) → IsNoted p q → Serving p → Serving q
 noted_serves p q (n, is) s = subst Serving (sym is) (record { told = s.told; served = s.served })
 
-pub noted_idle : (p q : Proxy) → IsNoted p q → IsIdle p → IsIdle q
-noted_idle p q (n, is) x = subst IsIdle (sym is) (record { unsent = x.unsent; sent = x.sent })
+pub noted_idle : (p q : Proxy) → IsNoted p q → HoldsNoRequest p → HoldsNoRequest q
+noted_idle p q (n, is) x = subst HoldsNoRequest (sym is) (record { unsent = x.unsent; sent = x.sent })
 
 pub noted_no_reply : (p q : Proxy) → IsNoted p q → HasNoReply p → HasNoReply q
 noted_no_reply p q (n, is) x = subst HasNoReply (sym is) (record { told = x.told; complete = x.complete; waited = x.waited })
@@ -98,30 +98,30 @@ noted_no_reply p q (n, is) x = subst HasNoReply (sym is) (record { told = x.told
 pub serves_of_unsent : (p q : Proxy) (u : Option Unsent) → p.unsent ≡ u → GoesOnServing (record p { unsent = u }) q → GoesOnServing p q
 serves_of_unsent p q u is x = subst (λ (o : Option Unsent). GoesOnServing (record p { unsent = o }) q) (sym is) x
 
-pub serves_of_sent : (p q : Proxy) (s : Sent) → p.sent ≡ Some s → GoesOnServing (record p { sent = Some s }) q → GoesOnServing p q
-serves_of_sent p q s is x = subst (λ (o : Option Sent). GoesOnServing (record p { sent = o }) q) (sym is) x
+pub serves_of_sent : (p q : Proxy) (s : SentRequest) → p.sent ≡ Some s → GoesOnServing (record p { sent = Some s }) q → GoesOnServing p q
+serves_of_sent p q s is x = subst (λ (o : Option SentRequest). GoesOnServing (record p { sent = o }) q) (sym is) x
 
 -- ---- the request under way
 
-runs_fits : (p : Proxy) (s : Sent) → Runs s p → Serving p → FitsAnswer s.is_answered p.client × IsAskedBy s.is_head p.client × IsTold p.client
-runs_fits p s runs x = subst₂ (λ (u : Option Unsent) (o : Option Sent). Fits u o p.client) runs.unsent runs.sent x.served
+runs_fits : (p : Proxy) (s : SentRequest) → Runs s p → Serving p → FitsAnswer s.is_answered p.client × IsAskedBy s.is_head p.client × IsTold p.client
+runs_fits p s runs x = subst₂ (λ (u : Option Unsent) (o : Option SentRequest). Fits u o p.client) runs.unsent runs.sent x.served
 
-pub no_reply_of : (p : Proxy) (s : Sent) → Runs s p → s.is_answered ≡ false → Serving p → HasNoReply p
+pub no_reply_of : (p : Proxy) (s : SentRequest) → Runs s p → s.is_answered ≡ false → Serving p → HasNoReply p
 no_reply_of p s runs is x =
     let fits = subst (λ (t : Bool). FitsAnswer t p.client) is (runs_fits p s runs x).0 in
     record { told = x.told; complete = fits.0; waited = fits.1 }
 
-pub no_reply_to : (p : Proxy) (s : Sent) → Runs s p → s.is_answered ≡ false → Serving p → HasNoReplyTo s.is_head p
+pub no_reply_to : (p : Proxy) (s : SentRequest) → Runs s p → s.is_answered ≡ false → Serving p → HasNoReplyTo s.is_head p
 no_reply_to p s runs is x = (no_reply_of p s runs is x, (runs_fits p s runs x).1)
 
-pub told_to_continue : (p : Proxy) (s : Sent) → Runs s p → Serving p → IsTold p.client
+pub told_to_continue : (p : Proxy) (s : SentRequest) → Runs s p → Serving p → IsTold p.client
 told_to_continue p s runs x = (runs_fits p s runs x).2
 
-pub answered_of : (p : Proxy) (s : Sent) → Runs s p → s.is_answered ≡ true → Serving p → IsAnswered p.client
+pub answered_of : (p : Proxy) (s : SentRequest) → Runs s p → s.is_answered ≡ true → Serving p → IsAnswered p.client
 answered_of p s runs is x = (subst (λ (t : Bool). FitsAnswer t p.client) is (runs_fits p s runs x).0).0
 
 -- it goes on under another mark
-pub resent_serves : (p : Proxy) (s t : Sent) → Runs s p → marks_of t ≡ marks_of s → GoesOnServing p (record p { sent = Some t })
+pub resent_serves : (p : Proxy) (s t : SentRequest) → Runs s p → marks_of t ≡ marks_of s → GoesOnServing p (record p { sent = Some t })
 resent_serves p s t runs same = λ x. record {
   told = x.told;
   served = subst (λ (u : Option Unsent). Fits u (Some t) p.client) (sym runs.unsent)
@@ -129,7 +129,7 @@ resent_serves p s t runs same = λ x. record {
 }
 
 -- the head of its answer was passed on
-pub passed_serves : (is_head closes : Bool) (p : Proxy) (t : Sent) → p.unsent ≡ None
+pub passed_serves : (is_head closes : Bool) (p : Proxy) (t : SentRequest) → p.unsent ≡ None
     → marks_of t ≡ record { is_head = is_head; is_answered = true; closes = closes } → HasTrace p.client → IsAnswered p.client → IsAnswering p.client
     → IsAskedBy is_head p.client → IsTold p.client → Serving (record p { sent = Some t })
 passed_serves is_head closes p t none is told answered answering asked on = record {
@@ -165,10 +165,10 @@ waiting_no_reply p u is x =
     record { told = x.told; complete = fits.0; waited = fits.1 }
 
 -- none is
-pub idle_serves : (p : Proxy) → IsIdle p → WantsNothing p → Serving p
+pub idle_serves : (p : Proxy) → HoldsNoRequest p → WantsNothing p → Serving p
 idle_serves p idle x = record {
   told = x.told;
-  served = subst₂ (λ (u : Option Unsent) (s : Option Sent). Fits u s p.client) (sym idle.unsent) (sym idle.sent) (x.answered, x.complete);
+  served = subst₂ (λ (u : Option Unsent) (s : Option SentRequest). Fits u s p.client) (sym idle.unsent) (sym idle.sent) (x.answered, x.complete);
 }
 
 -- ---- a head, and an answer
@@ -236,7 +236,7 @@ Awaited u o closes = ((is_some u && is_none o && not closes) ≡ true) ⊎ ((ser
 
 module _ (client : State) (runs : is_running (setting_of client.settings) client.kept ≡ true) where
   -- a request that waits for its answer
-  answer_awaited : (u : Option Unsent) (s : Option Sent) (o : Option servers.State) (closes : Bool) → closes ≡ false → Fits u s client → RestsBy u s client o
+  answer_awaited : (u : Option Unsent) (s : Option SentRequest) (o : Option servers.State) (closes : Bool) → closes ≡ false → Fits u s client → RestsBy u s client o
       → waits_for_answer client.kept ≡ true → Awaited u o closes
   answer_awaited (Some u) s o closes none fits rests waits =
       inl (ap₂ (λ (o : Option servers.State) (c : Bool). is_some (Some u) && is_none o && not c) rests none)
@@ -249,7 +249,7 @@ module _ (client : State) (runs : is_running (setting_of client.settings) client
   answer_awaited None None o closes none fits rests waits = absurd (false≢true (sym (fits.0 runs) ∙ waits))
 
   -- an answer that isn't complete
-  body_awaited : (u : Option Unsent) (s : Option Sent) (o : Option servers.State) → Fits u s client → RestsBy u s client o
+  body_awaited : (u : Option Unsent) (s : Option SentRequest) (o : Option servers.State) → Fits u s client → RestsBy u s client o
       → is_answering client.kept ≡ true
       → (server : servers.State) × (o ≡ Some server) × (((bytes : List ℕ) → IsAllowed client (on.chunk bytes)) → LacksBytes server)
   body_awaited (Some u) s o fits rests going = absurd (false≢true (sym (fits.0.0 runs) ∙ going))
@@ -263,7 +263,7 @@ module _ (client : State) (runs : is_running (setting_of client.settings) client
   body_awaited None None o fits rests going = absurd (false≢true (sym (fits.1 runs) ∙ going))
 
   -- where neither is, nothing is kept under way
-  next_left : (u : Option Unsent) (s : Option Sent) (o : Option servers.State) → Fits u s client → RestsBy u s client o
+  next_left : (u : Option Unsent) (s : Option SentRequest) (o : Option servers.State) → Fits u s client → RestsBy u s client o
       → waits_for_answer client.kept ≡ false → is_answering client.kept ≡ false → LacksHead client
   next_left (Some u) s o fits rests waits going allowed = absurd (false≢true (sym waits ∙ fits.0.1 runs))
   next_left None (Some s) o fits rests waits going allowed = absurd (by_answer s.is_answered fits.0)
@@ -286,7 +286,7 @@ running_of p may over =
 
 -- ---- where no turns are made
 
-held_up : (waits : ℕ) (sent : Option Sent) (o : Option servers.State) (closes : Bool) → (nat_lt waits MAX_WAITING && (may_begin sent o || is_over o) && not closes) ≡ false
+held_up : (waits : ℕ) (sent : Option SentRequest) (o : Option servers.State) (closes : Bool) → (nat_lt waits MAX_WAITING && (may_begin sent o || is_over o) && not closes) ≡ false
     → (MAX_WAITING ≤ waits) ⊎ (IsFull o ⊎ (closes ≡ true))
 held_up waits sent o closes none = by_room (nat_lt waits MAX_WAITING) refl
   where
@@ -294,7 +294,7 @@ held_up waits sent o closes none = by_room (nat_lt waits MAX_WAITING) refl
     by_begin true still is = not_false closes still
     by_begin false still is = absurd (false≢true is)
 
-    by_server : (s : Option Sent) (o : Option servers.State) → (true && (may_begin s o || is_over o) && not closes) ≡ false → IsFull o ⊎ (closes ≡ true)
+    by_server : (s : Option SentRequest) (o : Option servers.State) → (true && (may_begin s o || is_over o) && not closes) ≡ false → IsFull o ⊎ (closes ≡ true)
     by_server (Some s) o still = inr (by_begin true still refl)
     by_server None None still = inr (by_begin true still refl)
     by_server None (Some s) still = by_full (nat_lt (length s.kept.buffered) MAX_WAITING) (client_closing s.kept) refl refl
@@ -334,7 +334,7 @@ not_second : (a b : Bool) → b ≡ false → (a && b) ≡ false
 not_second true b is = is
 not_second false b is = refl
 
-not_telling : (client : State) (u : Option Unsent) (s : Option Sent) → Fits u s client → is_running (setting_of client.settings) client.kept ≡ true
+not_telling : (client : State) (u : Option Unsent) (s : Option SentRequest) → Fits u s client → is_running (setting_of client.settings) client.kept ≡ true
     → (waits_for_answer client.kept && awaits_continue client.kept) ≡ false
 not_telling client (Some u) s fits runs = not_second (waits_for_answer client.kept) (awaits_continue client.kept) (fits.3 runs)
 not_telling client None (Some s) fits runs = not_second (waits_for_answer client.kept) (awaits_continue client.kept) (fits.2 runs)
@@ -382,13 +382,13 @@ newest_of : (is_head : Bool) (rs : List Request) → NewestBy is_head (map (λ r
 newest_of is_head [] x = x
 newest_of is_head (r ∷ rs) x = x
 
-kept_asks : (client : State) (this : Sent) (u : Option Unsent) (s : Option Sent) → Fits u s client → IsKeptAs this u s → IsAskedBy this.is_head client
-kept_asks client this (Some u) s fits is = subst (λ (t : Sent). IsAskedBy t.is_head client) is fits.2
-kept_asks client this None (Some s) fits is = subst (λ (t : Sent). IsAskedBy t.is_head client) (same_Some s this is) fits.1
+kept_asks : (client : State) (this : SentRequest) (u : Option Unsent) (s : Option SentRequest) → Fits u s client → IsKeptAs this u s → IsAskedBy this.is_head client
+kept_asks client this (Some u) s fits is = subst (λ (t : SentRequest). IsAskedBy t.is_head client) is fits.2
+kept_asks client this None (Some s) fits is = subst (λ (t : SentRequest). IsAskedBy t.is_head client) (same_Some s this is) fits.1
 kept_asks client this None None fits is = absurd (none-some this is)
 
 -- what is kept of the request under way is the method of the newest
-pub kept_by_newest : (p : Proxy) (history : List ProxyStep) (all : Happenings) (this : Sent) → Forwards p history all → IsServed p → IsKeptAs this p.unsent p.sent
+pub kept_by_newest : (p : Proxy) (history : List ProxyStep) (all : Happenings) (this : SentRequest) → Forwards p history all → IsServed p → IsKeptAs this p.unsent p.sent
     → IsNewestBy this.is_head all.requests
 kept_by_newest p history all this f served is =
     let x = asked_by (setting_of p.config) this.is_head p.client.kept all.client f.carries.stands (kept_asks p.client this p.unsent p.sent served is) in

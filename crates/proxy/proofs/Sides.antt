@@ -11,19 +11,19 @@ use Rattle.model_state.specs.StandsFor.{StandsFor}
 use Rattle.h1_payload.specs.Rests.{SaysPulled}
 use Rattle.h1_payload.specs.declared.pulled.Pulled.{Pulled}
 use Rattle.h1_payload.specs.declared.pulled.Pulled.TheVariants as pulled
-use Rattle.h1_connection.specs.Meaning.{setting_of}
+use Rattle.h1_connection.specs.EventMeaning.{setting_of}
 use Rattle.h1_connection.specs.Heads.{SaysNext}
 use Rattle.h1_connection.specs.State.{State, Stands, GoesOn, Is}
 use Rattle.h1_connection.specs.declared.connection.heads.NextHead.{NextHead}
 use Rattle.h1_connection.specs.declared.connection.heads.NextHead.TheVariants as next
 use Rattle.model_client.specs.ClientEvent as asked
-use Rattle.model_client.specs.ClientTrace.{Happened, IsClientTrace, now_of, now_after, sending_of, sending_after, text_of_event, given, taken_by, asked_by}
+use Rattle.model_client.specs.ClientTrace.{Happened, IsClientTrace, now_of, now_after, sending_of, sending_after, text_of_event, given, taken_by, requests_by}
 use Rattle.model_client.specs.ClientKept.{ClientKept, SendingBody, client_allows, client_closing}
 use Rattle.model_client.specs.ClientStep.{IsClientStep}
 use Rattle.model_client.proofs.Written.{is_text}
 use Rattle.h1_client.specs.Answers as answers
 use Rattle.h1_client.specs.Bodies as bodies
-use Rattle.h1_client.specs.Meaning as asking
+use Rattle.h1_client.specs.ClientMeaning as asking
 use Rattle.h1_client.specs.State as servers
 use Rattle.h1_client.specs.declared.event.NextAnswer.{NextAnswer}
 use Rattle.h1_client.specs.declared.event.NextAnswer.TheVariants as answered
@@ -38,7 +38,7 @@ use Rattle.model_proxy.specs.Happenings.{is_eof}
 use Rattle.model_proxy.specs.Moves.{HasBrought, Does, DoesAsked}
 use Rattle.model_proxy.specs.Exchange.{pulled as all_pulled}
 use Rattle.model_proxy.proofs.Quiet.{brought, quiet, stays_same, BringsNothing, nothing_more, done_brings_nothing, pending_brings_nothing}
-use Rattle.proxy.specs.Sides.{LeavesNoMore, ClientBrings, BringsNext, BringsPulled, ServerStays, KeepsTime, IsTold}
+use Rattle.proxy.specs.Sides.{LeavesNoMore, ClientBrings, BringsNext, BringsPulled, ServerStays, KeepsTime, IsToldMoment}
 use Rattle.proxy.specs.Leaves.{LeavesNext, LeavesPulled, IsAwaited, LeavesAnswer, LeavesPiece}
 
 -- ---- the client's side
@@ -236,7 +236,7 @@ asked_step a b event out trace settings stands =
 -- an event that takes and gives nothing, and asks nothing
 pub server_one : (a : servers.State) (event : asked.ClientEvent) (Says : asked.ClientOutcome → Type 0) (b : servers.State) → b.settings ≡ a.settings
     → (one : servers.GoesOn a event Says b) → taken_by event one.outcome ≡ [] → given one.outcome ≡ [] → is_eof event ≡ false
-    → ((n : ℕ) (body : Option SendingBody) → text_of_event event n body ≡ []) → ((body : Option SendingBody) → sending_after event body ≡ body) → asked_by event ≡ []
+    → ((n : ℕ) (body : Option SendingBody) → text_of_event event n body ≡ []) → ((body : Option SendingBody) → sending_after event body ≡ body) → requests_by event ≡ []
     → ((trace : List Happened) → servers.Stands a trace → server_left b.kept ≤ server_left a.kept) → ServerStays a b
 server_one a event Says b settings one takes gives going says same asks left = record {
   settings = settings;
@@ -345,14 +345,14 @@ tick_stays ms a b settings one =
 
 -- it was told the moment, or couldn't be
 pub tick_told : (ms : ℕ) (a b : servers.State) → b.settings ≡ a.settings → servers.IsAllowed a (asked.tick ms)
-    → servers.GoesOn a (asked.tick ms) (servers.Is asked.done) b → IsTold ms a b
+    → servers.GoesOn a (asked.tick ms) (servers.Is asked.done) b → IsToldMoment ms a b
 tick_told ms a b settings allowed one = inl (record {
   settings = settings;
   allowed = allowed;
   step = subst (λ (o : asked.ClientOutcome). IsClientStep (asking.setting_of a.settings) a.kept (asked.tick ms) o b.kept) one.says one.step;
 })
 
-pub not_told : (ms : ℕ) (a : servers.State) → client_allows (asking.setting_of a.settings) a.kept (asked.tick ms) ≡ false → IsTold ms a a
+pub not_told : (ms : ℕ) (a : servers.State) → client_allows (asking.setting_of a.settings) a.kept (asked.tick ms) ≡ false → IsToldMoment ms a a
 not_told ms a refused = inr (record { refused = refused; same = refl })
 
 -- an event other than a tick

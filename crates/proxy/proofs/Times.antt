@@ -11,12 +11,12 @@ use Rattle.model_h1.specs.Sums as sums
 use Rattle.model_state.specs.Kept.{Kept, now as client_now}
 use Rattle.model_state.specs.Local.{allowed_by, closing_by, is_moment}
 use Rattle.model_state.specs.StandsFor.{StandsFor}
-use Rattle.h1_connection.specs.Meaning.{setting_of}
+use Rattle.h1_connection.specs.EventMeaning.{setting_of}
 use Rattle.model_client.specs.ClientEvent as asked
 use Rattle.model_client.specs.ClientKept.{ClientKept, client_closing, client_allows, is_waited_for, is_free}
 use Rattle.model_client.specs.ClientTrace.{Happened, IsClientTrace, now_of, now_after}
 use Rattle.model_client.proofs.Written.{is_text}
-use Rattle.h1_client.specs.Meaning as asking
+use Rattle.h1_client.specs.ClientMeaning as asking
 use Rattle.h1_client.specs.State as servers
 use Rattle.model_proxy.specs.Past.{ProxyStep, ProxyEvent, ProxyOutcome, tick_of, last_tick, now}
 use Rattle.model_proxy.specs.Happenings.{Happenings, Link}

@@ -12,7 +12,7 @@ use Rattle.model_h1.specs.Request.{Head, ConnectionType, keep_alive}
 use Rattle.model_h1.specs.Answer.{BodySize}
 use Rattle.h1_encoder.specs.Meaning.{model_type}
 use Rattle.h1_encoder.specs.RequestMeaning.{asked_head}
-use Rattle.h1_client.specs.Meaning.{request_of}
+use Rattle.h1_client.specs.ClientMeaning.{request_of}
 use Rattle.model_client.specs.RequestText.{RequestGiven, request_text, asked_shape, given_request_text}
 use Rattle.model_proxy.specs.Forward.{forwarded_size}
 

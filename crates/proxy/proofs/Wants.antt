@@ -11,7 +11,7 @@ use Rattle.h1_payload.specs.Rests.{SaysPulled}
 use Rattle.h1_payload.specs.declared.pulled.Pulled.{Pulled}
 use Rattle.h1_decoder.specs.HeadItem.{SaysHead}
 use Rattle.h1_decoder.specs.declared.decoder.HeadItem.{HeadItem}
-use Rattle.h1_connection.specs.Meaning.{setting_of}
+use Rattle.h1_connection.specs.EventMeaning.{setting_of}
 use Rattle.h1_connection.specs.Heads.{SaysNext}
 use Rattle.h1_connection.specs.State.{State, GoesOn, Is}
 use Rattle.h1_connection.specs.declared.connection.heads.NextHead.{NextHead}

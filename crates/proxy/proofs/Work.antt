@@ -10,13 +10,13 @@ use Rattle.model_state.proofs.KeptBounds.{unread_bounded}
 use Rattle.model_state.specs.Local.{closing_by}
 use Rattle.model_state.specs.StandsFor.{StandsFor}
 use Rattle.h1_decoder.specs.declared.decoder.HeadItem.{HeadItem}
-use Rattle.h1_connection.specs.Meaning.{setting_of}
+use Rattle.h1_connection.specs.EventMeaning.{setting_of}
 use Rattle.h1_connection.specs.State.{State, Stands, IsAllowed}
 use Rattle.model_client.specs.ClientEvent as asked
 use Rattle.model_client.specs.ClientKept.{ReadingBody}
 use Rattle.model_client.specs.ClientTrace.{Happened, IsClientTrace}
-use Rattle.h1_client.specs.Meaning as asking
-use Rattle.h1_client.specs.Meaning.{request_of}
+use Rattle.h1_client.specs.ClientMeaning as asking
+use Rattle.h1_client.specs.ClientMeaning.{request_of}
 use Rattle.h1_encoder.specs.Meaning.{size_of}
 use Rattle.h1_client.specs.State as servers
 use Rattle.model_proxy.specs.Left.{request_left as rest_left, client_left, answer_left, server_left, LeavesAll}
@@ -29,8 +29,8 @@ use Rattle.model_proxy.specs.Happenings.{Happenings, Link}
 use Rattle.model_proxy.specs.Carried.{IsServer}
 use Rattle.proxy.specs.declared.proxy.Proxy.{Proxy}
 use Rattle.proxy.specs.declared.proxy.Unsent.{Unsent}
-use Rattle.proxy.specs.declared.proxy.Sent.{Sent}
-use Rattle.proxy.specs.Kept.{is_closing, HasSettings, Forwards, Goes, GoesBy, Runs, IsIdle}
+use Rattle.proxy.specs.declared.proxy.SentRequest.{SentRequest}
+use Rattle.proxy.specs.Kept.{is_closing, HasSettings, Forwards, Goes, GoesBy, Runs, HoldsNoRequest}
 use Rattle.model_proxy.specs.Rests.{MAX_WAITING}
 use Rattle.proxy.specs.declared.notes.Notes.{Notes}
 use Rattle.proxy.specs.Replies.{HasReplied}
@@ -134,11 +134,11 @@ fault_works o p c x closes = λ told.
     (client_told o p c x told, omega (arith, less, none))
 
 -- no head is there
-pub idle_rests : (o : on.Outcome) (p : Proxy) (c : State) → IsIdle p → ClientBrings o p.client c
+pub idle_rests : (o : on.Outcome) (p : Proxy) (c : State) → HoldsNoRequest p → ClientBrings o p.client c
     → ((trace : List sums.Step) → Stands p.client trace → LacksHead c) → IsNotToEnd p.server → Works false p (record p { client = c })
 idle_rests o p c idle x none kept = λ told. (
   client_told o p c x told,
-  subst₂ (λ (u : Option Unsent) (s : Option Sent). RestsBy u s c p.server) (sym idle.unsent) (sym idle.sent)
+  subst₂ (λ (u : Option Unsent) (s : Option SentRequest). RestsBy u s c p.server) (sym idle.unsent) (sym idle.sent)
       (record { head = none told.trace told.stands; kept = kept }),
 )
 
@@ -212,7 +212,7 @@ over_less p some = by_server p.server some
 
 -- ---- the request under way
 
-dropped : (u : Option Unsent) (s : Option Sent) → request_left u None ≤ request_left u s
+dropped : (u : Option Unsent) (s : Option SentRequest) → request_left u None ≤ request_left u s
 dropped (Some u) s = omega arith
 dropped None None = omega arith
 dropped None (Some s) = omega arith
@@ -225,7 +225,7 @@ sent_some true = omega arith
 sent_some false = omega arith
 
 -- it was sent on, and is over
-pub over_sent : (p : Proxy) (s : Sent) → Runs s p → LeavesLess 1 p (record p { sent = None })
+pub over_sent : (p : Proxy) (s : SentRequest) → Runs s p → LeavesLess 1 p (record p { sent = None })
 over_sent p s runs = λ told. (
   record { trace = told.trace; stands = told.stands; server = told.server },
   let old : request_left p.unsent p.sent ≡ sent_left s = ap₂ request_left runs.unsent runs.sent in
@@ -234,7 +234,7 @@ over_sent p s runs = λ told. (
 )
 
 -- it goes on under another mark
-pub remarked : (n : ℕ) (p : Proxy) (s t : Sent) → Runs s p → sent_left t + n ≤ sent_left s → LeavesLess n p (record p { sent = Some t })
+pub remarked : (n : ℕ) (p : Proxy) (s t : SentRequest) → Runs s p → sent_left t + n ≤ sent_left s → LeavesLess n p (record p { sent = Some t })
 remarked n p s t runs less = λ told. (
   record { trace = told.trace; stands = told.stands; server = told.server },
   let old : request_left p.unsent p.sent ≡ sent_left s = ap₂ request_left runs.unsent runs.sent in
@@ -242,11 +242,11 @@ remarked n p s t runs less = λ told. (
       omega (arith, old, new, less),
 )
 
-pub same_mark : (s t : Sent) → t.is_whole ≡ s.is_whole → t.is_broken ≡ s.is_broken → sent_left t + 0 ≤ sent_left s
+pub same_mark : (s t : SentRequest) → t.is_whole ≡ s.is_whole → t.is_broken ≡ s.is_broken → sent_left t + 0 ≤ sent_left s
 same_mark s t whole broken =
     let same = ap₂ (λ (w b : Bool). mark (w || b)) whole broken in omega (arith, same)
 
-pub whole_mark : (s t : Sent) → s.is_whole ≡ false → s.is_broken ≡ false → t.is_whole ≡ true → sent_left t + 1 ≤ sent_left s
+pub whole_mark : (s t : SentRequest) → s.is_whole ≡ false → s.is_broken ≡ false → t.is_whole ≡ true → sent_left t + 1 ≤ sent_left s
 whole_mark s t whole broken now =
     let old : sent_left s ≡ 2 = ap₂ (λ (w b : Bool). mark (w || b)) whole broken in
     let new : sent_left t ≡ 1 = ap (λ (w : Bool). mark (w || t.is_broken)) now in
@@ -256,7 +256,7 @@ or_true : (b : Bool) → mark (b || true) ≡ 1
 or_true true = refl
 or_true false = refl
 
-pub broken_mark : (s t : Sent) → s.is_whole ≡ false → s.is_broken ≡ false → t.is_broken ≡ true → sent_left t + 1 ≤ sent_left s
+pub broken_mark : (s t : SentRequest) → s.is_whole ≡ false → s.is_broken ≡ false → t.is_broken ≡ true → sent_left t + 1 ≤ sent_left s
 broken_mark s t whole broken now =
     let old : sent_left s ≡ 2 = ap₂ (λ (w b : Bool). mark (w || b)) whole broken in
     let new : sent_left t ≡ 1 = ap (λ (b : Bool). mark (t.is_whole || b)) now ∙ or_true t.is_whole in
@@ -288,11 +288,11 @@ waits_rests p u s none now = λ told. (
 )
 
 -- nothing is there of its body, or of its answer
-pub sent_rests : (s : Sent) (server : servers.State) (p q : Proxy) → BodyRests s server p q
+pub sent_rests : (s : SentRequest) (server : servers.State) (p q : Proxy) → BodyRests s server p q
     → (s.is_answered ≡ false → IsAwaited server)
     → (s.is_answered ≡ true → ((bytes : List ℕ) → IsAllowed p.client (on.chunk bytes)) → LacksBytes server) → Rests q
 sent_rests s server p q body answer piece =
-    subst₂ (λ (u : Option Unsent) (o : Option Sent). RestsBy u o q.client q.server) (sym body.unsent) (sym body.sent_is)
+    subst₂ (λ (u : Option Unsent) (o : Option SentRequest). RestsBy u o q.client q.server) (sym body.unsent) (sym body.sent_is)
     (subst (λ (o : Option servers.State). RestsBy None (Some s) q.client o) (sym body.server_is) (record {
       answer = answer;
       piece = λ answered may. piece answered (λ bytes. body.pieces bytes (may bytes));
@@ -300,7 +300,7 @@ sent_rests s server p q body answer piece =
     }))
 
 -- none of it may be sent
-pub body_same : (s : Sent) (server : servers.State) (p : Proxy) → Runs s p
+pub body_same : (s : SentRequest) (server : servers.State) (p : Proxy) → Runs s p
     → (s.is_whole ≡ false → s.is_broken ≡ false → length server.kept.buffered < MAX_WAITING → SendsBody server → ⊥)
     → WorksBody s server false p (record p { server = Some server })
 body_same s server p runs never = λ told. (
@@ -315,7 +315,7 @@ body_same s server p runs never = λ told. (
 )
 
 -- no byte of it is there
-pub body_waits : (s : Sent) (server : servers.State) (p : Proxy) (c : State) → Runs s p → ClientBrings on.done p.client c
+pub body_waits : (s : SentRequest) (server : servers.State) (p : Proxy) (c : State) → Runs s p → ClientBrings on.done p.client c
     → ((trace : List sums.Step) → Stands p.client trace
     → LacksMore c × ((bytes : List ℕ) → IsAllowed c (on.chunk bytes) → IsAllowed p.client (on.chunk bytes)))
     → WorksBody s server false p (record p { server = Some server; client = c })
@@ -332,7 +332,7 @@ body_waits s server p c runs x none = λ told.
     )
 
 -- the request's body, behind what its answer did
-pub then_told : (sent : Sent) (server : servers.State) (more : Bool) (a : servers.State) (p q : Proxy)
+pub then_told : (sent : SentRequest) (server : servers.State) (more : Bool) (a : servers.State) (p q : Proxy)
     → LeavesLess 0 (record p { server = Some a }) (record p { server = Some server }) → WorksBody sent server more p q
     → ((told : Told (record p { server = Some a })) → BodyRests sent server p q → Rests q) → Works more (record p { server = Some a }) q
 then_told sent server true a p q first second rests = then_works true (record p { server = Some a }) (record p { server = Some server }) q first second
@@ -400,7 +400,7 @@ server_held p history all s f is =
     let room = ap (λ (t : Settings). t.h1_hold_size) (same ∙ sym f.client) in
     omega (arith, held, room)
 
-request_fits : (u : Option Unsent) (s : Option Sent) → request_left u s ≤ 3
+request_fits : (u : Option Unsent) (s : Option SentRequest) → request_left u s ≤ 3
 request_fits (Some u) s = omega arith
 request_fits None None = omega arith
 request_fits None (Some s) = mark_fits (s.is_whole || s.is_broken)

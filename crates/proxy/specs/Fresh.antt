@@ -6,11 +6,11 @@ use Rattle.model_h1.specs.Setting.{Setting}
 use Rattle.model_client.specs.AnswerReading.{Answer, answer_is, IsAnswerReadingWithin}
 use Rattle.model_client.specs.ClientEvent as asked
 use Rattle.model_client.specs.ClientKept.{is_free, is_waited_for, client_closing, client_allows}
-use Rattle.h1_client.specs.Meaning as asking
-use Rattle.h1_client.specs.Meaning.{request_of}
+use Rattle.h1_client.specs.ClientMeaning as asking
+use Rattle.h1_client.specs.ClientMeaning.{request_of}
 use Rattle.h1_client.specs.State as servers
 use Rattle.h1_encoder.specs.Meaning.{size_of}
-use Rattle.proxy.specs.Sides.{ServerDid, IsTold}
+use Rattle.proxy.specs.Sides.{ServerDid, IsToldMoment}
 use Rattle.proxy.specs.declared.proxy.Proxy.{Proxy}
 use Rattle.proxy.specs.declared.proxy.Unsent.{Unsent}
 use Rattle.model_proxy.specs.Past.{ProxyStep, now}
@@ -36,7 +36,7 @@ is_server_used (Some s) = is_used s
 -- it was told the last moment, if there is one
 abbrev pub IsToldTime : Option ℕ → servers.State → servers.State → Type 0
 IsToldTime None old new = new ≡ old
-IsToldTime (Some moment) old new = IsTold moment old new
+IsToldTime (Some moment) old new = IsToldMoment moment old new
 
 -- the event that sends this request
 abbrev pub asking_of : Unsent → asked.ClientEvent
@@ -44,7 +44,7 @@ asking_of u = asked.ask (request_of u.head) (size_of u.size)
 
 -- A request is sent on by the server connection that is there, once that is told the time: it is dated by the last tick of the forwarder's
 -- history, 0 before the first. All that came before on that connection was read.
-pub record IsSentOn (u : Unsent) (old new : Proxy) : Type 0 where
+pub record IsSentUpstream (u : Unsent) (old new : Proxy) : Type 0 where
   pub server : servers.State
   pub is_there : old.server ≡ Some server
   pub read : HasReadAll server
@@ -67,7 +67,7 @@ pub record WaitsOn (u : Unsent) (old new : Proxy) : Type 0 where
   pub waits : new ≡ record old { server = None }
 
 abbrev pub SendsOrWaits : Unsent → Proxy → Proxy → Type 0
-SendsOrWaits u old new = IsSentOn u old new ⊎ WaitsOn u old new
+SendsOrWaits u old new = IsSentUpstream u old new ⊎ WaitsOn u old new
 
 -- All that a turn does with a request that waits: it is sent on where it can be, and else waits on without a server connection; and where no
 -- turn may be made, nothing is done.

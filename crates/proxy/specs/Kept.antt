@@ -11,10 +11,10 @@ use Rattle.h1_decoder.specs.declared.decoder.HeadItem.{HeadItem}
 use Rattle.model_client.specs.RequestText.{request_text, asked_shape, given_request_text}
 use Rattle.model_client.specs.ClientEvent as asked
 use Rattle.model_client.specs.ClientKept.{client_allows, is_reusable as takes_another}
-use Rattle.h1_client.specs.Meaning as asking
-use Rattle.h1_client.specs.Meaning.{request_of}
+use Rattle.h1_client.specs.ClientMeaning as asking
+use Rattle.h1_client.specs.ClientMeaning.{request_of}
 use Rattle.h1_client.specs.State as servers
-use Rattle.h1_connection.specs.Meaning.{setting_of}
+use Rattle.h1_connection.specs.EventMeaning.{setting_of}
 use Rattle.h1_connection.specs.State.{State}
 use Rattle.model_proxy.specs.Forward.{forwarded, forwarded_size}
 use Rattle.model_proxy.specs.Past.{ProxyStep, ProxyEvent, ProxyOutcome, last_tick}
@@ -24,7 +24,7 @@ use Rattle.model_proxy.specs.Happenings.{Happenings, sent_of}
 use Rattle.model_proxy.specs.Carried.{UnderWay, nothing, waits, is_sent, ForwarderKept, Carries, IsNewest}
 use Rattle.proxy.specs.declared.proxy.Proxy.{Proxy}
 use Rattle.proxy.specs.declared.proxy.Unsent.{Unsent}
-use Rattle.proxy.specs.declared.proxy.Sent.{Sent}
+use Rattle.proxy.specs.declared.proxy.SentRequest.{SentRequest}
 
 -- ---- what it keeps
 
@@ -35,7 +35,7 @@ client_of proxy = proxy.client
 abbrev pub server_of : Proxy → Option servers.State
 server_of proxy = proxy.server
 
-abbrev pub under_way_of : Option Unsent → Option Sent → UnderWay
+abbrev pub under_way_of : Option Unsent → Option SentRequest → UnderWay
 under_way_of (Some u) sent = waits (request_of u.head) (size_of u.size) u.sent.is_whole u.sent.is_broken
 under_way_of None (Some s) = is_sent s.is_whole s.is_broken
 under_way_of None None = nothing
@@ -93,7 +93,7 @@ abbrev pub GoesUnsent : Unsent → Proxy → Proxy → Type 0
 GoesUnsent unsent old new = Goes (record old { unsent = Some unsent }) new
 
 -- where this one was sent on, on this connection, and its body is broken
-abbrev pub GoesBroken : Sent → servers.State → Proxy → Proxy → Type 0
+abbrev pub GoesBroken : SentRequest → servers.State → Proxy → Proxy → Type 0
 GoesBroken sent server old new = Goes (record old { server = Some server; sent = Some (record sent { is_broken = true }) }) new
 
 -- by the newest request, which this item says
@@ -104,12 +104,12 @@ GoesFrom item old new =
     → IsNewest h all → (after : Happenings) × Forwards new history after)
 
 -- no request is under way
-pub record IsIdle (p : Proxy) : Type 0 where
+pub record HoldsNoRequest (p : Proxy) : Type 0 where
   pub unsent : p.unsent ≡ None
   pub sent : p.sent ≡ None
 
 -- this one is
-pub record Runs (this : Sent) (p : Proxy) : Type 0 where
+pub record Runs (this : SentRequest) (p : Proxy) : Type 0 where
   pub unsent : p.unsent ≡ None
   pub sent : p.sent ≡ Some this
 
@@ -166,7 +166,7 @@ abbrev pub TakesAll : ℕ → List ℕ → ℕ → Proxy → Type 0
 TakesAll count bytes room old = (history : List ProxyStep) (all : Happenings) → Forwards old history all → count ≡ min (length bytes) room
 
 -- the connection to a server may serve a further request, of another client too: none is under way
-abbrev pub may_serve : Option Sent → Option servers.State → Bool
+abbrev pub may_serve : Option SentRequest → Option servers.State → Bool
 may_serve sent None = false
 may_serve sent (Some s) = is_none sent && takes_another s.kept
 
@@ -174,7 +174,7 @@ abbrev pub is_reusable : Proxy → Bool
 is_reusable p = may_serve p.sent p.server
 
 -- the head of an answer was passed on, and its reply isn't complete
-abbrev pub was_answered : Option Sent → Bool
+abbrev pub was_answered : Option SentRequest → Bool
 was_answered None = false
 was_answered (Some s) = s.is_answered
 

@@ -10,7 +10,7 @@ use Rattle.h1_decoder.specs.HeadItem.{SaysHead}
 use Rattle.h1_decoder.specs.ResponseItem.{SaysAnswer}
 use Rattle.h1_decoder.specs.declared.decoder.HeadItem.{HeadItem}
 use Rattle.h1_decoder.specs.declared.response.ResponseItem.{ResponseItem}
-use Rattle.h1_connection.specs.Meaning.{setting_of}
+use Rattle.h1_connection.specs.EventMeaning.{setting_of}
 use Rattle.h1_connection.specs.State.{State, Stands}
 use Rattle.model_client.specs.AnswerParse.{is_interim}
 use Rattle.model_client.specs.AnswerReading.{Answer}
@@ -24,9 +24,9 @@ use Rattle.model_proxy.specs.Past as event
 use Rattle.proxy.specs.Leaves.{IsAwaited}
 use Rattle.proxy.specs.Puts.{Part, begins, continues, ends, breaks_off, request_breaks, has_closed, Puts, MayPut, MayLeave, HandsHead, is_refused, is_good, Handed, body_bytes, body_end, body_fault, Hands, HandsNone, Tells, IsRead, CannotTell, CannotPull, IsReadUp}
 use Rattle.proxy.specs.declared.proxy.Proxy.{Proxy}
-use Rattle.proxy.specs.declared.proxy.Sent.{Sent}
+use Rattle.proxy.specs.declared.proxy.SentRequest.{SentRequest}
 use Rattle.proxy.specs.Fresh.{SendsWhereItCan, BeginsWhereItMay}
-use Rattle.proxy.specs.Kept.{IsIdle, Runs, Goes, GoesBy, is_closing}
+use Rattle.proxy.specs.Kept.{HoldsNoRequest, Runs, Goes, GoesBy, is_closing}
 
 -- ---- what is put
 
@@ -79,12 +79,12 @@ HasPut told_closed old new = Puts (has_closed ∷ []) old new
 -- ---- why
 
 -- this request was sent on, and no head was passed on as its answer's
-pub record IsUnanswered (sent : Sent) (p : Proxy) : Type 0 where
+pub record IsUnanswered (sent : SentRequest) (p : Proxy) : Type 0 where
   pub runs : Runs sent p
   pub unanswered : sent.is_answered ≡ false
 
 -- this request was sent on, and the head of its answer was passed on
-pub record WasAnswered (sent : Sent) (p : Proxy) : Type 0 where
+pub record WasAnswered (sent : SentRequest) (p : Proxy) : Type 0 where
   pub runs : Runs sent p
   pub answered : sent.is_answered ≡ true
 
@@ -95,13 +95,13 @@ pub record Marks : Type 0 where
   pub is_answered : Bool
   pub closes : Bool
 
-abbrev pub marks_of : Sent → Marks
+abbrev pub marks_of : SentRequest → Marks
 marks_of sent = record { is_head = sent.is_head; is_answered = sent.is_answered; closes = sent.closes }
 
 -- A request that was sent on goes on under these marks, by the same connection to a server, which handed out these parts of answers, the newest
 -- first, and no others.
 pub record GoesOnBy (marks : Marks) (handed : List Handed) (server : servers.State) (q : Proxy) : Type 0 where
-  pub sent : Sent
+  pub sent : SentRequest
   pub runs : Runs sent q
   pub marked : marks_of sent ≡ marks
   pub after : servers.State
@@ -138,16 +138,16 @@ LacksAnswer None = ⊤
 LacksAnswer (Some s) = CannotTell s ⊎ ((o : asked.ClientOutcome) × IsBad o × (t : servers.State) × Tells o s t)
 
 -- A reply that ends with its head is complete; of another the connection to the server has the rest.
-abbrev pub Follows : Bool → Sent → Answer → servers.State → Proxy → Type 0
+abbrev pub Follows : Bool → SentRequest → Answer → servers.State → Proxy → Type 0
 Follows true sent a server q = ReplyIsOver sent.is_whole (says_close a) server q
 Follows false sent a server q = GoesOnBy (record { is_head = sent.is_head; is_answered = true; closes = says_close a }) [] server q
 
 -- an answer's head is passed on
-abbrev pub FollowsHead : Sent → Answer → servers.State → Proxy → Type 0
+abbrev pub FollowsHead : SentRequest → Answer → servers.State → Proxy → Type 0
 FollowsHead sent a server q = Follows (is_at_once (reply_size sent.is_head a)) sent a server q
 
 -- this answer was handed out next, and is one to be passed on
-abbrev pub HasAnswer : Sent → Answer → Option servers.State → Proxy → Type 0
+abbrev pub HasAnswer : SentRequest → Answer → Option servers.State → Proxy → Type 0
 HasAnswer sent a None q = ⊥
 HasAnswer sent a (Some s) q = (is_good a ≡ true) × IsRead a × (t : servers.State) × Tells (asked.answer a) s t × FollowsHead sent a t q
 
@@ -157,7 +157,7 @@ HasBytes marks bytes None q = ⊥
 HasBytes marks bytes (Some s) q = GoesOnBy marks (body_bytes bytes ∷ []) s q
 
 -- the end of the answer's body was handed out next, or it was read to its end before
-abbrev pub HasEnd : Sent → Option servers.State → Proxy → Type 0
+abbrev pub HasEnd : SentRequest → Option servers.State → Proxy → Type 0
 HasEnd sent None q = ⊥
 HasEnd sent (Some s) q = (t : servers.State) × (Hands (body_end ∷ []) s t ⊎ ((t ≡ s) × IsReadUp s)) × ReplyIsOver sent.is_whole sent.closes t q
 
@@ -179,17 +179,17 @@ AwaitsAnswer (Some s) = (t : servers.State) × HandsNone s t × ((trace : List H
 -- handed out; and it is cut only where its body is broken, ended early, or can't come. The server connection is closed for 400, 501 and 502, and
 -- where a reply is cut.
 abbrev pub HasCause : TurnPuts → Proxy → Proxy → Type 0
-HasCause nothing_put old new = (sent : Sent) (s : servers.State) → Runs sent old → old.server ≡ Some s → GoesOnWaiting (marks_of sent) s new
+HasCause nothing_put old new = (sent : SentRequest) (s : servers.State) → Runs sent old → old.server ≡ Some s → GoesOnWaiting (marks_of sent) s new
 HasCause (broken_late fault) old new =
-    (sent : Sent) × WasAnswered sent old × ((s : servers.State) → old.server ≡ Some s → GoesOnWaiting (marks_of sent) s new)
-HasCause (passed_on is_head a) old new = (sent : Sent) × IsUnanswered sent old × (sent.is_head ≡ is_head) × HasAnswer sent a old.server new
-HasCause (piece_on bytes) old new = (sent : Sent) × WasAnswered sent old × HasBytes (marks_of sent) bytes old.server new
-HasCause end_on old new = (sent : Sent) × WasAnswered sent old × HasEnd sent old.server new
-HasCause cut_off old new = (sent : Sent) × WasAnswered sent old × LacksEnd old.server × IsDropped new
-HasCause told_closed old new = IsIdle old × ((trace : List Step) → Stands old.client trace → is_closing old ≡ true)
-HasCause no_answer old new = (sent : Sent) × IsUnanswered sent old × LacksAnswer old.server × IsDropped new
-HasCause not_forwardable old new = IsIdle old × (c : State) × HandsHead (λ h. is_forwardable h ≡ false) old.client c × IsDropped new
-HasCause (broken_body fault) old new = (sent : Sent) × IsUnanswered sent old × AwaitsAnswer old.server × IsDropped new
+    (sent : SentRequest) × WasAnswered sent old × ((s : servers.State) → old.server ≡ Some s → GoesOnWaiting (marks_of sent) s new)
+HasCause (passed_on is_head a) old new = (sent : SentRequest) × IsUnanswered sent old × (sent.is_head ≡ is_head) × HasAnswer sent a old.server new
+HasCause (piece_on bytes) old new = (sent : SentRequest) × WasAnswered sent old × HasBytes (marks_of sent) bytes old.server new
+HasCause end_on old new = (sent : SentRequest) × WasAnswered sent old × HasEnd sent old.server new
+HasCause cut_off old new = (sent : SentRequest) × WasAnswered sent old × LacksEnd old.server × IsDropped new
+HasCause told_closed old new = HoldsNoRequest old × ((trace : List Step) → Stands old.client trace → is_closing old ≡ true)
+HasCause no_answer old new = (sent : SentRequest) × IsUnanswered sent old × LacksAnswer old.server × IsDropped new
+HasCause not_forwardable old new = HoldsNoRequest old × (c : State) × HandsHead (λ h. is_forwardable h ≡ false) old.client c × IsDropped new
+HasCause (broken_body fault) old new = (sent : SentRequest) × IsUnanswered sent old × AwaitsAnswer old.server × IsDropped new
 
 -- a turn puts one part of a reply at most, for its cause
 abbrev pub TurnReplies : Proxy → Proxy → Type 0
@@ -204,7 +204,7 @@ KeepsServer old new =
 
 -- a turn that begins while no request is under way sends none on, and keeps the server connection
 abbrev pub KeepsIdle : Proxy → Proxy → Type 0
-KeepsIdle old new = IsIdle old → (new.sent ≡ None) × KeepsServer old new
+KeepsIdle old new = HoldsNoRequest old → (new.sent ≡ None) × KeepsServer old new
 
 -- A turn. What is kept after it is what is left of all that happened; it begins where it may, and a request that waits is sent on where it can be.
 pub record IsTurn (old new : Proxy) : Type 0 where
@@ -266,7 +266,7 @@ pub record Replies (by : event.ProxyEvent) (outcome : event.ProxyOutcome) (old n
 pub record RepliesRefused (old new : Proxy) : Type 0 where
   pub mid : Proxy
   pub goes : GoesBy event.refused event.done old mid
-  pub idle : IsIdle mid
+  pub idle : HoldsNoRequest mid
   pub server : mid.server ≡ old.server
   pub puts : PutsLast [] (own 502) old.client mid.client
   pub turns : HasReplied mid new
@@ -306,29 +306,29 @@ Fails true client q = MayPut breaks_off client q.client × IsDropped q
 Fails false client q = PutsLast [] (own 502) client q.client × IsDropped q
 
 -- the request's body broke: where its answer was passed on, that goes on
-abbrev pub Breaks : Bool → Sent → servers.State → State → Proxy → Type 0
+abbrev pub Breaks : Bool → SentRequest → servers.State → State → Proxy → Type 0
 Breaks true sent server client q = Puts [] client q.client × GoesOnWaiting (marks_of sent) server q
 Breaks false sent server client q = PutsLast [] (own 400) client q.client × IsDropped q
 
 -- more of its body was sent on, or none; or it broke
-abbrev pub PassesBody : Sent → servers.State → State → Proxy → Type 0
+abbrev pub PassesBody : SentRequest → servers.State → State → Proxy → Type 0
 PassesBody sent server client q =
     (Puts [] client q.client × GoesOnWaiting (marks_of sent) server q)
     ⊎ ((fault : on.BodyFault) × (c : State) × Puts (request_breaks fault ∷ []) client c × Breaks sent.is_answered sent server c q)
 
 -- this answer's head is passed on
-abbrev pub PassesHead : Sent → servers.State → ResponseItem → State → Proxy → Type 0
+abbrev pub PassesHead : SentRequest → servers.State → ResponseItem → State → Proxy → Type 0
 PassesHead sent server item client q =
     (a : Answer) → IsRead a → SaysAnswer item a → PutsHead (is_at_once (reply_size sent.is_head a)) (passed sent.is_head a) client q.client × FollowsHead sent a server q
 
 -- the answer is refused, passed over as an interim one, or passed on
-abbrev pub UsesAnswer : Sent → servers.State → Answer → Proxy → Proxy → Type 0
+abbrev pub UsesAnswer : SentRequest → servers.State → Answer → Proxy → Proxy → Type 0
 UsesAnswer sent server a p q =
     ((is_refused a ≡ true) × PutsLast [] (own 502) p.client q.client × IsDropped q)
     ⊎ (((is_refused a ≡ false) × (is_interim a.status ≡ true) × Puts [] p.client q.client × GoesOnWaiting (marks_of sent) server q)
     ⊎ ((is_good a ≡ true) × PutsHead (is_at_once (reply_size sent.is_head a)) (passed sent.is_head a) p.client q.client × FollowsHead sent a server q))
 
-abbrev pub TakesAnswer : Sent → servers.State → ResponseItem → Proxy → Proxy → Type 0
+abbrev pub TakesAnswer : SentRequest → servers.State → ResponseItem → Proxy → Proxy → Type 0
 TakesAnswer sent server item p q =
     sent.is_answered ≡ false → (a : Answer) → IsRead a → SaysAnswer item a → UsesAnswer sent server a p q
 

@@ -13,7 +13,7 @@ use Rattle.proxy.specs.Leaves.{LacksHead, LacksMore, IsAwaited, LacksBytes}
 use Rattle.proxy.specs.declared.proxy.Proxy.{Proxy}
 use Rattle.proxy.specs.declared.notes.Notes.{Notes}
 use Rattle.proxy.specs.declared.proxy.Unsent.{Unsent}
-use Rattle.proxy.specs.declared.proxy.Sent.{Sent}
+use Rattle.proxy.specs.declared.proxy.SentRequest.{SentRequest}
 use Rattle.model_proxy.specs.Past.{ProxyStep}
 use Rattle.model_proxy.specs.Happenings.{Happenings}
 use Rattle.proxy.specs.Kept.{is_closing, server_text, Forwards}
@@ -21,7 +21,7 @@ use Rattle.proxy.specs.Kept.{is_closing, server_text, Forwards}
 -- ---- nothing is left
 
 -- where a request is under way its answer may come; else no request is begun while 32768 bytes wait towards the server
-abbrev pub may_begin : Option Sent → Option servers.State → Bool
+abbrev pub may_begin : Option SentRequest → Option servers.State → Bool
 may_begin (Some s) server = true
 may_begin None server = nat_lt (length (server_text server)) MAX_WAITING
 
@@ -48,12 +48,12 @@ IsHeldUp p = (MAX_WAITING ≤ length p.client.kept.buffered) ⊎ (IsFull p.serve
 -- has room for more; once it was passed on, nothing of the answer's body is there, where there is room for a piece: no byte and no end, and
 -- the server's input hasn't ended; and nothing of the request's body is, where a piece may be sent and fewer than 32768 bytes wait towards
 -- the server.
-pub record RestsSent (s : Sent) (client : State) (server : servers.State) : Type 0 where
+pub record RestsSent (s : SentRequest) (client : State) (server : servers.State) : Type 0 where
   pub answer : s.is_answered ≡ false → IsAwaited server
   pub piece : s.is_answered ≡ true → ((bytes : List ℕ) → IsAllowed client (on.chunk bytes)) → LacksBytes server
   pub body : s.is_whole ≡ false → s.is_broken ≡ false → length server.kept.buffered < MAX_WAITING → SendsBody server → LacksMore client
 
-abbrev pub RestsOn : Sent → State → Option servers.State → Type 0
+abbrev pub RestsOn : SentRequest → State → Option servers.State → Type 0
 RestsOn s client None = ⊥
 RestsOn s client (Some server) = RestsSent s client server
 
@@ -68,7 +68,7 @@ pub record RestsIdle (client : State) (server : Option servers.State) : Type 0 w
   pub kept : IsNotToEnd server
 
 -- A request that waits lacks a server connection; where none is under way, none is there to begin.
-abbrev pub RestsBy : Option Unsent → Option Sent → State → Option servers.State → Type 0
+abbrev pub RestsBy : Option Unsent → Option SentRequest → State → Option servers.State → Type 0
 RestsBy (Some u) sent client server = server ≡ None
 RestsBy None (Some s) client server = RestsOn s client server
 RestsBy None None client server = RestsIdle client server
@@ -90,10 +90,10 @@ abbrev pub mark : Bool → ℕ
 mark true = 1
 mark false = 2
 
-abbrev pub sent_left : Sent → ℕ
+abbrev pub sent_left : SentRequest → ℕ
 sent_left s = mark (s.is_whole || s.is_broken)
 
-abbrev pub request_left : Option Unsent → Option Sent → ℕ
+abbrev pub request_left : Option Unsent → Option SentRequest → ℕ
 request_left (Some u) sent = 3
 request_left None (Some s) = sent_left s
 request_left None None = 0
@@ -147,7 +147,7 @@ Turns true old new = Told old → Told new × (work new < work old)
 Turns false old new = Told old → Told new × RestsWhereItMay new
 
 -- More of the request's body was sent on; or none is there, or may be sent, and all else is as before.
-pub record BodyRests (sent : Sent) (server : servers.State) (old new : Proxy) : Type 0 where
+pub record BodyRests (sent : SentRequest) (server : servers.State) (old new : Proxy) : Type 0 where
   pub unsent : new.unsent ≡ None
   pub sent_is : new.sent ≡ Some sent
   pub server_is : new.server ≡ Some server
@@ -155,6 +155,6 @@ pub record BodyRests (sent : Sent) (server : servers.State) (old new : Proxy) : 
   pub body : sent.is_whole ≡ false → sent.is_broken ≡ false → length server.kept.buffered < MAX_WAITING → SendsBody server
       → LacksMore new.client
 
-abbrev pub WorksBody : Sent → servers.State → Bool → Proxy → Proxy → Type 0
+abbrev pub WorksBody : SentRequest → servers.State → Bool → Proxy → Proxy → Type 0
 WorksBody sent server true old new = Works true (record old { server = Some server }) new
 WorksBody sent server false old new = Told (record old { server = Some server }) → Told new × BodyRests sent server old new

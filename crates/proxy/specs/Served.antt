@@ -8,7 +8,7 @@ use Rattle.model_proxy.specs.Happenings.{Request, Happenings}
 use Rattle.proxy.specs.Wants.{IsAnswered, IsComplete, IsWaitedFor, IsAnswering, IsAskedBy, IsTold}
 use Rattle.proxy.specs.declared.proxy.Proxy.{Proxy}
 use Rattle.proxy.specs.declared.proxy.Unsent.{Unsent}
-use Rattle.proxy.specs.declared.proxy.Sent.{Sent}
+use Rattle.proxy.specs.declared.proxy.SentRequest.{SentRequest}
 use Rattle.proxy.specs.Kept.{Forwards}
 
 -- by whether the head of its answer was passed on: then no request waits for one, and an answer is under way; else a request waits, and
@@ -21,7 +21,7 @@ FitsAnswer false client = IsComplete client × IsWaitedFor client
 -- connection, or was sent on and has no answer yet, gets the head of one; then what is missing of that. It is the newest that the client's
 -- connection handed out, and counts as one of HEAD where that does; and its client, if it waited to be told to go on, was told. Where none
 -- is under way, nothing is wanted.
-abbrev pub Fits : Option Unsent → Option Sent → State → Type 0
+abbrev pub Fits : Option Unsent → Option SentRequest → State → Type 0
 Fits (Some u) sent client = FitsAnswer false client × (u.sent.is_answered ≡ false) × IsAskedBy u.sent.is_head client × IsTold client
 Fits None (Some s) client = FitsAnswer s.is_answered client × IsAskedBy s.is_head client × IsTold client
 Fits None None client = IsAnswered client × IsComplete client
@@ -65,12 +65,12 @@ pub record WantsNothing (p : Proxy) : Type 0 where
 -- ---- the request under way
 
 -- the request under way, which waits to be sent on, or was sent on and has no whole reply, is kept as this
-abbrev pub IsKeptAs : Sent → Option Unsent → Option Sent → Type 0
+abbrev pub IsKeptAs : SentRequest → Option Unsent → Option SentRequest → Type 0
 IsKeptAs this (Some u) sent = u.sent ≡ this
 IsKeptAs this None sent = sent ≡ Some this
 
-abbrev pub IsUnderWay : Sent → Proxy → Type 0
-IsUnderWay this p = IsKeptAs this p.unsent p.sent
+abbrev pub IsRequestUnderWay : SentRequest → Proxy → Type 0
+IsRequestUnderWay this p = IsKeptAs this p.unsent p.sent
 
 -- the newest request that the client's connection handed out is there, and whether its method is HEAD is as this says
 abbrev pub IsNewestBy : Bool → List Request → Type 0

@@ -9,11 +9,11 @@ use Rattle.h1_payload.specs.declared.pulled.Pulled.{Pulled}
 use Rattle.h1_payload.specs.declared.pulled.Pulled.TheVariants as pulled
 use Rattle.h1_decoder.specs.HeadItem.{SaysHead}
 use Rattle.h1_decoder.specs.declared.decoder.HeadItem.{HeadItem}
-use Rattle.h1_connection.specs.Meaning.{setting_of}
+use Rattle.h1_connection.specs.EventMeaning.{setting_of}
 use Rattle.h1_connection.specs.State.{State}
 use Rattle.h1_connection.specs.declared.connection.heads.NextHead.{NextHead}
 use Rattle.h1_connection.specs.declared.connection.heads.NextHead.TheVariants as next
-use Rattle.h1_client.specs.Meaning as asking
+use Rattle.h1_client.specs.ClientMeaning as asking
 use Rattle.h1_client.specs.State as servers
 use Rattle.model_client.specs.ClientEvent as asked
 use Rattle.model_client.specs.ClientEvent.{ClientRequest}
@@ -87,8 +87,8 @@ MayAsk true request size old new = ServerDid (asked.ask request size) old new
 MayAsk false request size old new = ServerDidNot (asked.ask request size) old new
 
 -- it was told this moment, or the moment may not come
-abbrev pub IsTold : ℕ → servers.State → servers.State → Type 0
-IsTold moment old new = ServerDid (asked.tick moment) old new ⊎ ServerDidNot (asked.tick moment) old new
+abbrev pub IsToldMoment : ℕ → servers.State → servers.State → Type 0
+IsToldMoment moment old new = ServerDid (asked.tick moment) old new ⊎ ServerDidNot (asked.tick moment) old new
 
 -- a piece of the body that is sent may come, and its end
 pub record SendsBody (s : servers.State) : Type 0 where

@@ -4,7 +4,7 @@ use Rattle.model_h1.specs.Request.{Head}
 use Rattle.model_h1.specs.Answer.{asked_of, BodySize, is_at_once}
 use Rattle.model_h1.specs.Sums.{Step}
 use Rattle.h1_decoder.specs.HeadItem.{SaysHead}
-use Rattle.h1_connection.specs.Meaning.{setting_of}
+use Rattle.h1_connection.specs.EventMeaning.{setting_of}
 use Rattle.h1_decoder.specs.declared.decoder.HeadItem.{HeadItem}
 use Rattle.h1_connection.specs.State.{State, Stands}
 use Rattle.h1_connection.specs.declared.connection.heads.NextHead.{NextHead}

@@ -17,8 +17,8 @@ ghost use Rattle.proxy.specs.declared.proxy.Proxy.{Proxy};
 ghost use Rattle.proxy.specs.Kept.{client_of, server_of, wants_server, client_takes, Forwards};
 ghost use Rattle.proxy.specs.Fresh.{IsReadFrom};
 ghost use Rattle.proxy.specs.Rests.{may_turn, IsHeldUp, RestsWhereItMay};
-ghost use Rattle.proxy.specs.Served.{IsServed, IsUnderWay, IsNewestBy};
-ghost use Rattle.proxy.specs.declared.proxy.Sent.{Sent};
+ghost use Rattle.proxy.specs.Served.{IsServed, IsRequestUnderWay, IsNewestBy};
+ghost use Rattle.proxy.specs.declared.proxy.SentRequest.{SentRequest};
 ghost use Rattle.proxy.specs.Replies.{WasAnswered, marks_of, HasReplied, IsCarried};
 
 /// Of what came from either side, and wasn't passed on yet, no more is held than may be: the hold size of the config. So no peer
@@ -62,12 +62,12 @@ pub fn no_client_waits_to_be_told()
 /// A request counts as one of HEAD where its method is HEAD, and nowhere else. What is kept of the one under way, that it is one of HEAD or
 /// isn't, is so of the newest head that the client's connection handed out, also once that is over.
 pub fn a_request_counts_by_its_method()
-    ensures { (p : Proxy) (history : List ProxyStep) (all : Happenings) (sent : Sent) → Forwards p history all → IsServed p → IsUnderWay sent p
+    ensures { (p : Proxy) (history : List ProxyStep) (all : Happenings) (sent : SentRequest) → Forwards p history all → IsServed p → IsRequestUnderWay sent p
         → IsNewestBy sent.is_head all.requests }
 {}
 
 /// No answer is read from bytes that came before its request was sent. A request is sent on only where all that came before on its server
-/// connection was read (`IsSentOn`): and any answer that is handed out after that is read from bytes that were taken after it.
+/// connection was read (`IsSentUpstream`): and any answer that is handed out after that is read from bytes that were taken after it.
 pub fn no_answer_comes_before_its_request()
     ensures { (setting : Setting) (before more : List Happened) (k m next : ClientKept) (a : Answer) → IsClientTrace setting before k
         → k.unread ≡ [] → IsClientTrace setting (more ++ before) m → IsClientStep setting m asked.next (asked.answer a) next
@@ -78,6 +78,6 @@ pub fn no_answer_comes_before_its_request()
 /// connection hands out of that answer's body, in order, and no other part; up to where its end was handed out, and the reply ends, or a fault
 /// was, and the reply is cut.
 pub fn a_reply_is_its_answer()
-    ensures { (old new : Proxy) (sent : Sent) (s : servers.State) → HasReplied old new → WasAnswered sent old → server_of old ≡ Some s
+    ensures { (old new : Proxy) (sent : SentRequest) (s : servers.State) → HasReplied old new → WasAnswered sent old → server_of old ≡ Some s
         → IsCarried (marks_of sent) s old new }
 {}

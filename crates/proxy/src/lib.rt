@@ -2,7 +2,7 @@
 //! 2.3). For a program that owns the sockets and the clock, tells the forwarder what came from either side, and writes what
 //! it puts out towards either.
 //!
-//! - [`Proxy`] is the forwarder. [`Reply`] tells what was replied, for a log.
+//! - [`Proxy`] is the forwarder. [`BegunReply`] tells what was replied, for a log.
 //! - [`client`] and [`server`] are the calls of its two connections, each made only where it is allowed.
 //! - [`laws`]: what the contracts come to over many events.
 //!
@@ -23,14 +23,14 @@
 //! connection is driven only by events that it allows.
 #![tactic(auto)]
 
-pub mod client;
+pub mod downstream;
 mod events;
+mod forwarding;
 pub mod laws;
 mod notes;
 mod proxy;
-pub mod server;
-mod turns;
+pub mod upstream;
 
 pub use h1_connection::{Bytes, End, Expiry, NoMemory, RequestHead, ServiceConfig, StatusCode};
-pub use notes::Reply;
+pub use notes::BegunReply;
 pub use proxy::Proxy;

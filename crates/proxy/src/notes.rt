@@ -12,7 +12,7 @@ use std::mem;
 
 /// A reply that was begun.
 #[derive(Drop)]
-pub struct Reply {
+pub struct BegunReply {
     /// The head of its request, as it was sent on or would have been. There is none where no head could be read.
     pub request: Option<RequestHead>,
     pub status: StatusCode,
@@ -26,7 +26,7 @@ pub(crate) struct Notes {
 
     /// The request whose reply has not begun.
     request: Option<RequestHead>,
-    replies: Vec<Reply>,
+    replies: Vec<BegunReply>,
 }
 
 impl Notes {
@@ -51,11 +51,11 @@ impl Notes {
             return Ok(());
         }
         let request = self.request.take();
-        self.replies.push(Reply { request, status })?;
+        self.replies.push(BegunReply { request, status })?;
         Ok(())
     }
 
-    fn take(&mut self) -> Vec<Reply> {
+    fn take(&mut self) -> Vec<BegunReply> {
         if self.replies.is_empty() {
             return Vec::new(self.alloc);
         }
@@ -73,7 +73,7 @@ impl Proxy {
     }
 
     /// The replies that were begun since they were last taken, in order.
-    pub fn take_replies(&mut self) -> Vec<Reply>
+    pub fn take_replies(&mut self) -> Vec<BegunReply>
         ensures goes { Goes self.old self.new }
         ensures noted { IsNoted self.old self.new }
     {

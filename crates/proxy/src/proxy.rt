@@ -6,7 +6,7 @@ ghost use Rattle.model_h1.specs.Answer.{asked_of};
 ghost use Rattle.h1_decoder.specs.HeadItem.{SaysHead};
 ghost use Rattle.model_proxy.specs.Forward.{is_forwardable};
 ghost use Rattle.model_client.specs.ClientEvent as asked;
-ghost use Rattle.h1_connection.specs.Meaning.{setting_of, end_of};
+ghost use Rattle.h1_connection.specs.EventMeaning.{setting_of, end_of};
 ghost use Rattle.h1_connection.specs.State.{fresh_state};
 ghost use Rattle.model_state.specs.Deadline.{deadline_by};
 ghost use Rattle.model_state.specs.Local.{closing_by};
@@ -41,7 +41,7 @@ pub struct Proxy {
     pub(crate) unsent: Option<Unsent>,
 
     /// The request that was sent, until its reply is complete.
-    pub(crate) sent: Option<Sent>,
+    pub(crate) sent: Option<SentRequest>,
 
     /// The last moment that was told.
     pub(crate) moment: Option<u64>,
@@ -55,12 +55,12 @@ pub struct Proxy {
 pub(crate) struct Unsent {
     pub(crate) head: RequestHead,
     pub(crate) size: BodySize,
-    pub(crate) sent: Sent,
+    pub(crate) sent: SentRequest,
 }
 
 /// What is kept of a request that was sent on.
 #[derive(Clone, Copy)]
-pub(crate) struct Sent {
+pub(crate) struct SentRequest {
     /// Its method is HEAD.
     pub(crate) is_head: bool,
 
@@ -83,7 +83,7 @@ impl Unsent {
         ensures unanswered { result.sent.is_answered ≡ false }
         ensures asked { (h : Head) → SaysHead item h → result.sent.is_head ≡ (asked_of h).is_head }
     {
-        let sent = Sent {
+        let sent = SentRequest {
             is_head: item.is_head(),
             is_whole: !item.has_body(),
             is_broken: false,

@@ -14,7 +14,7 @@ use Rattle.model_proxy.specs.HopNames.{words_in, connection_words, standing_hops
 use Rattle.model_proxy.specs.Forward.{left_out, forwarded_lines}
 use Rattle.model_proxy.specs.Answers.{reply_lines}
 use Rattle.proxy_heads.specs.Words.{word_of, listed_words}
-use Rattle.proxy_heads.specs.Meaning.{other_hops, length_name, passed_lines}
+use Rattle.proxy_heads.specs.ForwardedMeaning.{other_hops, length_name, passed_lines}
 use Rattle.proxy_heads.proofs.MapLemmas.{map_values, by_name-without}
 
 -- names may be left out one part after the other

@@ -27,7 +27,7 @@ use Rattle.h1_decoder.specs.ResponseItem.{SaysAnswer}
 use Rattle.model_ends.proofs.ValuesByName.{by_name_values}
 use Rattle.model_proxy.specs.HopNames.{connection_words, is_among}
 use Rattle.model_proxy.specs.Answers.{Found, found_by, found_bad, found_body, says_close, reply_reason, reply_lines, reply_head, reply_size, head_size, open_size}
-use Rattle.proxy_heads.specs.Meaning.{is_line_end, kept_reason, found_as, use_by, use_of, is_close_type, stated_or, other_size, length_or, passed_lines}
+use Rattle.proxy_heads.specs.ForwardedMeaning.{is_line_end, kept_reason, found_as, use_by, use_of, is_close_type, stated_or, other_size, length_or, passed_lines}
 use Rattle.proxy_heads.proofs.MapLemmas.{map_lines, map_values}
 use Rattle.proxy_heads.proofs.LeftOut.{passed_by_name, same_words}
 

@@ -27,7 +27,7 @@ use Rattle.h1_decoder.specs.HeadItem.{SaysHead}
 use Rattle.h1_encoder.specs.RequestMeaning.{asked_head, asked_minor, target_of}
 use Rattle.model_proxy.specs.Forward.{is_forwardable, forwarded_lines, forwarded_head, forwarded_size, Sent, forwarded}
 use Rattle.model_proxy.proofs.Paths.{slashed, no_parts, cut_cons}
-use Rattle.proxy_heads.specs.Meaning.{by_names}
+use Rattle.proxy_heads.specs.ForwardedMeaning.{by_names}
 use Rattle.proxy_heads.proofs.MapLemmas.{map_lines}
 use Rattle.proxy_heads.proofs.LeftOut.{forwarded_by_name}
 

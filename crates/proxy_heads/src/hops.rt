@@ -6,7 +6,7 @@ ghost use Rattle.h1_encoder.specs.Meaning.{headers_of};
 ghost use Rattle.model_proxy.specs.HopNames.{words_in, hop_names, without};
 ghost use Rattle.model_proxy.specs.Forward.{forwarded_lines};
 ghost use Rattle.proxy_heads.specs.Words.{listed_words};
-ghost use Rattle.proxy_heads.specs.Meaning.{other_hops, passed_lines};
+ghost use Rattle.proxy_heads.specs.ForwardedMeaning.{other_hops, passed_lines};
 
 use crate::words::{split_at_comma, trimmed};
 use http_map::{AsHeaderName, CONNECTION, HeaderMap, Removed};

@@ -19,12 +19,12 @@
 //! only error, and `reply_head` alone has it.
 #![tactic(auto)]
 
+mod forwarded_request;
 mod hops;
 mod refusal;
 mod replies;
-mod requests;
 mod words;
 
+pub use forwarded_request::{forwarded_head, forwarded_size, is_forwardable};
 pub use refusal::Refusal;
 pub use replies::{AnswerUse, answer_use, reply_head, reply_size, says_close};
-pub use requests::{forwarded_head, forwarded_size, is_forwardable};

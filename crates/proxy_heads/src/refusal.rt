@@ -2,7 +2,7 @@
 ghost use Rattle.std.specs.Prelude.{◌≡◌};
 ghost use Rattle.h1_encoder.specs.Meaning.{answer_of};
 ghost use Rattle.model_proxy.specs.Answers.{own_head};
-ghost use Rattle.proxy_heads.specs.Meaning.{status_of};
+ghost use Rattle.proxy_heads.specs.ForwardedMeaning.{status_of};
 
 use http_types::{ResponseHead, StatusCode};
 use std::alloc::Global;

@@ -11,7 +11,7 @@ ghost use Rattle.h1_encoder.specs.Meaning.{answer_of, headers_of, size_of};
 ghost use Rattle.h1_decoder.specs.ResponseItem.{SaysAnswer};
 ghost use Rattle.model_proxy.specs.HopNames.{connection_words, is_among};
 ghost use Rattle.model_proxy.specs.Answers.{Found, found_by, says_close, reply_head, reply_size, open_size};
-ghost use Rattle.proxy_heads.specs.Meaning.{is_line_end, kept_reason, found_as, use_of, is_close_type, stated_or, other_size, length_or, empty_size};
+ghost use Rattle.proxy_heads.specs.ForwardedMeaning.{is_line_end, kept_reason, found_as, use_of, is_close_type, stated_or, other_size, length_or, empty_size};
 
 use crate::hops::remove_unpassed;
 use crate::words::{lists, trimmed};

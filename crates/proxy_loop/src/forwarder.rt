@@ -7,7 +7,7 @@ ghost use Rattle.model_proxy.specs.Past as event;
 ghost use Rattle.proxy.specs.Kept.{Goes, GoesBy, client_of, server_of, server_text, client_takes, client_room, server_room, server_allows, wants_server};
 ghost use Rattle.proxy_loop.specs.History.{EndsServer, Connects, Refuses, Ticks};
 
-use proxy::{Expiry, NoMemory, Proxy, Reply, ServiceConfig};
+use proxy::{BegunReply, Expiry, NoMemory, Proxy, ServiceConfig};
 use std::alloc::Global;
 use std::marker::Model;
 
@@ -60,7 +60,7 @@ impl Forwarder {
     }
 
     /// The replies that were begun since they were last taken, in order.
-    pub fn take_replies(&mut self) -> Vec<Reply>
+    pub fn take_replies(&mut self) -> Vec<BegunReply>
         ensures { Goes self.old self.new }
     {
         self.proxy.take_replies()

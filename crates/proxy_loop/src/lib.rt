@@ -26,4 +26,4 @@ mod forwarder;
 
 pub use flow::{TakenIn, take_in_client, take_in_server, write_client, write_server};
 pub use forwarder::Forwarder;
-pub use proxy::{End, Expiry, NoMemory, Proxy, Reply, RequestHead, ServiceConfig, StatusCode};
+pub use proxy::{BegunReply, End, Expiry, NoMemory, Proxy, RequestHead, ServiceConfig, StatusCode};

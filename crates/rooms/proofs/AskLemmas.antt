@@ -5,7 +5,7 @@ use Rattle.model_h1.specs.Frame.{Message}
 use Rattle.model_h1.specs.Frame as frames
 use Rattle.model_h1.specs.Event as on
 use Rattle.model_state.specs.Local.{allowed_by}
-use Rattle.h1_connection.specs.Meaning.{setting_of, event_of}
+use Rattle.h1_connection.specs.EventMeaning.{setting_of, event_of}
 use Rattle.h1_connection.specs.declared.event.Event.{Event}
 use Rattle.h1_connection.specs.declared.event.Event.TheVariants as event
 use Rattle.rooms.specs.Seat.{SeatState}

@@ -7,7 +7,7 @@ use Rattle.http_config.specs.Config.{Settings}
 use Rattle.model_h1.specs.Event as on
 use Rattle.model_h1.specs.Frame.{Message}
 use Rattle.model_state.specs.Local.{allowed_by}
-use Rattle.h1_connection.specs.Meaning.{setting_of, event_of}
+use Rattle.h1_connection.specs.EventMeaning.{setting_of, event_of}
 use Rattle.h1_connection.specs.State.{State}
 use Rattle.h1_connection.specs.declared.connection.frames.Sent.{Sent}
 use Rattle.h1_connection.specs.declared.event.Event.{Event}
@@ -18,7 +18,7 @@ use Rattle.model_rooms.specs.Seen.{Seen}
 use Rattle.model_rooms.specs.Trace.{is_fed, core_trace}
 use Rattle.rooms.specs.Seat.{SeatState}
 use Rattle.rooms.specs.Turn.{first_message, asked_by, IsAsked, sending}
-use Rattle.rooms.specs.declared.seat.Turn.{Turn as SeatTurn}
+use Rattle.rooms.specs.declared.seat.HubTurn.{HubTurn as SeatTurn}
 use Rattle.rooms.specs.Hub.{HubState, HubStands, HubGoesOn, HubRefuses, HubTurns, HubSends, IsRefused, RefusesAtOnce, SaysCore, SaysHubOutcome}
 use Rattle.rooms.specs.Moves.{Takes, SendsNone, Sends}
 use Rattle.rooms.specs.declared.event.HubOutcome.TheVariants.{Core}

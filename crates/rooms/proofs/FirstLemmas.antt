@@ -15,7 +15,7 @@ use Rattle.model_h1.specs.Trace as traces
 use Rattle.model_h1.proofs.PastLemmas.{past_of_unique}
 use Rattle.model_state.specs.Local.{allowed_by}
 use Rattle.model_state.proofs.Stands.{allowed_of_trace}
-use Rattle.h1_connection.specs.Meaning.{setting_of}
+use Rattle.h1_connection.specs.EventMeaning.{setting_of}
 use Rattle.model_rooms.specs.Hub.{HubEvent as Happens, opens, feeds, turns, HubOutcome as Answers, opened, core, HubStep}
 use Rattle.model_rooms.specs.Seen.{Seen, steps_of}
 use Rattle.model_rooms.specs.Trace.{is_fed, core_trace, GoesOn, IsHubStep, IsHubTrace}

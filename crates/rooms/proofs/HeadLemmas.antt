@@ -16,7 +16,7 @@ use Rattle.model_h1.specs.Sums.{Step, head_of}
 use Rattle.model_h1.specs.Past.{ParsedStep}
 use Rattle.model_h1.specs.Trace.{IsOutcome}
 use Rattle.model_h1.specs.OutcomeTable.{gave_trailers, ended_outcome, stop_outcome, run_outcome, frame_outcome, body_outcome, pull_outcome, is_abandoned, is_slow, tick_outcome, send_outcome, outcome_of}
-use Rattle.h1_connection.specs.Meaning.{setting_of, event_of, SaysOutcome}
+use Rattle.h1_connection.specs.EventMeaning.{setting_of, event_of, SaysOutcome}
 use Rattle.h1_connection.specs.State.{State, GoesOn, Stands}
 use Rattle.h1_connection.specs.declared.event.Event.{Event}
 use Rattle.h1_connection.specs.declared.event.Outcome.{Outcome}

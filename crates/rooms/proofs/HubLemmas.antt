@@ -14,7 +14,7 @@ use Rattle.model_h1.specs.Sums.{Step, request}
 use Rattle.model_h1.specs.Trace as traces
 use Rattle.model_state.specs.Local.{allowed_by}
 use Rattle.model_state.proofs.Stands.{allowed_of_trace, misplaced_of_trace}
-use Rattle.h1_connection.specs.Meaning.{setting_of, event_of, SaysOutcome}
+use Rattle.h1_connection.specs.EventMeaning.{setting_of, event_of, SaysOutcome}
 use Rattle.h1_connection.specs.State.{IsAllowed}
 use Rattle.h1_connection.specs.declared.event.Event.{Event}
 use Rattle.h1_connection.specs.declared.event.Outcome.{Outcome}
@@ -26,7 +26,7 @@ use Rattle.model_rooms.proofs.RowLemmas.{length-members}
 use Rattle.model_rooms.proofs.StepViews.{view_of, core_opening, core_other}
 use Rattle.rooms.specs.Seat.{SeatState, SeatStands, SeatGoesOn, fresh_seat, GoesOnAfter as SeatGoes}
 use Rattle.rooms.specs.Turn.{first_message, IsSeatOf}
-use Rattle.rooms.specs.declared.seat.Turn.{Turn as SeatTurn}
+use Rattle.rooms.specs.declared.seat.HubTurn.{HubTurn as SeatTurn}
 use Rattle.rooms.proofs.KeptLemmas.{fresh_seat_stands, closes_traced}
 use Rattle.rooms.specs.Hub.{HubState, HubStands, GoesOnAfter, HubGoesOn, HubRefuses, SaysCore}
 use Rattle.rooms.specs.Moves.{closes_by, moved, followed, Takes}

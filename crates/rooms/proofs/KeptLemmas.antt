@@ -13,7 +13,7 @@ use Rattle.model_state.proofs.Stands.{fresh_stands}
 use Rattle.h1_encoder.specs.Meaning.{answer_of}
 use Rattle.h1_connection.proofs.GoesOnLemmas.{closing_traced}
 use Rattle.h1_payload.specs.Rests.{fault_of as body_fault_of}
-use Rattle.h1_connection.specs.Meaning.{setting_of, event_of, end_of, fault_of, failing_of, SaysOutcome}
+use Rattle.h1_connection.specs.EventMeaning.{setting_of, event_of, end_of, fault_of, failing_of, SaysOutcome}
 use Rattle.h1_connection.specs.State.{State, fresh_state, GoesOn}
 use Rattle.h1_connection.specs.declared.event.End.{End}
 use Rattle.h1_connection.specs.declared.event.Event.{Event}

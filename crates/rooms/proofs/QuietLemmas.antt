@@ -4,7 +4,7 @@ use Rattle.model_h1.specs.Frame.{Frame}
 use Rattle.model_h1.specs.Frame as frames
 use Rattle.model_h1.specs.Event as on
 use Rattle.model_rooms.specs.Member.{Member, Effect, says, keeps, answers, leaves_with, nothing, invalid_close, size_close, said, kept, going_on, effect_in, member_at}
-use Rattle.rooms.specs.Lines.{said_of}
+use Rattle.rooms.specs.QueuedFrames.{said_of}
 use Rattle.rooms.proofs.RowLists.{element}
 
 -- one of two effects that there are

@@ -6,7 +6,7 @@ use Rattle.model_h1.specs.Request.{Head}
 use Rattle.model_h1.specs.Frame.{Frame, Message}
 use Rattle.model_h1.specs.Event as on
 use Rattle.h1_payload.specs.Rests.{fault_of as body_fault_of}
-use Rattle.h1_connection.specs.Meaning.{event_of, end_of, fault_of, failing_of, SaysOutcome}
+use Rattle.h1_connection.specs.EventMeaning.{event_of, end_of, fault_of, failing_of, SaysOutcome}
 use Rattle.h1_connection.specs.declared.event.Event.{Event}
 use Rattle.h1_connection.specs.declared.event.Event.TheVariants as event
 use Rattle.h1_connection.specs.declared.event.Outcome.{Outcome}

@@ -6,7 +6,7 @@ use Rattle.std.proofs.lemmas.Bool.{cases_Bool, eqb-true, eqb-false, eq-eqb, ne_e
 use Rattle.model_h1.specs.Frame.{Frame}
 use Rattle.model_h1.specs.Event as on
 use Rattle.model_rooms.specs.Member.{Member, newcomer, Effect, says, keeps, answers, leaves_with, nothing, MAX_WAITING, effect_in, put, heard, with_effect, member_at, rows_from}
-use Rattle.rooms.specs.Lines.{said_of}
+use Rattle.rooms.specs.QueuedFrames.{said_of}
 use Rattle.model_rooms.proofs.RowLemmas.{rows_in, length-rows_from}
 use Rattle.rooms.specs.Rows.{only, others_hear, spoken}
 

@@ -9,7 +9,7 @@ use Rattle.model_h1.specs.Sums.{written}
 use Rattle.model_h1.specs.Text.{text}
 use Rattle.model_h1.proofs.WrittenLemmas.{written_buffered}
 use Rattle.h1_connection.proofs.GoesOnLemmas.{buffered_traced}
-use Rattle.h1_connection.specs.Meaning.{setting_of}
+use Rattle.h1_connection.specs.EventMeaning.{setting_of}
 use Rattle.model_rooms.specs.Hub as model
 use Rattle.model_rooms.specs.Seen.{Seen, steps_of, members_of}
 use Rattle.model_rooms.specs.Trace.{core_trace, IsHubTrace}

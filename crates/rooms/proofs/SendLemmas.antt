@@ -8,7 +8,7 @@ use Rattle.model_h1.specs.Frame.{Message}
 use Rattle.model_h1.specs.Event as on
 use Rattle.model_state.specs.Kept.{Exchange, Kept, is_frames, is_upgraded, is_open, of_exchange}
 use Rattle.model_state.specs.Local.{closing_by, has_room, waits_for_answer, allowed_by}
-use Rattle.h1_connection.specs.Meaning.{setting_of, SaysOutcome}
+use Rattle.h1_connection.specs.EventMeaning.{setting_of, SaysOutcome}
 use Rattle.h1_connection.specs.State.{State, GoesOn}
 use Rattle.h1_connection.specs.Frames.{SaysSent}
 use Rattle.h1_connection.specs.declared.connection.frames.Sent.{Sent}

@@ -13,7 +13,7 @@ use Rattle.model_h1.specs.Past.{ParsedStep, steps}
 use Rattle.model_h1.specs.Closing.{closing}
 use Rattle.model_h1.specs.Allowed.{asks_raw, is_over, is_allowed}
 use Rattle.model_h1.specs.Trace as traces
-use Rattle.h1_connection.specs.Meaning.{setting_of}
+use Rattle.h1_connection.specs.EventMeaning.{setting_of}
 use Rattle.model_rooms.specs.Room.{room_of}
 use Rattle.model_rooms.specs.Hub.{HubEvent, core, move_by, counted, open_count, core_of}
 use Rattle.model_rooms.specs.Member.{Member, with_opened, row_behind, member_at, rows_from}

@@ -17,7 +17,7 @@ use Rattle.model_state.specs.Kept.{Kept}
 use Rattle.model_state.specs.Local.{allowed_by}
 use Rattle.model_state.specs.StandsFor.{StandsFor}
 use Rattle.model_state.proofs.Stands.{allowed_stands, allowed_of_trace}
-use Rattle.h1_connection.specs.Meaning.{setting_of, event_of, SaysOutcome}
+use Rattle.h1_connection.specs.EventMeaning.{setting_of, event_of, SaysOutcome}
 use Rattle.h1_connection.specs.State.{IsAllowed}
 use Rattle.h1_connection.specs.declared.event.Event.{Event}
 use Rattle.model_rooms.specs.Seen.{Seen, row_of}
@@ -28,7 +28,7 @@ use Rattle.model_rooms.proofs.TurnLemmas.{each_turn}
 use Rattle.rooms.specs.Seat.{SeatState, SeatStands, IsUsable, SeatGoesOn}
 use Rattle.rooms.proofs.AskLemmas.{none_asked}
 use Rattle.rooms.specs.Turn.{allows, sent_by, may_accept, limit_of, answer_by, asked_by, first_message, IsSeatOf, IsTurnOf, TurnsBy, IsAsked}
-use Rattle.rooms.specs.declared.seat.Turn.{Turn}
+use Rattle.rooms.specs.declared.seat.HubTurn.{HubTurn}
 
 -- what is kept allows what the past does
 allows_same : (setting : Setting) (k : Kept) (trace : List Step) (x : StandsFor setting k trace) → allowed_by setting k ≡ is_allowed setting x.past
@@ -79,7 +79,7 @@ pub goes_on : (setting : Setting) (trace : List Step) (event : on.Event) → tra
 goes_on setting trace event a = subst (λ (t : List Step). is_over t ≡ false) a.1.same (not_over setting a.0 event a.2)
 
 -- a turn is that of the rules
-pub turned : (seat after : SeatState) (front : Option Message) (turn : Turn) → MAX_FRAME_HEAD ≤ seat.connection.settings.h1_hold_size
+pub turned : (seat after : SeatState) (front : Option Message) (turn : HubTurn) → MAX_FRAME_HEAD ≤ seat.connection.settings.h1_hold_size
     → IsAsked seat.connection (asked_by seat front) (Some turn.event)
     → SeatGoesOn seat (event_of turn.event) (SaysOutcome turn.outcome) after
     → TurnsBy seat front (Some turn) after

@@ -7,7 +7,7 @@ use Rattle.model_h1.specs.Frame.{Message}
 use Rattle.model_h1.specs.Sums.{Step}
 use Rattle.model_h1.specs.Allowed.{is_over}
 use Rattle.model_h1.specs.Trace as traces
-use Rattle.h1_connection.specs.Meaning.{setting_of, event_of, SaysOutcome}
+use Rattle.h1_connection.specs.EventMeaning.{setting_of, event_of, SaysOutcome}
 use Rattle.h1_connection.specs.declared.connection.frames.Sent.{Sent}
 use Rattle.h1_connection.specs.declared.event.Outcome.{Outcome}
 use Rattle.model_rooms.specs.Hub.{opens, feeds, turns, opened, core, open_count, MAX_CONNECTIONS}
@@ -17,7 +17,7 @@ use Rattle.model_rooms.specs.Seen.{Seen, steps_of, members_of}
 use Rattle.model_rooms.specs.Trace.{is_fed, core_trace, IsHubTrace}
 use Rattle.rooms.specs.Seat.{SeatState, SeatStands}
 use Rattle.rooms.specs.Turn.{sending}
-use Rattle.rooms.specs.declared.seat.Turn.{Turn as SeatTurn}
+use Rattle.rooms.specs.declared.seat.HubTurn.{HubTurn as SeatTurn}
 use Rattle.rooms.specs.Moves.{SendsNone}
 use Rattle.rooms.specs.declared.event.HubEvent.{HubEvent}
 use Rattle.rooms.specs.declared.event.HubEvent.TheVariants.{Open, Feed, Turn}

@@ -1,4 +1,4 @@
-pub mod Lines
+pub mod QueuedFrames
 pub mod Rows
 pub mod Seat
 pub mod Turn

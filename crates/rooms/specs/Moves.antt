@@ -4,7 +4,7 @@ use Rattle.model_state.specs.Local.{closing_by}
 use Rattle.model_h1.specs.Event as on
 use Rattle.model_h1.specs.Frame.{Message}
 use Rattle.model_h1.specs.Frame as frames
-use Rattle.h1_connection.specs.Meaning.{setting_of}
+use Rattle.h1_connection.specs.EventMeaning.{setting_of}
 use Rattle.h1_connection.specs.declared.connection.frames.Sent.{Sent}
 use Rattle.h1_connection.specs.declared.event.Event.{Event}
 use Rattle.h1_connection.specs.declared.event.Event.TheVariants as event
@@ -14,7 +14,7 @@ use Rattle.model_rooms.specs.Member.{Member, with_end, member_at, rows_from}
 use Rattle.rooms.specs.Rows.{only, spoken}
 use Rattle.rooms.specs.Seat.{SeatState}
 use Rattle.rooms.specs.Turn.{first_message, allows, sending, TurnsBy}
-use Rattle.rooms.specs.declared.seat.Turn.{Turn}
+use Rattle.rooms.specs.declared.seat.HubTurn.{HubTurn}
 
 -- it is in this room, where there is one
 abbrev pub in_room : Option (List ℕ) → Member → Member
@@ -47,7 +47,7 @@ abbrev pub followed : Event → Outcome → SeatState → ℕ → List Member �
 followed event outcome seat i ms = ended (closes_by seat) i (moved event outcome seat.room i ms)
 
 -- a turn of this connection, or none
-abbrev pub Takes : SeatState → List Member → ℕ → Option Turn → SeatState → List Member → Type 0
+abbrev pub Takes : SeatState → List Member → ℕ → Option HubTurn → SeatState → List Member → Type 0
 Takes seat ms i None after rows = TurnsBy seat (first_message (member_at i ms).waiting) None after × (rows ≡ ms)
 Takes seat ms i (Some turn) after rows =
     TurnsBy seat (first_message (member_at i ms).waiting) (Some turn) after × (rows ≡ followed turn.event turn.outcome after i ms)

@@ -4,7 +4,7 @@ use Rattle.http_config.specs.Config.{Settings}
 use Rattle.model_h1.specs.Setting.{Setting}
 use Rattle.model_h1.specs.Sums.{written}
 use Rattle.model_h1.specs.Text.{text}
-use Rattle.h1_connection.specs.Meaning.{setting_of}
+use Rattle.h1_connection.specs.EventMeaning.{setting_of}
 use Rattle.model_rooms.specs.Hub as model
 use Rattle.model_rooms.specs.Hub.{open_count}
 use Rattle.model_rooms.specs.Seen.{Seen, steps_of}

@@ -7,7 +7,7 @@ use Rattle.model_h1.specs.Handshake.{HandshakeError}
 use Rattle.model_h1.specs.Event as on
 use Rattle.model_h1.specs.Sums.{Step, request}
 use Rattle.model_h1.specs.Trace.{IsOutcome}
-use Rattle.h1_connection.specs.Meaning.{setting_of, failing_of}
+use Rattle.h1_connection.specs.EventMeaning.{setting_of, failing_of}
 use Rattle.h1_connection.specs.State.{State, fresh_state, Stands}
 use Rattle.h1_connection.specs.declared.event.Event.{Event}
 use Rattle.h1_connection.specs.declared.event.Event.TheVariants as event

@@ -7,7 +7,7 @@ use Rattle.model_h1.specs.Event as on
 use Rattle.model_h1.specs.Allowed.{is_over}
 use Rattle.model_h1.specs.Trace as traces
 use Rattle.model_state.specs.Local.{allowed_by}
-use Rattle.h1_connection.specs.Meaning.{setting_of, event_of, SaysOutcome}
+use Rattle.h1_connection.specs.EventMeaning.{setting_of, event_of, SaysOutcome}
 use Rattle.h1_connection.specs.State.{State, IsAllowed}
 use Rattle.h1_connection.specs.declared.connection.frames.Sent.{Sent}
 use Rattle.h1_connection.specs.declared.connection.frames.Sent.TheVariants as sent
@@ -19,7 +19,7 @@ use Rattle.model_rooms.specs.Seen.{Seen, row_of}
 use Rattle.model_rooms.specs.Trace.{core_trace, IsTurnEvent, IsHubTrace}
 use Rattle.model_rooms.specs.Turn.{accept_limit, answer_head}
 use Rattle.rooms.specs.Seat.{SeatState, SeatStands, SeatGoesOn, GoesOnAfter}
-use Rattle.rooms.specs.declared.seat.Turn.{Turn}
+use Rattle.rooms.specs.declared.seat.HubTurn.{HubTurn}
 
 -- ---- the rules of a turn as questions for a connection
 
@@ -62,7 +62,7 @@ IsAsked state asked (Some event) = (event_of event ≡ asked) × IsAllowed state
 
 -- A turn's event is the one that is asked for, and the seat goes on by it. There is none only where a pull is asked for
 -- and isn't allowed, and then nothing changes.
-abbrev pub AsksBy : SeatState → Option Message → Option Turn → SeatState → Type 0
+abbrev pub AsksBy : SeatState → Option Message → Option HubTurn → SeatState → Type 0
 AsksBy seat front None after = IsAsked seat.connection (asked_by seat front) None × (after ≡ seat)
 AsksBy seat front (Some turn) after =
     IsAsked seat.connection (asked_by seat front) (Some turn.event) × SeatGoesOn seat (event_of turn.event) (SaysOutcome turn.outcome) after
@@ -81,14 +81,14 @@ pub record IsSeatOf (seat : SeatState) (front : Option Message) (seen : List See
   pub waits : first_message (row_of i seen).waiting ≡ front
 
 -- the event is that of the rules, and allowed, and the connection goes on by it
-pub record IsTurnOf (seat : SeatState) (seen : List Seen) (i : ℕ) (turn : Turn) (after : SeatState) : Type 0 where
+pub record IsTurnOf (seat : SeatState) (seen : List Seen) (i : ℕ) (turn : HubTurn) (after : SeatState) : Type 0 where
   pub by_rules : IsTurnEvent (setting_of seat.connection.settings) seen i (event_of turn.event)
   pub allowed : traces.IsAllowed (setting_of seat.connection.settings) (core_trace i seen) (event_of turn.event)
   pub goes : GoesOnAfter seat (core_trace i seen) (event_of turn.event) (SaysOutcome turn.outcome) after
 
 -- A turn is that of the rules, whichever connection of whichever hub the seat is; and there is none only where that
 -- connection is over, and then nothing changes.
-abbrev pub TurnsBy : SeatState → Option Message → Option Turn → SeatState → Type 0
+abbrev pub TurnsBy : SeatState → Option Message → Option HubTurn → SeatState → Type 0
 TurnsBy seat front None after =
     (after ≡ seat) × ((seen : List Seen) (i : ℕ) → IsSeatOf seat front seen i → IsTrue (is_over (core_trace i seen)))
 TurnsBy seat front (Some turn) after = (seen : List Seen) (i : ℕ) → IsSeatOf seat front seen i → IsTurnOf seat seen i turn after
@@ -101,7 +101,7 @@ sent_outcome sent.Done = out.Done
 sent_outcome (sent.Protocol error) = out.Protocol error
 
 -- the turn that sends this message
-abbrev pub sending : Message → Sent → Turn
+abbrev pub sending : Message → Sent → HubTurn
 sending message what = record { event = event.Send message; outcome = sent_outcome what }
 
 -- A turn sends this message, which waits first, and is that of the rules. There is none where nothing may be sent, and then

@@ -2,14 +2,14 @@
 ghost use Rattle.std.specs.Prelude.{◌≡◌, ◌≤◌, ◌^◌, ◌-◌, ◌==◌, [], min, IfOk, IsOk, OnErr, length, map, slice_get, option_map};
 ghost use Rattle.std.specs.Option.{option_copied};
 ghost use Rattle.rooms.specs.Hub.{fresh_hub, hub_event_of, HubStands, HubSteps, RefusesAtOnce, buffered_of, HubOpens, HubFeeds, HubTurns, HubSends};
-ghost use Rattle.h1_connection.specs.Meaning.{event_of};
+ghost use Rattle.h1_connection.specs.EventMeaning.{event_of};
 ghost use Rattle.model_rooms.specs.Hub.{opens, feeds, turns};
 ghost use Rattle.model_rooms.specs.Member.{member_at, byte_count};
 ghost use Rattle.model_rooms.specs.Trace.{is_fed};
 
 use crate::event::{HubEvent, HubOutcome};
 use crate::moves::{follow, send_first, take_turn};
-use crate::{Rooms, Seat, Turn};
+use crate::{HubTurn, Rooms, Seat};
 use bytes::Bytes;
 use h1_connection::{Boxed, Connection, Event, NoMemory, Outcome, Sent, ServiceConfig};
 use std::alloc::Global;
@@ -147,7 +147,7 @@ impl Hub {
 
     /// Gives the connection with this number a turn. There is none, nothing changes, and it takes no memory, where that
     /// connection wasn't opened or is over. A turn of one that closes ends it, so what waits for it is to be written before.
-    pub fn turn(&mut self, number: usize) -> Result<Option<Turn>, NoMemory>
+    pub fn turn(&mut self, number: usize) -> Result<Option<HubTurn>, NoMemory>
         ensures turned { IfOk result (λ turn. HubTurns self.old number turn self.new) }
         ensures no_memory_needed { RefusesAtOnce self.old (turns number) result }
         ensures settings { self.new.settings ≡ self.old.settings }
@@ -213,7 +213,7 @@ impl Hub {
         let Some(turn) = self.turn(number)? else {
             return Ok(None);
         };
-        let Turn { event, outcome } = turn;
+        let HubTurn { event, outcome } = turn;
         let boxed = Boxed::new(self.alloc, outcome)?;
         Ok(Some(HubOutcome::Core(event, boxed)))
     }

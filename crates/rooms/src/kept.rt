@@ -1,6 +1,6 @@
 // What is kept beside a connection of what it answers.
 ghost use Rattle.std.specs.Prelude.{◌≡◌, true, option_map, OnOk, OnErr};
-ghost use Rattle.h1_connection.specs.Meaning.{failing_of};
+ghost use Rattle.h1_connection.specs.EventMeaning.{failing_of};
 ghost use Rattle.rooms.specs.Seat.{refused_by, refusal_after, room_after, gives_head};
 
 use bytes::Bytes;

@@ -6,7 +6,7 @@
 //! - [`Seat`] is one connection of a hub, a [`Connection`] with its turns: it asks for the next request, accepts it as a
 //!   WebSocket or answers it, takes the next frame, or sends the message that waits first.
 //! - [`Rooms`] is the table of members: the room of each, its unfinished message, and the frames that wait for it, each a
-//!   [`Line`]. A frame for many members is kept once.
+//!   [`QueuedFrame`]. A frame for many members is kept once.
 //!
 //! # Contract
 //!
@@ -19,8 +19,8 @@ mod event;
 mod hub;
 mod kept;
 pub mod laws;
-mod line;
 mod moves;
+mod queued_frame;
 mod rooms;
 mod row;
 mod seat;
@@ -31,7 +31,7 @@ pub use h1_connection::{
     Connection, Event, HandshakeError, Outcome, Sent, ServiceConfig, ServiceConfigBuilder,
 };
 pub use hub::{Hub, is_fed};
-pub use line::Line;
+pub use queued_frame::QueuedFrame;
 pub use rooms::Rooms;
-pub use seat::{Seat, Turn};
+pub use seat::{HubTurn, Seat};
 pub use ws_frames::{Frame, Message, NoMemory};

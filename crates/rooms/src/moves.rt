@@ -9,7 +9,7 @@ ghost use Rattle.rooms.specs.Rows.{only};
 ghost use Rattle.rooms.specs.Turn.{first_message, asked_by, IsAsked, sent_outcome};
 ghost use Rattle.rooms.specs.Moves.{in_room, with_done, moved, ended, closes_by, followed, Takes, Sends};
 
-use crate::{Rooms, Seat, Turn};
+use crate::{HubTurn, Rooms, Seat};
 use h1_connection::{Event, Message, NoMemory, Outcome, Sent};
 
 /// A turn of the connection with this number. There is none where it is over.
@@ -17,7 +17,7 @@ pub fn take_turn(
     seat: &mut Seat,
     rooms: &mut Rooms,
     number: usize,
-) -> Result<Option<Turn>, NoMemory>
+) -> Result<Option<HubTurn>, NoMemory>
     requires known { number < length rooms.old }
     ensures taken { IfOk result (λ turn. Takes seat.old rooms.old number turn seat.new rooms.new) }
     ensures no_memory_needed { IsAsked seat.old.connection (asked_by seat.old (first_message (member_at number rooms.old).waiting)) None → IsOk result }

@@ -6,7 +6,7 @@ ghost use Rattle.ws_frames.specs.Codec.{frame_says};
 ghost use Rattle.model_rooms.specs.Member.{newcomer, says, nothing, effect_in, heard, with_end, member_at, rows_from, byte_count};
 ghost use Rattle.rooms.specs.Rows.{only, others_hear, spoken};
 
-use crate::line::Line;
+use crate::queued_frame::QueuedFrame;
 use crate::row::Row;
 use bytes::Bytes;
 use std::alloc::Global;
@@ -77,7 +77,7 @@ impl Rooms {
     }
 
     /// The first frame that waits to be sent to it.
-    pub fn front(&self, number: usize) -> Option<&Line>
+    pub fn front(&self, number: usize) -> Option<&QueuedFrame>
         requires known { number < length self.now }
         ensures { option_copied result ≡ slice_get (member_at number self.now).waiting 0 }
     {
@@ -133,7 +133,7 @@ fn tell(
     rows: &mut Vec<Row>,
     number: usize,
     room: &Option<Bytes>,
-    lines: &[Line],
+    lines: &[QueuedFrame],
 ) -> Result<(), NoMemory>
     ensures told { OnOk result (rows.new.items ≡ rows_from 0 (others_hear number room.now lines.now) rows.old.items) }
     ensures count { length rows.new.items ≡ length rows.old.items }
@@ -147,7 +147,7 @@ fn tell(
 }
 
 // A member hears what is said in a room.
-fn hear(row: &mut Row, room: &Option<Bytes>, lines: &[Line]) -> Result<(), NoMemory>
+fn hear(row: &mut Row, room: &Option<Bytes>, lines: &[QueuedFrame]) -> Result<(), NoMemory>
     ensures { OnOk result (row.new ≡ heard (says lines.now) room.now row.old) }
 {
     if row.is_in_room(room) {

@@ -7,9 +7,9 @@ ghost use Rattle.model_h1.specs.Frame as frames;
 ghost use Rattle.model_h1.specs.Event as on;
 ghost use Rattle.ws_frames.specs.Codec.{item_says, frame_says};
 ghost use Rattle.model_rooms.specs.Member.{nothing, newcomer, is_in, is_same_room, payload, byte_count, is_text, kept, said, effect_of, effect_in, leaving, put, with_effect, with_end};
-ghost use Rattle.rooms.specs.Lines.{said_of};
+ghost use Rattle.rooms.specs.QueuedFrames.{said_of};
 
-use crate::line::Line;
+use crate::queued_frame::QueuedFrame;
 use bytes::Bytes;
 use std::alloc::Global;
 use std::collections::VecDeque;
@@ -31,9 +31,9 @@ pub struct Row {
     alloc: Global,
     room: Option<Bytes>,
     has_left: bool,
-    parts: Vec<Line>,
+    parts: Vec<QueuedFrame>,
     part_bytes: usize,
-    waiting: VecDeque<Line>,
+    waiting: VecDeque<QueuedFrame>,
 }
 
 impl Model for Row {
@@ -106,7 +106,7 @@ impl Row {
     }
 
     // It leaves, with this frame as the last to it.
-    fn leave_with(&mut self, line: Line) -> Result<(), NoMemory>
+    fn leave_with(&mut self, line: QueuedFrame) -> Result<(), NoMemory>
         ensures { OnOk result (self.new ≡ leaving line self.old) }
     {
         self.has_left = true;
@@ -117,18 +117,18 @@ impl Row {
     }
 
     // These frames wait for it. Where there is no room for all of them, none is added, and it leaves.
-    pub fn put(&mut self, lines: &[Line]) -> Result<(), NoMemory>
+    pub fn put(&mut self, lines: &[QueuedFrame]) -> Result<(), NoMemory>
         ensures { OnOk result (self.new ≡ put lines.now self.old) }
     {
         if lines.len() <= MAX_WAITING && self.waiting.len() <= MAX_WAITING - lines.len() {
             return add(&mut self.waiting, lines);
         }
-        let close = Line::close_for(self.alloc, CloseCode::Policy)?;
+        let close = QueuedFrame::close_for(self.alloc, CloseCode::Policy)?;
         self.leave_with(close)
     }
 
     // The first frame that waits.
-    pub fn front(&self) -> Option<&Line>
+    pub fn front(&self) -> Option<&QueuedFrame>
         ensures { option_copied result ≡ slice_get self.now.waiting 0 }
     {
         self.waiting.front()
@@ -160,7 +160,7 @@ impl Row {
     }
 
     // A frame that it sends has its effect on itself. What it says with it is handed out.
-    pub fn take(&mut self, frame: Frame) -> Result<Option<Vec<Line>>, NoMemory>
+    pub fn take(&mut self, frame: Frame) -> Result<Option<Vec<QueuedFrame>>, NoMemory>
         ensures after { OnOk result (self.new ≡ with_effect (effect_in self.old (on.frame (frame_says frame))) self.old) }
         ensures said { IfOk result (λ said. option_map (λ v. v.items) said ≡ said_of (effect_in self.old (on.frame (frame_says frame)))) }
         ensures no_memory_needed { effect_in self.old (on.frame (frame_says frame)) ≡ nothing → IsOk result }
@@ -173,7 +173,7 @@ impl Row {
     }
 
     // The same of a member that is in a room.
-    fn take_frame(&mut self, frame: Frame) -> Result<Option<Vec<Line>>, NoMemory>
+    fn take_frame(&mut self, frame: Frame) -> Result<Option<Vec<QueuedFrame>>, NoMemory>
         ensures after { OnOk result (self.new ≡ with_effect (effect_of self.old.parts (frame_says frame)) self.old) }
         ensures said { IfOk result (λ said. option_map (λ v. v.items) said ≡ said_of (effect_of self.old.parts (frame_says frame))) }
         ensures no_memory_needed { effect_of self.old.parts (frame_says frame) ≡ nothing → IsOk result }
@@ -181,21 +181,21 @@ impl Row {
         match frame {
             Frame::Text(payload) => self.take_text(payload.as_slice()),
             Frame::Binary(payload) => {
-                let line = Line::binary(self.alloc, payload)?;
+                let line = QueuedFrame::binary(self.alloc, payload)?;
                 let lines = one(self.alloc, line)?;
                 self.forget_parts();
                 Ok(Some(lines))
             }
             Frame::Continuation(item) => self.take_item(item),
             Frame::Ping(payload) => {
-                let line = Line::pong(self.alloc, payload)?;
+                let line = QueuedFrame::pong(self.alloc, payload)?;
                 let lines = one(self.alloc, line)?;
                 self.put(lines.as_slice())?;
                 Ok(None)
             }
             Frame::Pong(_) => Ok(None),
             Frame::Close(reason) => {
-                let line = Line::close(self.alloc, reason)?;
+                let line = QueuedFrame::close(self.alloc, reason)?;
                 self.leave_with(line)?;
                 Ok(None)
             }
@@ -203,12 +203,12 @@ impl Row {
     }
 
     // A whole text.
-    fn take_text(&mut self, payload: &[u8]) -> Result<Option<Vec<Line>>, NoMemory>
+    fn take_text(&mut self, payload: &[u8]) -> Result<Option<Vec<QueuedFrame>>, NoMemory>
         ensures after { OnOk result (self.new ≡ with_effect (effect_of self.old.parts (frames.text payload.now)) self.old) }
         ensures said { IfOk result (λ said. option_map (λ v. v.items) said ≡ said_of (effect_of self.old.parts (frames.text payload.now))) }
     {
-        let Some(line) = Line::text(self.alloc, payload)? else {
-            let close = Line::close_for(self.alloc, CloseCode::Invalid)?;
+        let Some(line) = QueuedFrame::text(self.alloc, payload)? else {
+            let close = QueuedFrame::close_for(self.alloc, CloseCode::Invalid)?;
             self.leave_with(close)?;
             return Ok(None);
         };
@@ -218,7 +218,7 @@ impl Row {
     }
 
     // A part of a message.
-    fn take_item(&mut self, item: Item) -> Result<Option<Vec<Line>>, NoMemory>
+    fn take_item(&mut self, item: Item) -> Result<Option<Vec<QueuedFrame>>, NoMemory>
         ensures after { OnOk result (self.new ≡ with_effect (effect_of self.old.parts (item_says item)) self.old) }
         ensures said { IfOk result (λ said. option_map (λ v. v.items) said ≡ said_of (effect_of self.old.parts (item_says item))) }
         ensures no_memory_needed { effect_of self.old.parts (item_says item) ≡ nothing → IsOk result }
@@ -230,7 +230,7 @@ impl Row {
                 if self.parts.is_empty() {
                     return Ok(None);
                 }
-                let line = Line::item(self.alloc, Item::Continue(payload))?;
+                let line = QueuedFrame::item(self.alloc, Item::Continue(payload))?;
                 self.keep(line)?;
                 Ok(None)
             }
@@ -238,30 +238,30 @@ impl Row {
                 if self.parts.is_empty() {
                     return Ok(None);
                 }
-                let line = Line::item(self.alloc, Item::Last(payload))?;
+                let line = QueuedFrame::item(self.alloc, Item::Last(payload))?;
                 self.end(line)
             }
         }
     }
 
     // The first part of a message.
-    fn begin(&mut self, item: Item) -> Result<Option<Vec<Line>>, NoMemory>
+    fn begin(&mut self, item: Item) -> Result<Option<Vec<QueuedFrame>>, NoMemory>
         ensures after { OnOk result (self.new ≡ with_effect (kept (item_says item ∷ [])) self.old) }
         ensures said { IfOk result (λ said. option_map (λ v. v.items) said ≡ said_of (kept (item_says item ∷ []))) }
     {
-        let line = Line::item(self.alloc, item)?;
+        let line = QueuedFrame::item(self.alloc, item)?;
         self.forget_parts();
         self.keep(line)?;
         Ok(None)
     }
 
     // A part that isn't the last is kept after the others, unless they are too many or too long.
-    fn keep(&mut self, line: Line) -> Result<(), NoMemory>
+    fn keep(&mut self, line: QueuedFrame) -> Result<(), NoMemory>
         ensures { OnOk result (self.new ≡ with_effect (kept (self.old.parts ++ line ∷ [])) self.old) }
     {
         let len = line.payload().len();
         if self.parts.len() >= MAX_PARTS || len > MAX_PART_BYTES - self.part_bytes {
-            let close = Line::close_for(self.alloc, CloseCode::Size)?;
+            let close = QueuedFrame::close_for(self.alloc, CloseCode::Size)?;
             return self.leave_with(close);
         }
         self.parts.push(line)?;
@@ -270,7 +270,7 @@ impl Row {
     }
 
     // The last part: the message is said, unless it is text and isn't UTF-8.
-    fn end(&mut self, line: Line) -> Result<Option<Vec<Line>>, NoMemory>
+    fn end(&mut self, line: QueuedFrame) -> Result<Option<Vec<QueuedFrame>>, NoMemory>
         ensures after { OnOk result (self.new ≡ with_effect (said (self.old.parts ++ line ∷ [])) self.old) }
         ensures said { IfOk result (λ lines. option_map (λ v. v.items) lines ≡ said_of (said (self.old.parts ++ line ∷ []))) }
     {
@@ -278,7 +278,7 @@ impl Row {
         self.part_bytes = 0;
         lines.push(line)?;
         if is_bad_text(self.alloc, lines.as_slice())? {
-            let close = Line::close_for(self.alloc, CloseCode::Invalid)?;
+            let close = QueuedFrame::close_for(self.alloc, CloseCode::Invalid)?;
             self.leave_with(close)?;
             return Ok(None);
         }
@@ -295,7 +295,7 @@ impl Row {
 }
 
 // The lines after those that wait.
-fn add(waiting: &mut VecDeque<Line>, lines: &[Line]) -> Result<(), NoMemory>
+fn add(waiting: &mut VecDeque<QueuedFrame>, lines: &[QueuedFrame]) -> Result<(), NoMemory>
     ensures { OnOk result (waiting.new.items ≡ waiting.old.items ++ lines.now) }
 {
     for line in lines {
@@ -306,7 +306,7 @@ fn add(waiting: &mut VecDeque<Line>, lines: &[Line]) -> Result<(), NoMemory>
 }
 
 // A message of one frame.
-fn one(alloc: Global, line: Line) -> Result<Vec<Line>, NoMemory>
+fn one(alloc: Global, line: QueuedFrame) -> Result<Vec<QueuedFrame>, NoMemory>
     ensures { IfOk result (λ lines. lines.items ≡ line ∷ []) }
 {
     let mut lines = Vec::new(alloc);
@@ -315,7 +315,7 @@ fn one(alloc: Global, line: Line) -> Result<Vec<Line>, NoMemory>
 }
 
 // Whether it is text and isn't UTF-8. A fragment may end inside a character, so all payloads are judged together.
-fn is_bad_text(alloc: Global, lines: &[Line]) -> Result<bool, NoMemory>
+fn is_bad_text(alloc: Global, lines: &[QueuedFrame]) -> Result<bool, NoMemory>
     ensures { IfOk result (λ bad. bad ≡ (is_text lines.now && not (is_utf8 (flat_map payload lines.now)))) }
 {
     let Some(first) = lines.first() else {
@@ -339,7 +339,7 @@ fn is_utf8_text(bytes: &[u8]) -> bool
 }
 
 // The payloads, one after another.
-fn joined(alloc: Global, lines: &[Line]) -> Result<Vec<u8>, NoMemory>
+fn joined(alloc: Global, lines: &[QueuedFrame]) -> Result<Vec<u8>, NoMemory>
     ensures { IfOk result (λ bytes. bytes.items ≡ flat_map payload lines.now) }
 {
     let mut bytes = Vec::new(alloc);

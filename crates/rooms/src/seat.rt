@@ -6,7 +6,7 @@ ghost use Rattle.model_h1.specs.Frame as frames;
 ghost use Rattle.model_h1.specs.Limits.{MAX_FRAME_HEAD};
 ghost use Rattle.model_h1.specs.Sums.{Step};
 ghost use Rattle.model_state.specs.Local.{closing_by};
-ghost use Rattle.h1_connection.specs.Meaning.{setting_of, event_of, failing_of, SaysOutcome};
+ghost use Rattle.h1_connection.specs.EventMeaning.{setting_of, event_of, failing_of, SaysOutcome};
 ghost use Rattle.h1_connection.specs.State.{IsAllowed, TakesNoMemory};
 ghost use Rattle.ws_frames.specs.Sent.{message_says};
 ghost use Rattle.h1_encoder.specs.Meaning.{answer_of};
@@ -33,7 +33,7 @@ const MAX_FRAME_HEAD: usize = 14;
 
 /// What a turn did: the event of its connection, and what came of it.
 #[derive(Debug, Drop)]
-pub struct Turn {
+pub struct HubTurn {
     pub event: Event,
     pub outcome: Outcome,
 }
@@ -55,7 +55,7 @@ pub struct Seat {
 
 impl Model for Seat {
     ghost use Rattle.std.specs.Prelude.{option_map};
-    ghost use Rattle.h1_connection.specs.Meaning.{failing_of};
+    ghost use Rattle.h1_connection.specs.EventMeaning.{failing_of};
     ghost use Rattle.rooms.specs.Seat.{SeatState, IsUsable};
 
     ghost Value = { SeatState };
@@ -134,7 +134,7 @@ impl Seat {
     /// Takes a turn, by the message that waits first: asks for the next request, accepts it as a WebSocket or answers it,
     /// sends that message, or takes the next frame, whichever the rules say. Where the connection is over there is no
     /// turn, nothing changes, and it takes no memory. For the event that is handed out, a text is copied.
-    pub fn turn(&mut self, front: Option<&Message>) -> Result<Option<Turn>, NoMemory>
+    pub fn turn(&mut self, front: Option<&Message>) -> Result<Option<HubTurn>, NoMemory>
         ensures asked { IfOk result (λ turn. AsksBy self.old (option_map message_says (option_copied front.entry)) turn self.new) }
         ensures turned { IfOk result (λ turn. TurnsBy self.old (option_map message_says (option_copied front.entry)) turn self.new) }
         ensures no_memory_needed { IsAsked self.old.connection (asked_by self.old (option_map message_says (option_copied front.entry))) None → IsOk result }
@@ -144,7 +144,7 @@ impl Seat {
             return Ok(None);
         };
         let outcome = self.step(&event)?;
-        Ok(Some(Turn { event, outcome }))
+        Ok(Some(HubTurn { event, outcome }))
     }
 
     /// A turn that sends this message, which waits first. There is none where nothing may be sent: `turn` does then what the

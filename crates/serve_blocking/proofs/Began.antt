@@ -4,7 +4,7 @@ use Rattle.std.specs.Io.KnownBytes.{Consumes, Appends}
 use Rattle.std.proofs.Common.{refl, sym, subst}
 use Rattle.model_h1.specs.Sums.{taken, written}
 use Rattle.model_state.proofs.Stands.{fresh_stands}
-use Rattle.h1_connection.specs.Meaning.{setting_of}
+use Rattle.h1_connection.specs.EventMeaning.{setting_of}
 use Rattle.h1_connection.specs.State.{State, Stands, fresh_state}
 use Rattle.serve_blocking.specs.Served.{IsServed, heads}
 use Rattle.serve_blocking.proofs.ServedLemmas.{same_left, same_given}

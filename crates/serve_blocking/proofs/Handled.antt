@@ -6,7 +6,7 @@ use Rattle.model_h1.specs.Event.{Event, Outcome}
 use Rattle.model_h1.specs.Request.{Head}
 use Rattle.model_h1.specs.Sums.{Step, written}
 use Rattle.model_h1.specs.Text.{text}
-use Rattle.h1_connection.specs.Meaning.{setting_of, end_of}
+use Rattle.h1_connection.specs.EventMeaning.{setting_of, end_of}
 use Rattle.h1_connection.specs.declared.event.End.{End}
 use Rattle.h1_decoder.specs.declared.decoder.HeadItem.{HeadItem}
 use Rattle.h1_strict.specs.Judgement.{status_of}

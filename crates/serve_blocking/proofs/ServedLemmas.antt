@@ -17,7 +17,7 @@ use Rattle.h1_payload.specs.Rests.{SaysPulled}
 use Rattle.h1_payload.specs.declared.pulled.Pulled.{Pulled}
 use Rattle.h1_payload.specs.declared.pulled.Pulled.TheVariants as pulled
 use Rattle.h1_connection.specs.Heads.{SaysNext, with_head}
-use Rattle.h1_connection.specs.Meaning.{end_of, fault_of}
+use Rattle.h1_connection.specs.EventMeaning.{end_of, fault_of}
 use Rattle.h1_connection.specs.declared.event.End.{End}
 use Rattle.h1_connection.specs.declared.error.ReadFromError.{ReadFromError}
 use Rattle.h1_connection.specs.declared.error.ReadFromError.TheVariants as read_error

@@ -4,7 +4,7 @@ use Rattle.std.proofs.Common.{refl, sym, ap, ◌∙◌, append-nil}
 use Rattle.model_h1.specs.Sums.{Step, written}
 use Rattle.model_h1.specs.Text.{text, buffered}
 use Rattle.model_h1.proofs.WrittenLemmas.{written_buffered}
-use Rattle.h1_connection.specs.Meaning.{setting_of}
+use Rattle.h1_connection.specs.EventMeaning.{setting_of}
 use Rattle.h1_connection.specs.State.{State, Stands}
 use Rattle.serve_blocking.specs.Served.{IsWritten}
 

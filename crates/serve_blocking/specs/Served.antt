@@ -8,7 +8,7 @@ use Rattle.model_h1.specs.Event as on
 use Rattle.model_h1.specs.Request.{Head}
 use Rattle.model_h1.specs.Sums.{Step, taken, written}
 use Rattle.model_h1.specs.Text.{text}
-use Rattle.h1_connection.specs.Meaning.{setting_of, end_of}
+use Rattle.h1_connection.specs.EventMeaning.{setting_of, end_of}
 use Rattle.h1_connection.specs.State.{State, IsAllowed, Stands}
 use Rattle.h1_connection.specs.declared.event.End.{End}
 use Rattle.h1_connection.specs.declared.event.HeadFault.{HeadFault}

@@ -28,6 +28,7 @@
 
 mod answer;
 mod body;
+mod body_io;
 mod clock;
 mod connection;
 mod error;
@@ -36,8 +37,7 @@ mod handler;
 mod limits;
 mod pace;
 mod request;
-mod server;
-mod turns;
+mod thread_per_connection;
 
 pub use answer::{Answer, Writer};
 pub use body::{Body, Piece};
@@ -46,4 +46,4 @@ pub use error::HandleError;
 pub use handler::{Handler, Handlers};
 pub use limits::Limits;
 pub use request::Incoming;
-pub use server::{host, wake};
+pub use thread_per_connection::{host, wake};

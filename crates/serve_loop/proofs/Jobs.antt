@@ -6,7 +6,7 @@ use Rattle.h1_dispatcher.specs.Causes.{HasCause}
 use Rattle.h1_dispatcher.specs.View.{View}
 use Rattle.h1_dispatcher.proofs.Acts.{acts_run}
 use Rattle.h1_dispatcher.proofs.Causes.{poll_has}
-use Rattle.net_loop.specs.Runs as jobs
+use Rattle.net_loop.specs.LoopRuns as jobs
 use Rattle.serve_loop.specs.Jobs.{IsNew, Polls, Drains, HasServed, acts_of}
 
 module _ {J : Type 0} (view : J → View) where

@@ -10,7 +10,7 @@ use Rattle.http_transport.specs.Wiring.{Wiring}
 use Rattle.h1_dispatcher.specs.Acts.{Act, polled, asked, ActsSay, AreOneRun}
 use Rattle.h1_dispatcher.specs.Polls.{PollSays}
 use Rattle.h1_dispatcher.specs.View.{View, Asking, Answer, view_begun, with_drain}
-use Rattle.net_loop.specs.Runs as jobs
+use Rattle.net_loop.specs.LoopRuns as jobs
 
 -- a new dispatcher over a fresh transport
 pub record IsBegun (v : View) : Type 0 where

@@ -1,7 +1,7 @@
 //! What holds of each connection of a loop.
 ghost use Rattle.std.specs.Prelude.{None, ℕ, Result};
 ghost use Rattle.http_types.specs.declared.error.DispatchError.{DispatchError};
-ghost use Rattle.net_loop.specs.Runs.{Lives, EndsBy};
+ghost use Rattle.net_loop.specs.LoopRuns.{Lives, EndsBy};
 ghost use Rattle.h1_dispatcher.specs.View.{view_of, View, MayBePolled};
 ghost use Rattle.h1_dispatcher.specs.Causes.{HasCause};
 ghost use Rattle.serve_loop.specs.Jobs.{IsNew, Polls, Drains, HasServed};

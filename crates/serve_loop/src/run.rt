@@ -6,7 +6,7 @@ use http_services::Service;
 use http_services::h1::Payload;
 use http_transport::{Clock, Transport};
 use http_types::{Request, Response, ServiceConfig};
-use net_loop::{Going, Limits, Seats, Watch, turn};
+use net_loop::{Going, Limits, Slots, Watch, turn};
 use std::alloc::AllocGlobal;
 use std::random::RandomSource;
 use thiserror::Error;
@@ -43,7 +43,7 @@ where
     B: MessageBody,
 {
     let mut maker = Maker::new(rt.alloc(), services, config);
-    let Ok(mut seats) = Seats::<Served<T, S, S::Call, B>>::new(rt.alloc(), limits) else {
+    let Ok(mut seats) = Slots::<Served<T, S, S::Call, B>>::new(rt.alloc(), limits) else {
         return Err(RunError::NoMemory);
     };
     let mut going = Going::new();

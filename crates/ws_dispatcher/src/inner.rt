@@ -2,7 +2,7 @@
 mod dispatcher;
 mod poll;
 mod queue;
-mod serve;
+mod serve_items;
 mod turn;
 mod write;
 

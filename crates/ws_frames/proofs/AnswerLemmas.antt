@@ -10,7 +10,7 @@ use Rattle.ws_frames.specs.declared.message.Frame.{Frame}
 use Rattle.ws_frames.specs.declared.codec.Codec.{Codec}
 use Rattle.ws_frames.specs.Refusal.{refusal}
 use Rattle.ws_frames.specs.Parsed.{late_reader, parsed}
-use Rattle.ws_frames.specs.Pieces.{AreFrames}
+use Rattle.ws_frames.specs.FramePieces.{AreFrames}
 use Rattle.ws_frames.specs.CodecState.{codec_server, codec_limit, codec_reading, with_reading, cost, Failed, Decoded}
 use Rattle.ws_frames.specs.Framing.{Frames, Reads, no_frames, Breaks, LeftAfter}
 

@@ -8,7 +8,7 @@ use Rattle.ws_frames.specs.declared.error.ProtocolError.{ProtocolError}
 use Rattle.ws_frames.specs.declared.message.Frame.{Frame}
 use Rattle.ws_frames.specs.declared.codec.Codec.{Codec}
 use Rattle.ws_frames.specs.Parsed.{late_reader}
-use Rattle.ws_frames.specs.Pieces.{AreFrames}
+use Rattle.ws_frames.specs.FramePieces.{AreFrames}
 use Rattle.ws_frames.specs.Codec.{frame_says}
 use Rattle.ws_frames.specs.CodecState.{codec_server, codec_limit, codec_reading, with_reading, Decoded}
 use Rattle.ws_frames.specs.Framing.{Frames, Reads, given}

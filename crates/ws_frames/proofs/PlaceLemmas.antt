@@ -3,7 +3,7 @@ use Rattle.std.proofs.Common.{◌≡◌, ℕ, ◌+◌, Bool, List, [], ◌∷◌
 use Rattle.model_h1.specs.Frame.{Frame, ProtocolError}
 use Rattle.model_h1.specs.FrameText.{Reader, is_under_way, PlacedFrame, ReadsFrames}
 use Rattle.model_h1.proofs.FrameLemmas.{frames_unique, frames_read}
-use Rattle.ws_frames.specs.Pieces.{AreFrames, frames_of}
+use Rattle.ws_frames.specs.FramePieces.{AreFrames, frames_of}
 
 -- frames that were read from a place on are those of the bytes behind it
 pub without_places : (reader : Reader) (u : Bool) (place : ℕ) (bytes : List ℕ) (placed : List PlacedFrame) (fail : Option ProtocolError)

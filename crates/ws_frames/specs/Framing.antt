@@ -11,7 +11,7 @@ use Rattle.ws_frames.specs.declared.message.Message.{Message}
 use Rattle.ws_frames.specs.declared.codec.Codec.{Codec}
 use Rattle.ws_frames.specs.Parsed.{late_reader, parsed}
 use Rattle.ws_frames.specs.Refusal.{refusal}
-use Rattle.ws_frames.specs.Pieces.{AreFrames}
+use Rattle.ws_frames.specs.FramePieces.{AreFrames}
 use Rattle.ws_frames.specs.Codec.{frame_says}
 use Rattle.ws_frames.specs.CodecState.{codec_server, codec_limit, codec_reading, codec_sending, codec_words, cost, Failed}
 use Rattle.ws_frames.specs.Sent.{message_says, message_written, mask_drawn, sending_after, words_after, with_sending}

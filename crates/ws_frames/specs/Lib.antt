@@ -10,7 +10,7 @@ pub mod Codec
 pub mod Fronts
 pub mod CodecState
 pub mod ParserState
-pub mod Pieces
+pub mod FramePieces
 pub mod Sent
 pub mod Framing
 pub mod Causes

@@ -2,7 +2,7 @@
 ghost use Rattle.std.specs.Prelude.{◌≡◌, ℕ, Bool, List, [], ◌∷◌, ◌++◌, drop, Option, Some};
 ghost use Rattle.model_h1.specs.Frame.{Frame, ProtocolError};
 ghost use Rattle.model_h1.specs.FrameText.{Reader, front_frame, whole, breaks, is_under_way, PlacedFrame, ReadsFrames};
-ghost use Rattle.ws_frames.specs.Pieces.{AreFrames, frames_of};
+ghost use Rattle.ws_frames.specs.FramePieces.{AreFrames, frames_of};
 
 /// Whatever bytes follow: where a frame was given, the old bytes with these are that frame and then the frames of what is
 /// left with these; and where a rule is broken, the old bytes with these are no frame and break that rule.

@@ -17,7 +17,7 @@ use Rattle.ws_service.specs.declared.dispatcher.Ending.TheVariants.{Closed, Aban
 use Rattle.ws_service.specs.View.{View, Upgrading, is_broken, closes}
 use Rattle.ws_service.specs.Steps.{Step, IsStep, IsRun, ticked, drained, written, read, shut, closed, ready, called, answered, pulled, sent, failed, unsent, failed_write, failed_read, asked_to_drain}
 use Rattle.ws_service.specs.Traces.{IsNoted, AllNoted}
-use Rattle.ws_service.specs.Polls.{Continues, AllContinue, EndsWith, FailsTransport, FailsService, Ended, Progress, IsReadIdle, Reads, IsIdle, IsHeld, Writes, IsStuck, Ticks, Drains, IsBegun, BeginFails, TurnsSay, PollRuns, PollSays}
+use Rattle.ws_service.specs.Polls.{Continues, AllContinue, EndsWith, FailsTransport, FailsService, Ended, Progress, IsReadIdle, ReadsNothing, IsIdle, IsHeld, Writes, IsStuck, Ticks, Drains, IsBegun, BeginFails, TurnsSay, PollRuns, PollSays}
 use Rattle.ws_service.specs.Causes.{HasCause, IsOneRun}
 use Rattle.ws_service.proofs.Runs.{one, run_on}
 
@@ -198,7 +198,7 @@ none_noted v w is = record { steps = []; run = is; all = tt }
 read_noted : (v w : View) → IsReadIdle v w → Noted v w
 read_noted v w is = record { steps = is.reading; run = is.reads; all = by is.reading is.no_input }
   where
-    by : (reading : List Step) → Reads v reading → AllNoted reading
+    by : (reading : List Step) → ReadsNothing v reading → AllNoted reading
     by reading (inl so) = subst (λ l. AllNoted l) (sym so) (tt, tt)
     by reading (inr so) = subst (λ l. AllNoted l) (sym so.0) tt
 

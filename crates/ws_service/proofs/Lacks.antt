@@ -3,7 +3,7 @@ use Rattle.std.proofs.Common.{Option, List, [], ◌++◌, sym, ◌∙◌, subst}
 use Rattle.http_bodies.specs.Told.{Grows}
 use Rattle.http_bodies.proofs.Histories.{grown-none}
 use Rattle.model_h1.specs.Sums as sums
-use Rattle.h1_connection.specs.Meaning.{setting_of}
+use Rattle.h1_connection.specs.EventMeaning.{setting_of}
 use Rattle.h1_connection.specs.Steps.{Pair}
 use Rattle.h1_traced.specs.Traced.{SaysNoted, TracedStands}
 use Rattle.ws_service.specs.View.{View}

@@ -11,13 +11,13 @@ use Rattle.model_h1.specs.Frame as said
 use Rattle.model_h1.specs.Setting.{Setting}
 use Rattle.model_state.specs.Kept.{Kept}
 use Rattle.model_state.specs.Local.{allowed_by}
-use Rattle.h1_connection.specs.Meaning.{setting_of, SaysOutcome}
+use Rattle.h1_connection.specs.EventMeaning.{setting_of, SaysOutcome}
 use Rattle.h1_connection.specs.declared.event.Outcome.{Outcome}
 use Rattle.h1_traced.specs.Traced.{TracedSteps, TracedFails}
 use Rattle.ws_service.specs.declared.item.UpgradeItem.{UpgradeItem}
 use Rattle.ws_service.specs.declared.dispatcher.Ending.TheVariants.{Broken}
-use Rattle.ws_service.specs.declared.dispatcher.serve.Given.{Given}
-use Rattle.ws_service.specs.declared.dispatcher.serve.Given.TheVariants.{Nothing}
+use Rattle.ws_service.specs.declared.dispatcher.serve_frames.Given.{Given}
+use Rattle.ws_service.specs.declared.dispatcher.serve_frames.Given.TheVariants.{Nothing}
 use Rattle.ws_service.specs.Polls.{IsLast, Needs}
 use Rattle.ws_service.specs.View.{View, Stage, free, waiting, calling, sending, is_waiting, is_calling, is_sending, allows, allows_pull, allows_send, buffered, room}
 use Rattle.ws_service.specs.Steps.{Step, IsStep, IsFront, Took, IsOfRead, given_of, stage_given, read, ready, pulled, sent, unsent, failed_read}

@@ -10,8 +10,8 @@ use Rattle.http_services.specs.Serving.{given}
 use Rattle.http_transport.specs.Wiring.{Wiring}
 use Rattle.ws_frames.specs.declared.message.Message.{Message}
 use Rattle.h1_traced.specs.Traced.{TracedView}
-use Rattle.ws_service.specs.declared.dispatcher.serve.Given.{Given}
-use Rattle.ws_service.specs.declared.dispatcher.serve.Given.TheVariants.{Frame, Nothing, Other}
+use Rattle.ws_service.specs.declared.dispatcher.serve_frames.Given.{Given}
+use Rattle.ws_service.specs.declared.dispatcher.serve_frames.Given.TheVariants.{Frame, Nothing, Other}
 use Rattle.ws_service.specs.View.{View, Upgrading, Stage, free, waiting, calling, sending, view_begun}
 use Rattle.ws_service.specs.Steps.{Step, IsStep, IsRun, stage_given, stage_answered, ticked, drained, written, read, shut, closed, ready, called, answered, pulled, sent, failed, unsent, failed_write, failed_read, asked_to_drain}
 use Rattle.ws_service.specs.Order.{waits_in, unsent_in, step_frames, step_calls, step_answers, step_messages, step_sent, frames, calls, answers, messages, sends, KeepsOrder, StartsWith}

@@ -5,11 +5,11 @@ use Rattle.futures.specs.declared.task.Poll.{Poll}
 use Rattle.futures.specs.declared.task.Poll.TheVariants.{Ready, Pending}
 use Rattle.futures.specs.declared.task.context.Context.{Context}
 use Rattle.model_state.specs.Local.{closing_by}
-use Rattle.h1_connection.specs.Meaning.{setting_of, end_of}
+use Rattle.h1_connection.specs.EventMeaning.{setting_of, end_of}
 use Rattle.h1_connection.specs.declared.event.End.{End}
 use Rattle.ws_service.specs.declared.error.UpgradeError.{UpgradeError}
-use Rattle.ws_service.specs.declared.dispatcher.Turn.{Turn}
-use Rattle.ws_service.specs.declared.dispatcher.Turn.TheVariants.{Counted, Idle, Over}
+use Rattle.ws_service.specs.declared.dispatcher.UpgradeTurn.{UpgradeTurn}
+use Rattle.ws_service.specs.declared.dispatcher.UpgradeTurn.TheVariants.{Counted, Idle, Over}
 use Rattle.ws_service.specs.View.{View, Stage, free, waiting, calling, sending, closes, HasNoOutput, HasNoInput}
 use Rattle.ws_service.specs.Steps.{Step, IsStep, written}
 use Rattle.ws_service.specs.Polls.{Continues, IsLast, Needs, IsHeld, Progress, TurnSays, AfterSays, ServeSays, ReadingSays, EndSays, TurnsSay}
@@ -28,7 +28,7 @@ needs_on w calling d s is = last_on _ d s is
 needs_on w (sending message) d s is = is
 
 -- a step before what follows
-pub step_then : (v u w : View) (d : Step) (turn : Turn) → IsStep v d u → Continues d → ServeSays u w turn → ServeSays v w turn
+pub step_then : (v u w : View) (d : Step) (turn : UpgradeTurn) → IsStep v d u → Continues d → ServeSays u w turn → ServeSays v w turn
 step_then v u w d Counted is goes says = goes_after v u w 0 1 (goes_by v u d 0 is goes (omega arith)) says
 step_then v u w d Idle is goes says = record {
   served = d ∷ says.served;
@@ -41,50 +41,50 @@ step_then v u w d Idle is goes says = record {
 step_then v u w d (Over result) is goes says = ends_after v u w 0 result (goes_by v u d 0 is goes (omega arith)) says
 
 -- the input after what was pending
-pub pending_then : (v u w : View) (d : Step) (turn : Turn) → IsStep v d u → Continues d → Needs u u.stage (d ∷ []) → ReadingSays u w turn → ServeSays v w turn
+pub pending_then : (v u w : View) (d : Step) (turn : UpgradeTurn) → IsStep v d u → Continues d → Needs u u.stage (d ∷ []) → ReadingSays u w turn → ServeSays v w turn
 pending_then v u w d Counted is goes needs says = goes_after v u w 0 1 (goes_by v u d 0 is goes (omega arith)) says
 pending_then v u w d Idle is goes needs says =
     record { served = d ∷ []; between = u; serves = one v u d is; go_on = (goes, tt); needs = needs; input = says }
 pending_then v u w d (Over result) is goes needs says = ends_after v u w 0 result (goes_by v u d 0 is goes (omega arith)) says
 
 -- the input alone
-pub input_then : (v w : View) (turn : Turn) → Needs v v.stage [] → ReadingSays v w turn → ServeSays v w turn
+pub input_then : (v w : View) (turn : UpgradeTurn) → Needs v v.stage [] → ReadingSays v w turn → ServeSays v w turn
 input_then v w Counted needs says = says
 input_then v w Idle needs says = record { served = []; between = v; serves = refl; go_on = tt; needs = needs; input = says }
 input_then v w (Over result) needs says = says
 
 -- an event in any case
-pub only_end : (v w : View) (turn : Turn) → EndSays v w turn → ServeSays v w turn
+pub only_end : (v w : View) (turn : UpgradeTurn) → EndSays v w turn → ServeSays v w turn
 only_end v w Counted says = says
 only_end v w Idle says = absurd says
 only_end v w (Over result) says = says
 
 -- nothing may be read
-pub nothing_read : (v : View) (turn : Turn) → turn ≡ Idle → HasNoInput v → ReadingSays v v turn
+pub nothing_read : (v : View) (turn : UpgradeTurn) → turn ≡ Idle → HasNoInput v → ReadingSays v v turn
 nothing_read v turn is none = subst (λ t. ReadingSays v v t) (sym is) (record { reading = []; reads = refl; no_input = inr (refl, none) })
 
 -- ---- after the writing
 
-pub open_then : (v w : View) (turn : Turn) → closes v ≡ false → ServeSays v w turn → AfterSays v w turn
+pub open_then : (v w : View) (turn : UpgradeTurn) → closes v ≡ false → ServeSays v w turn → AfterSays v w turn
 open_then v w Counted so says = says
 open_then v w Idle so says = inr (so, says)
 open_then v w (Over result) so says = says
 
-pub end_then : (v w : View) (turn : Turn) → EndSays v w turn → AfterSays v w turn
+pub end_then : (v w : View) (turn : UpgradeTurn) → EndSays v w turn → AfterSays v w turn
 end_then v w Counted says = says
 end_then v w Idle says = absurd says
 end_then v w (Over result) says = says
 
-pub held_idle : (v : View) (turn : Turn) → turn ≡ Idle → IsHeld v v → AfterSays v v turn
+pub held_idle : (v : View) (turn : UpgradeTurn) → turn ≡ Idle → IsHeld v v → AfterSays v v turn
 held_idle v turn is held = subst (λ t. AfterSays v v t) (sym is) (inl held)
 
-pub quiet_then : (v w : View) (turn : Turn) → v.ending ≡ None → HasNoOutput v → AfterSays v w turn → TurnSays v w turn
+pub quiet_then : (v w : View) (turn : UpgradeTurn) → v.ending ≡ None → HasNoOutput v → AfterSays v w turn → TurnSays v w turn
 quiet_then v w Counted running none says = says
 quiet_then v w Idle running none says =
     inl (record { running = running; writing = []; after = v; writes = refl; no_output = inr (refl, none); waits = says })
 quiet_then v w (Over result) running none says = says
 
-pub written_then : (v u w : View) (turn : Turn) → v.ending ≡ None → IsStep v (written Pending) u → AfterSays u w turn → TurnSays v w turn
+pub written_then : (v u w : View) (turn : UpgradeTurn) → v.ending ≡ None → IsStep v (written Pending) u → AfterSays u w turn → TurnSays v w turn
 written_then v u w Counted running is says = goes_after v u w 0 1 (goes_by v u (written Pending) 0 is tt (omega arith)) says
 written_then v u w Idle running is says =
     inl (record { running = running; writing = written Pending ∷ []; after = u; writes = one v u (written Pending) is; no_output = inl refl; waits = says })

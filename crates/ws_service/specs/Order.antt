@@ -9,8 +9,8 @@ use Rattle.http_types.specs.Request.{RequestParts}
 use Rattle.ws_frames.specs.declared.message.Message.{Message}
 use Rattle.ws_service.specs.declared.item.UpgradeItem.{UpgradeItem}
 use Rattle.ws_service.specs.declared.item.UpgradeItem.TheVariants as items
-use Rattle.ws_service.specs.declared.dispatcher.serve.Given.{Given}
-use Rattle.ws_service.specs.declared.dispatcher.serve.Given.TheVariants.{Frame, Nothing, Other}
+use Rattle.ws_service.specs.declared.dispatcher.serve_frames.Given.{Given}
+use Rattle.ws_service.specs.declared.dispatcher.serve_frames.Given.TheVariants.{Frame, Nothing, Other}
 use Rattle.ws_service.specs.View.{View, Stage, free, waiting, calling, sending}
 use Rattle.ws_service.specs.Steps.{Step, pulled, called, answered, sent, unsent}
 

@@ -13,10 +13,10 @@ use Rattle.h1_connection.specs.declared.event.End.{End}
 use Rattle.ws_service.specs.declared.error.UpgradeError.{UpgradeError}
 use Rattle.ws_service.specs.declared.error.UpgradeError.TheVariants as error
 use Rattle.ws_service.specs.declared.dispatcher.Ending.TheVariants.{Closed, Abandoned, Broken}
-use Rattle.ws_service.specs.declared.dispatcher.Turn.{Turn}
-use Rattle.ws_service.specs.declared.dispatcher.Turn.TheVariants.{Counted, Idle, Over}
-use Rattle.ws_service.specs.declared.dispatcher.serve.Given.{Given}
-use Rattle.ws_service.specs.declared.dispatcher.serve.Given.TheVariants.{Frame, Nothing, Other}
+use Rattle.ws_service.specs.declared.dispatcher.UpgradeTurn.{UpgradeTurn}
+use Rattle.ws_service.specs.declared.dispatcher.UpgradeTurn.TheVariants.{Counted, Idle, Over}
+use Rattle.ws_service.specs.declared.dispatcher.serve_frames.Given.{Given}
+use Rattle.ws_service.specs.declared.dispatcher.serve_frames.Given.TheVariants.{Frame, Nothing, Other}
 use Rattle.ws_service.specs.View.{View, Stage, free, waiting, calling, sending, is_broken, closes, allows, allows_next, allows_pull, allows_send, HasNoOutput, HasNoInput}
 use Rattle.ws_service.specs.Steps.{Step, IsStep, IsRun, ticked, drained, written, read, shut, closed, ready, called, answered, pulled, sent, failed, unsent, failed_write, failed_read, asked_to_drain}
 
@@ -127,8 +127,8 @@ Needs w calling served = IsLast (answered Pending) served
 Needs w (sending message) served = allows_send w ≡ false
 
 -- the transport had no bytes, or none may be read
-abbrev pub Reads : View → List Step → Type 0
-Reads v reading = (reading ≡ read [] Pending ∷ []) ⊎ ((reading ≡ []) × HasNoInput v)
+abbrev pub ReadsNothing : View → List Step → Type 0
+ReadsNothing v reading = (reading ≡ read [] Pending ∷ []) ⊎ ((reading ≡ []) × HasNoInput v)
 
 -- the transport took none of what waits to be written, or nothing waits that may be
 abbrev pub Writes : View → List Step → Type 0
@@ -137,7 +137,7 @@ Writes v writing = (writing ≡ written Pending ∷ []) ⊎ ((writing ≡ []) ×
 pub record IsReadIdle (v w : View) : Type 0 where
   pub reading : List Step
   pub reads : IsRun v reading w
-  pub no_input : Reads v reading
+  pub no_input : ReadsNothing v reading
 
 -- Nothing more can be done for the service and the input of a connection that goes on: what it needs was tried, and then the
 -- input.
@@ -188,37 +188,37 @@ pub record Ends (v w : View) (result : Result Unit UpgradeError) : Type 0 where
   pub run : IsRun v steps w
   pub ended : Ended w steps result
 
-abbrev pub TurnSays : View → View → Turn → Type 0
+abbrev pub TurnSays : View → View → UpgradeTurn → Type 0
 TurnSays v w Counted = Progress v w 1
 TurnSays v w Idle = IsStuck v w
 TurnSays v w (Over result) = Ends v w result
 
 -- after the writing
-abbrev pub AfterSays : View → View → Turn → Type 0
+abbrev pub AfterSays : View → View → UpgradeTurn → Type 0
 AfterSays v w Counted = Progress v w 1
 AfterSays v w Idle = IsHeld v w ⊎ ((closes v ≡ false) × IsIdle v w)
 AfterSays v w (Over result) = Ends v w result
 
 -- where the connection doesn't close
-abbrev pub ServeSays : View → View → Turn → Type 0
+abbrev pub ServeSays : View → View → UpgradeTurn → Type 0
 ServeSays v w Counted = Progress v w 1
 ServeSays v w Idle = IsIdle v w
 ServeSays v w (Over result) = Ends v w result
 
 -- where the input is read
-abbrev pub ReadingSays : View → View → Turn → Type 0
+abbrev pub ReadingSays : View → View → UpgradeTurn → Type 0
 ReadingSays v w Counted = Progress v w 1
 ReadingSays v w Idle = IsReadIdle v w
 ReadingSays v w (Over result) = Ends v w result
 
 -- where an event comes in any case
-abbrev pub EndSays : View → View → Turn → Type 0
+abbrev pub EndSays : View → View → UpgradeTurn → Type 0
 EndSays v w Counted = Progress v w 1
 EndSays v w Idle = ⊥
 EndSays v w (Over result) = Ends v w result
 
 -- this holds where nothing more can be done
-abbrev pub OnIdle : Turn → Type 0 → Type 0
+abbrev pub OnIdle : UpgradeTurn → Type 0 → Type 0
 OnIdle Counted P = ⊤
 OnIdle Idle P = P
 OnIdle (Over result) P = ⊤

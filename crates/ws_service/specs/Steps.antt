@@ -11,7 +11,7 @@ use Rattle.ws_frames.specs.declared.message.Message.{Message}
 use Rattle.model_state.specs.Local.{closing_by}
 use Rattle.model_h1.specs.Event as on
 use Rattle.h1_connection.specs.Heads.{SaysNext}
-use Rattle.h1_connection.specs.Meaning.{setting_of, end_of, SaysOutcome}
+use Rattle.h1_connection.specs.EventMeaning.{setting_of, end_of, SaysOutcome}
 use Rattle.h1_connection.specs.State.{Is}
 use Rattle.h1_connection.specs.Ticks.{expiry_of}
 use Rattle.h1_connection.specs.declared.connection.heads.NextHead.{NextHead}
@@ -25,8 +25,8 @@ use Rattle.ws_service.specs.declared.item.UpgradeItem.{UpgradeItem}
 use Rattle.ws_service.specs.declared.item.UpgradeItem.TheVariants as items
 use Rattle.ws_service.specs.declared.dispatcher.Ending.{Ending}
 use Rattle.ws_service.specs.declared.dispatcher.Ending.TheVariants.{Closed, Abandoned, Broken}
-use Rattle.ws_service.specs.declared.dispatcher.serve.Given.{Given}
-use Rattle.ws_service.specs.declared.dispatcher.serve.Given.TheVariants.{Frame, Nothing, Other}
+use Rattle.ws_service.specs.declared.dispatcher.serve_frames.Given.{Given}
+use Rattle.ws_service.specs.declared.dispatcher.serve_frames.Given.TheVariants.{Frame, Nothing, Other}
 use Rattle.ws_service.specs.View.{View, Upgrading, Stage, free, waiting, calling, sending, with_drain, closes, allows, allows_next, allows_pull, buffered, room}
 
 -- A step. A moment came; the drain came; the transport was given what waits to be written; it was asked for bytes, and these came;

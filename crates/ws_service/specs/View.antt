@@ -9,7 +9,7 @@ use Rattle.model_state.specs.Local.{closing_by, allowed_by}
 use Rattle.model_h1.specs.Event as on
 use Rattle.model_h1.specs.Frame as said
 use Rattle.h1_connection.specs.Given.{next_allowed, frame_allowed}
-use Rattle.h1_connection.specs.Meaning.{setting_of}
+use Rattle.h1_connection.specs.EventMeaning.{setting_of}
 use Rattle.h1_connection.specs.Steps.{Pair}
 use Rattle.h1_traced.specs.Traced.{TracedView, traced_of}
 use Rattle.ws_service.specs.declared.item.UpgradeItem.{UpgradeItem}

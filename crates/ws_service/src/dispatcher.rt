@@ -1,7 +1,7 @@
 //! A service over an upgraded connection, and what it keeps.
 ghost use Rattle.std.specs.Prelude.{◌≡◌};
 ghost use Rattle.model_state.specs.Deadline.{deadline_by};
-ghost use Rattle.h1_connection.specs.Meaning.{setting_of};
+ghost use Rattle.h1_connection.specs.EventMeaning.{setting_of};
 ghost use Rattle.h1_traced.specs.Traced.{traced_of};
 ghost use Rattle.ws_service.specs.View.{view_of, view_begun, with_drain, parts_of, MayBePolled};
 
@@ -16,8 +16,8 @@ use http_types::{Error, Request};
 mod begin;
 mod poll;
 mod read;
-mod serve;
-mod turns;
+mod serve_frames;
+mod upgrade_turns;
 mod write;
 
 /// How an upgraded connection has ended: nothing more is asked of it.
@@ -134,7 +134,7 @@ where
 
 /// What a turn came to.
 #[derive(Drop)]
-enum Turn {
+enum UpgradeTurn {
     /// A step was noted; another turn may do more.
     Counted,
 

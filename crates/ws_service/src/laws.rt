@@ -7,7 +7,7 @@ ghost use Rattle.http_config.specs.declared.Failed.{Failed};
 ghost use Rattle.http_types.specs.Request.{RequestParts};
 ghost use Rattle.http_transport.specs.Wiring.{Wiring};
 ghost use Rattle.model_h1.specs.Sums as sums;
-ghost use Rattle.h1_connection.specs.Meaning.{setting_of};
+ghost use Rattle.h1_connection.specs.EventMeaning.{setting_of};
 ghost use Rattle.h1_traced.specs.Traced.{TracedView, TracedStands};
 ghost use Rattle.ws_service.specs.declared.error.UpgradeError.{UpgradeError};
 ghost use Rattle.ws_service.specs.View.{View, Upgrading, closes, view_begun};

@@ -10,7 +10,7 @@ use Rattle.ws_frames.specs.Codec.{frame_says}
 use Rattle.ws_frames.specs.declared.error.ProtocolError.{ProtocolError}
 use Rattle.ws_frames.specs.declared.error.ProtocolError.TheVariants as errors
 use Rattle.ws_frames.specs.Fronts.{IsFrontError}
-use Rattle.ws_frames.specs.Pieces.{AreFrames}
+use Rattle.ws_frames.specs.FramePieces.{AreFrames}
 use Rattle.ws_frames.specs.Refusal.{refusal}
 use Rattle.ws_session.specs.Session.{SessionParts, with_unread, reader_of, front_of, behind_frame, HasGiven, HasFailed, NextSays, FramesSays}
 

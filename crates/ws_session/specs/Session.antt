@@ -7,7 +7,7 @@ use Rattle.ws_frames.specs.declared.error.ProtocolError.TheVariants as errors
 use Rattle.ws_frames.specs.declared.message.Frame.{Frame}
 use Rattle.ws_frames.specs.Codec.{frame_says}
 use Rattle.ws_frames.specs.Fronts.{early_reader, IsFrontError}
-use Rattle.ws_frames.specs.Pieces.{AreFrames}
+use Rattle.ws_frames.specs.FramePieces.{AreFrames}
 use Rattle.ws_frames.specs.Refusal.{refusal}
 
 -- who reads, the most bytes of a payload, whether a message in fragments is under way, and the bytes that aren't read yet

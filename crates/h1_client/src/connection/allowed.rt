@@ -6,7 +6,7 @@ ghost use Rattle.model_client.specs.ClientEvent as on;
 ghost use Rattle.model_client.specs.ClientKept.{client_allows, client_closing, is_dropped, is_moment, can_be_sent, can_be_framed, lacks_length, states_length};
 ghost use Rattle.model_client.specs.RequestText.{asked_shape};
 ghost use Rattle.h1_encoder.specs.RequestMeaning.{asked_minor};
-ghost use Rattle.h1_client.specs.Meaning.{setting_of, request_of};
+ghost use Rattle.h1_client.specs.ClientMeaning.{setting_of, request_of};
 ghost use Rattle.h1_client.specs.Parts.{kept_of, IsSound};
 
 use crate::connection::parts::Parts;

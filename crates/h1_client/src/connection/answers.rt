@@ -13,7 +13,7 @@ ghost use Rattle.model_client.specs.ClientKept.{Waiting, client_closing, is_free
 ghost use Rattle.model_client.specs.ClientStep.{behind_answer, behind_final, fault_end};
 ghost use Rattle.h1_client.specs.Answers.{IsNexted, IsAnswered, IsBegun, NeedsNoMemory};
 ghost use Rattle.h1_client.specs.Incoming.{place_in};
-ghost use Rattle.h1_client.specs.Meaning.{setting_of, end_of};
+ghost use Rattle.h1_client.specs.ClientMeaning.{setting_of, end_of};
 ghost use Rattle.h1_client.specs.Parts.{kept_of, IsFirst, IsSettledAs, IsSound};
 
 use crate::connection::bodies::Reading;

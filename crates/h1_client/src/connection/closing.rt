@@ -2,7 +2,7 @@
 ghost use Rattle.std.specs.Prelude.{◌≡◌, ◌&&◌, not, None, option_map};
 ghost use Rattle.model_client.specs.ClientKept.{client_closing, is_free, is_waited_for, has_bytes, is_reusable};
 ghost use Rattle.h1_client.specs.Closing.{closing_if_free};
-ghost use Rattle.h1_client.specs.Meaning.{end_of};
+ghost use Rattle.h1_client.specs.ClientMeaning.{end_of};
 ghost use Rattle.h1_client.specs.Parts.{kept_of};
 
 use crate::ClientEnd;

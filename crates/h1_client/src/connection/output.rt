@@ -6,7 +6,7 @@ ghost use Rattle.model_h1.specs.Limits.{MAX_MOMENT};
 ghost use Rattle.model_client.specs.RequestText.{request_text, asked_shape};
 ghost use Rattle.model_client.specs.ClientStep.{piece_of};
 ghost use Rattle.h1_encoder.specs.RequestMeaning.{asked_head, has_text};
-ghost use Rattle.h1_client.specs.Meaning.{marked_type};
+ghost use Rattle.h1_client.specs.ClientMeaning.{marked_type};
 
 use bytes::BytesMut;
 use h1_encoder::{Asked, Shape, put_end, put_piece, put_request_head};

@@ -3,7 +3,7 @@ ghost use Rattle.std.specs.Prelude.{◌≡◌, ◌-◌, ℕ, List, length, optio
 ghost use Rattle.h1_encoder.specs.Meaning.{size_of};
 ghost use Rattle.model_client.specs.ClientEvent as on;
 ghost use Rattle.model_client.specs.ClientKept.{client_allows, client_closing, is_reusable};
-ghost use Rattle.h1_client.specs.Meaning.{setting_of, request_of, end_of};
+ghost use Rattle.h1_client.specs.ClientMeaning.{setting_of, request_of, end_of};
 
 use crate::ClientEnd;
 use crate::connection::ClientConnection;

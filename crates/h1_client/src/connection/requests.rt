@@ -11,7 +11,7 @@ ghost use Rattle.model_client.specs.ClientEvent as on;
 ghost use Rattle.model_client.specs.ClientKept.{waiting_of, is_last};
 ghost use Rattle.model_client.specs.ClientStep.{begun_body, piece_of};
 ghost use Rattle.h1_encoder.specs.RequestMeaning.{has_text};
-ghost use Rattle.h1_client.specs.Meaning.{request_of};
+ghost use Rattle.h1_client.specs.ClientMeaning.{request_of};
 ghost use Rattle.h1_client.specs.Requests.{SendsNoPiece, SendsNoEnd};
 ghost use Rattle.h1_client.specs.Parts.{kept_of, sending_of, IsSound, Steps};
 

@@ -3,7 +3,7 @@ ghost use Rattle.std.specs.Prelude.{◌≡◌, ◌≤◌, ◌<◌, length, take,
 ghost use Rattle.model_h1.specs.Limits.{MAX_MOMENT};
 ghost use Rattle.model_h1.specs.Setting.{Setting};
 ghost use Rattle.model_client.specs.ClientEvent as on;
-ghost use Rattle.h1_client.specs.Meaning.{setting_of};
+ghost use Rattle.h1_client.specs.ClientMeaning.{setting_of};
 ghost use Rattle.h1_client.specs.Parts.{kept_of, IsSound, Steps};
 
 use crate::connection::parts::Parts;

@@ -7,7 +7,7 @@ ghost use Rattle.model_h1.specs.Limits.{MAX_FRAME_HEAD};
 ghost use Rattle.model_state.specs.Kept.{of_exchange, is_frames, is_unanswered, is_answered, is_upgraded};
 ghost use Rattle.model_state.specs.Local.{closing_by, allowed_by, has_body_left, waits_for_answer, is_answering, is_moment};
 ghost use Rattle.h1_connection.specs.Given.{next_allowed, frame_allowed};
-ghost use Rattle.h1_connection.specs.Meaning.{setting_of, event_of};
+ghost use Rattle.h1_connection.specs.EventMeaning.{setting_of, event_of};
 ghost use Rattle.h1_connection.specs.Parts.{kept_of, reply_of, IsSound};
 
 use crate::Event;

@@ -11,7 +11,7 @@ ghost use Rattle.model_state.specs.Local.{waits_for_answer};
 ghost use Rattle.model_state.specs.Body.{passing};
 ghost use Rattle.model_state.specs.Reply.{stated, short_end};
 ghost use Rattle.model_state.specs.After.{marks_after};
-ghost use Rattle.h1_connection.specs.Meaning.{setting_of, end_of, keep_alive_of};
+ghost use Rattle.h1_connection.specs.EventMeaning.{setting_of, end_of, keep_alive_of};
 ghost use Rattle.h1_connection.specs.Unsent.{SendsNoPiece, SendsNoEnd};
 ghost use Rattle.h1_connection.specs.Parts.{kept_of, HasNoneBehind, asked_in, sending_in, replied, completed, IsSettled, IsSound, Steps};
 

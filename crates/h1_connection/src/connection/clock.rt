@@ -2,7 +2,7 @@
 ghost use Rattle.std.specs.Prelude.{◌≡◌, unwrap_or, Some};
 ghost use Rattle.std.specs.Option.{option_or};
 ghost use Rattle.model_h1.specs.OutcomeTable.{is_kept_too_long};
-ghost use Rattle.h1_connection.specs.Meaning.{keep_alive_of};
+ghost use Rattle.h1_connection.specs.EventMeaning.{keep_alive_of};
 
 use http_types::KeepAlive;
 

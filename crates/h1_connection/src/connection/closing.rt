@@ -5,7 +5,7 @@ ghost use Rattle.model_h1.specs.Closing.{end_where};
 ghost use Rattle.model_h1.specs.End as ends;
 ghost use Rattle.model_state.specs.Kept.{of_exchange, is_open, is_upgraded};
 ghost use Rattle.model_state.specs.Local.{closing_by, answered_end, drained_end, input_end, is_exhausted, has_no_frame};
-ghost use Rattle.h1_connection.specs.Meaning.{setting_of, end_of};
+ghost use Rattle.h1_connection.specs.EventMeaning.{setting_of, end_of};
 ghost use Rattle.h1_connection.specs.Parts.{kept_of, HasNoneBehind, MayBeSearched, IsSound};
 
 use crate::End;

@@ -4,7 +4,7 @@ ghost use Rattle.std.specs.Option.{option_or};
 ghost use Rattle.model_h1.specs.Deadline.{timeout_at, kept_until, still_comes};
 ghost use Rattle.model_state.specs.Local.{closing_by};
 ghost use Rattle.model_state.specs.Deadline.{abandoned_at, waits_for_first, waits_for_next, expires_at, times_out_at, deadline_by};
-ghost use Rattle.h1_connection.specs.Meaning.{setting_of, keep_alive_of};
+ghost use Rattle.h1_connection.specs.EventMeaning.{setting_of, keep_alive_of};
 ghost use Rattle.h1_connection.specs.Parts.{kept_of, MayBeSearched};
 ghost use Rattle.h1_connection.specs.Ticks.{clipped};
 

@@ -2,7 +2,7 @@
 ghost use Rattle.std.specs.Prelude.{◌≡◌, ◌||◌, false, not, None, option_map};
 ghost use Rattle.model_state.specs.Kept.{is_frames, is_nothing, is_answered, is_unanswered, is_sending_body};
 ghost use Rattle.model_state.specs.Local.{answered_end_of};
-ghost use Rattle.h1_connection.specs.Meaning.{end_of};
+ghost use Rattle.h1_connection.specs.EventMeaning.{end_of};
 ghost use Rattle.h1_connection.specs.Parts.{reply_of, exchange_of, is_done, passed_by, sending_by};
 
 use crate::End;

@@ -7,7 +7,7 @@ ghost use Rattle.model_state.specs.Kept.{is_frames, is_upgraded};
 ghost use Rattle.model_state.specs.Local.{waits_for_answer};
 ghost use Rattle.ws_frames.specs.Refusal.{refusal};
 ghost use Rattle.ws_frames.specs.Sent.{message_says, sending_after};
-ghost use Rattle.h1_connection.specs.Meaning.{end_of};
+ghost use Rattle.h1_connection.specs.EventMeaning.{end_of};
 ghost use Rattle.h1_connection.specs.Parts.{kept_of, request_in, key_or_zeros, IsSound, Steps};
 ghost use Rattle.h1_connection.specs.Pulls.{IsLightPull};
 ghost use Rattle.h1_connection.specs.Frames.{accepted_of, is_done, with_frames, is_raw_request, is_refused, SaysFrame, IsPulledNamed, frame_end, IsFrameFrom, IsLightFrame, SaysSent, sends_nothing};

@@ -11,7 +11,7 @@ ghost use Rattle.model_state.specs.Local.{closing_by};
 ghost use Rattle.model_h1.specs.Closing.{fault_end};
 ghost use Rattle.h1_decoder.specs.Refusal as decode;
 ghost use Rattle.h1_connection.specs.Stock.{IsHeadAhead, IsWholeOf};
-ghost use Rattle.h1_connection.specs.Meaning.{setting_of, end_of, fault_of, failing_of};
+ghost use Rattle.h1_connection.specs.EventMeaning.{setting_of, end_of, fault_of, failing_of};
 ghost use Rattle.h1_connection.specs.Parts.{key_bytes, kept_of, IsSettled, IsSound, Steps};
 ghost use Rattle.h1_connection.specs.Given.{is_head, is_head_kind, HasOpened};
 ghost use Rattle.h1_connection.specs.Heads.{refused, with_head, IsAsked, IsFresh, IsHeld, IsNexted, IsWaited, MayAsk, NumberGoes, KeepsItem, LosesAtMostHeaders, NeedsNoMemory};

@@ -10,7 +10,7 @@ ghost use Rattle.ws_frames.specs.Sent.{message_says};
 ghost use Rattle.model_state.specs.Reply.{piece_sent};
 ghost use Rattle.model_state.specs.Runs.{IsFirstSegment};
 ghost use Rattle.h1_output.specs.Queued.{nothing, with_text, behind, front_of, IsStretch};
-ghost use Rattle.h1_connection.specs.Meaning.{fault_of};
+ghost use Rattle.h1_connection.specs.EventMeaning.{fault_of};
 ghost use Rattle.h1_connection.specs.Sent.{with_sent, with_chunk, accepting_text};
 
 use crate::HeadFault;

@@ -4,7 +4,7 @@ ghost use Rattle.http_config.specs.Config.{Settings};
 ghost use Rattle.model_state.specs.Kept.{fresh, is_free, is_open, is_upgraded};
 ghost use Rattle.model_state.specs.Body.{passing};
 ghost use Rattle.model_state.specs.Change.{noting_since};
-ghost use Rattle.h1_connection.specs.Meaning.{setting_of};
+ghost use Rattle.h1_connection.specs.EventMeaning.{setting_of};
 ghost use Rattle.h1_connection.specs.Parts.{kept_of, MayBeSearched, IsSearchedFor, IsSettled, IsSound};
 
 use crate::End;

@@ -7,7 +7,7 @@ ghost use Rattle.model_h1.specs.Event as on;
 ghost use Rattle.model_h1.specs.Frame.{Message};
 ghost use Rattle.model_state.specs.Local.{closing_by, allowed_by};
 ghost use Rattle.model_state.specs.Deadline.{deadline_by};
-ghost use Rattle.h1_connection.specs.Meaning.{setting_of};
+ghost use Rattle.h1_connection.specs.EventMeaning.{setting_of};
 ghost use Rattle.h1_connection.specs.Given.{next_allowed, frame_allowed};
 ghost use Rattle.h1_connection.specs.State.{IsAllowed, Stands};
 

@@ -7,7 +7,7 @@ ghost use Rattle.model_state.specs.Pull.{IsPull};
 ghost use Rattle.model_state.specs.Pull as pulls;
 ghost use Rattle.h1_payload.specs.Rests.{IsPulled, IsLight};
 ghost use Rattle.h1_connection.specs.Frames.{IsFramePulled, IsLightFrame};
-ghost use Rattle.h1_connection.specs.Meaning.{end_of};
+ghost use Rattle.h1_connection.specs.EventMeaning.{end_of};
 
 use crate::End;
 use crate::connection::frames::PulledFrame;

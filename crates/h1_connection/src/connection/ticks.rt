@@ -7,7 +7,7 @@ ghost use Rattle.model_h1.specs.Event as on;
 ghost use Rattle.model_state.specs.Kept.{is_answered, is_nothing, of_exchange};
 ghost use Rattle.model_state.specs.Local.{closing_by};
 ghost use Rattle.model_state.specs.Clock.{is_abandoned, is_slow, is_idle, expiring};
-ghost use Rattle.h1_connection.specs.Meaning.{setting_of};
+ghost use Rattle.h1_connection.specs.EventMeaning.{setting_of};
 ghost use Rattle.h1_connection.specs.Parts.{kept_of, MayBeSearched, IsSound, Steps};
 ghost use Rattle.h1_connection.specs.Ticks.{expiry_of, IsQuietTick};
 

@@ -7,7 +7,7 @@ ghost use Rattle.h1_traced.specs.Traced.{TracedStands};
 ghost use Rattle.h1_dispatcher.specs.View.{view_of, stage_of, is_calling, is_replying, MayBePolled, allows, allows_answer};
 ghost use Rattle.h1_dispatcher.specs.Polls.{OnIdle, ServeSays, EndSays, StepSays, Handed};
 
-use crate::dispatcher::{Dispatcher, Ending, Turn, Work};
+use crate::dispatcher::{Dispatcher, DispatcherTurn, Ending, Work};
 use futures::task::{Context, Poll};
 use h1_traced::Recorder;
 use http_bodies::MessageBody;
@@ -25,7 +25,7 @@ where
     L: Recorder,
 {
     /// Polls the call in progress, and hands its answer on; or else feeds the queue of its body, or reads.
-    pub(super) fn answer(&mut self, cx: &mut Context<'_>) -> Turn
+    pub(super) fn answer(&mut self, cx: &mut Context<'_>) -> DispatcherTurn
         requires open { MayBePolled S.calling self.old }
         requires running { self.old.ending ≡ None }
         requires allowed { allows_answer (view_of T.wiring S.served S.calling B.gives L.noted self.old) ≡ true }
@@ -52,7 +52,7 @@ where
     }
 
     /// Drops what is left of the request's body, and hands the answer on.
-    pub(super) fn hand_on(&mut self) -> Turn
+    pub(super) fn hand_on(&mut self) -> DispatcherTurn
         requires open { MayBePolled S.calling self.old }
         requires running { self.old.ending ≡ None }
         requires allowed { allows_answer (view_of T.wiring S.served S.calling B.gives L.noted self.old) ≡ true }
@@ -68,13 +68,13 @@ where
             Ok(()) => self.put_reply_if_allowed(),
             Err(_) => {
                 self.ending = Some(Ending::Broken);
-                Turn::Over(Err(DispatchError::NoMemory))
+                DispatcherTurn::Over(Err(DispatchError::NoMemory))
             }
         }
     }
 
     /// After the drop nothing more may be dropped, and the answer is allowed still, as the next turn would see.
-    fn put_reply_if_allowed(&mut self) -> Turn
+    fn put_reply_if_allowed(&mut self) -> DispatcherTurn
         requires open { MayBePolled S.calling self.old }
         requires running { self.old.ending ≡ None }
         requires answered { is_replying (stage_of S.calling B.gives self.old.work) ≡ true }
@@ -83,17 +83,17 @@ where
         ensures open { MayBePolled S.calling self.new }
     {
         if self.traced.connection().can_pull() {
-            return Turn::Counted;
+            return DispatcherTurn::Counted;
         }
         if !self.traced.connection().can_answer() {
-            return Turn::Counted;
+            return DispatcherTurn::Counted;
         }
         self.put_reply()
     }
 
     /// Hands the answer on to the connection; its body goes out from then on, unless it has none. Nothing is left of the
     /// request's body that may be dropped, and what waits of it is let go.
-    fn put_reply(&mut self) -> Turn
+    fn put_reply(&mut self) -> DispatcherTurn
         requires open { MayBePolled S.calling self.old }
         requires running { self.old.ending ≡ None }
         requires allowed { allows_answer (view_of T.wiring S.served S.calling B.gives L.noted self.old) ≡ true }
@@ -112,17 +112,17 @@ where
                 self.queue = Payload::create(self.alloc, true);
                 if size.is_eof() {
                     self.work = Work::Free;
-                    return Turn::Counted;
+                    return DispatcherTurn::Counted;
                 }
                 let Work::Replying(response) = mem::replace(&mut self.work, Work::Free) else {
                     unreachable!()
                 };
                 self.work = Work::Sending(response.into_body());
-                Turn::Counted
+                DispatcherTurn::Counted
             }
             Err(_) => {
                 self.ending = Some(Ending::Broken);
-                Turn::Over(Err(DispatchError::NoMemory))
+                DispatcherTurn::Over(Err(DispatchError::NoMemory))
             }
         }
     }

@@ -8,7 +8,7 @@ ghost use Rattle.h1_dispatcher.specs.Steps.{Wants, error_of};
 ghost use Rattle.h1_dispatcher.specs.Polls.{OnIdle, FeedingSays};
 
 use crate::dispatcher::read::wake;
-use crate::dispatcher::{Dispatcher, Ending, Turn};
+use crate::dispatcher::{Dispatcher, DispatcherTurn, Ending};
 use futures::task::Context;
 use h1_connection::{BodyFault, Pulled};
 use h1_traced::Recorder;
@@ -26,7 +26,7 @@ where
     L: Recorder,
 {
     /// Feeds the queue of the open request's body, where it wants more, or else reads.
-    pub(super) fn feed(&mut self, cx: &mut Context<'_>) -> Turn
+    pub(super) fn feed(&mut self, cx: &mut Context<'_>) -> DispatcherTurn
         requires open { MayBePolled S.calling self.old }
         requires running { self.old.ending ≡ None }
         requires allowed { allows_answer (view_of T.wiring S.served S.calling B.gives L.noted self.old) ≡ true }
@@ -50,7 +50,7 @@ where
 
     /// Feeds the queue, or else reads, where what waits to be written has to go out before anything else: it was tried, unless
     /// nothing waits that may be written.
-    pub(super) fn feed_beside(&mut self, cx: &mut Context<'_>) -> Turn
+    pub(super) fn feed_beside(&mut self, cx: &mut Context<'_>) -> DispatcherTurn
         requires open { MayBePolled S.calling self.old }
         requires running { self.old.ending ≡ None }
         requires allowed { allows_answer (view_of T.wiring S.served S.calling B.gives L.noted self.old) ≡ true }
@@ -72,7 +72,7 @@ where
     }
 
     /// Asks for another poll, and feeds the queue, or else reads.
-    fn feed_woken(&mut self, cx: &mut Context<'_>) -> Turn
+    fn feed_woken(&mut self, cx: &mut Context<'_>) -> DispatcherTurn
         requires open { MayBePolled S.calling self.old }
         requires running { self.old.ending ≡ None }
         requires allowed { allows_answer (view_of T.wiring S.served S.calling B.gives L.noted self.old) ≡ true }
@@ -83,7 +83,7 @@ where
         ensures registered { OnIdle result (IsArmed cx.new) }
         ensures kept { Keeps cx.old cx.new }
     {
-        let _: Turn = wake(cx);
+        let _: DispatcherTurn = wake(cx);
         self.feed(cx)
     }
 
@@ -100,7 +100,7 @@ where
     }
 
     /// Asks for more of the body, and feeds the queue with what comes; where nothing does it reads.
-    fn pull(&mut self, cx: &mut Context<'_>) -> Turn
+    fn pull(&mut self, cx: &mut Context<'_>) -> DispatcherTurn
         requires open { MayBePolled S.calling self.old }
         requires wants { Wants (view_of T.wiring S.served S.calling B.gives L.noted self.old) }
         requires armed { IsArmed cx.old }
@@ -112,27 +112,27 @@ where
         match self.traced.pull() {
             Ok(Pulled::Pending) => self.read_on(cx),
             Ok(Pulled::Bytes(bytes)) => match self.queue.sender().feed_data(bytes) {
-                Ok(()) => Turn::Counted,
+                Ok(()) => DispatcherTurn::Counted,
                 Err(_) => {
                     self.ending = Some(Ending::Broken);
-                    Turn::Over(Err(DispatchError::NoMemory))
+                    DispatcherTurn::Over(Err(DispatchError::NoMemory))
                 }
             },
             Ok(Pulled::Trailers(trailers)) => {
                 self.queue.sender().set_trailers(trailers);
-                Turn::Counted
+                DispatcherTurn::Counted
             }
             Ok(Pulled::End) => {
                 self.queue.sender().feed_eof();
-                Turn::Counted
+                DispatcherTurn::Counted
             }
             Ok(Pulled::Broken(fault)) => {
                 self.queue.sender().set_error(error_of(fault));
-                Turn::Counted
+                DispatcherTurn::Counted
             }
             Err(_) => {
                 self.ending = Some(Ending::Broken);
-                Turn::Over(Err(DispatchError::NoMemory))
+                DispatcherTurn::Over(Err(DispatchError::NoMemory))
             }
         }
     }

@@ -5,7 +5,7 @@ ghost use Rattle.futures.specs.Task.{IsArmed, Keeps};
 ghost use Rattle.h1_dispatcher.specs.View.{view_of, is_broken, MayBePolled};
 ghost use Rattle.h1_dispatcher.specs.Polls.{PollSays, TurnsSay};
 
-use crate::dispatcher::{Dispatcher, Ending, Turn};
+use crate::dispatcher::{Dispatcher, DispatcherTurn, Ending};
 use futures::task::{Context, Poll};
 use h1_traced::Recorder;
 use http_bodies::MessageBody;
@@ -84,9 +84,9 @@ where
     {
         for turn in 0..64_u32 {
             match self.turn(cx) {
-                Turn::Counted => {}
-                Turn::Idle => return Poll::Pending,
-                Turn::Over(result) => return Poll::Ready(result),
+                DispatcherTurn::Counted => {}
+                DispatcherTurn::Idle => return Poll::Pending,
+                DispatcherTurn::Over(result) => return Poll::Ready(result),
             }
         }
         cx.yield_now()

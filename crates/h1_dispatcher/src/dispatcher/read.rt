@@ -4,9 +4,9 @@ ghost use Rattle.futures.specs.Task.{IsArmed, Keeps};
 ghost use Rattle.model_h1.specs.Event as on;
 ghost use Rattle.h1_dispatcher.specs.View.{view_of, MayBePolled, HasNoOutput, allows, room};
 ghost use Rattle.h1_dispatcher.specs.Polls.{OnIdle, ReadingSays};
-ghost use Rattle.h1_dispatcher.specs.declared.dispatcher.Turn.TheVariants.{Idle};
+ghost use Rattle.h1_dispatcher.specs.declared.dispatcher.DispatcherTurn.TheVariants.{Idle};
 
-use crate::dispatcher::{Dispatcher, Ending, Turn};
+use crate::dispatcher::{Dispatcher, DispatcherTurn, Ending};
 use futures::task::{Context, Poll};
 use h1_connection::READ_SIZE;
 use h1_traced::Recorder;
@@ -28,7 +28,7 @@ where
     L: Recorder,
 {
     /// Reads, where nothing else was pending.
-    pub(super) fn read_alone(&mut self, cx: &mut Context<'_>) -> Turn
+    pub(super) fn read_alone(&mut self, cx: &mut Context<'_>) -> DispatcherTurn
         requires open { MayBePolled S.calling self.old }
         requires running { self.old.ending ≡ None }
         ensures says { ReadingSays (view_of T.wiring S.served S.calling B.gives L.noted self.old) (view_of T.wiring S.served S.calling B.gives L.noted self.new) result }
@@ -47,7 +47,7 @@ where
     }
 
     /// Reads, where something else was pending.
-    pub(super) fn read_on(&mut self, cx: &mut Context<'_>) -> Turn
+    pub(super) fn read_on(&mut self, cx: &mut Context<'_>) -> DispatcherTurn
         requires open { MayBePolled S.calling self.old }
         requires running { self.old.ending ≡ None }
         requires armed { IsArmed cx.old }
@@ -58,17 +58,17 @@ where
     {
         let room = self.traced.connection().read_room();
         if room == 0 {
-            return Turn::Idle;
+            return DispatcherTurn::Idle;
         }
         if !self.traced.connection().can_read() {
-            return Turn::Idle;
+            return DispatcherTurn::Idle;
         }
         self.read_up_to(room, cx)
     }
 
     /// Reads, where what waits to be written has to go out before anything else: it was tried, unless nothing waits that may
     /// be written.
-    pub(super) fn read_beside(&mut self, cx: &mut Context<'_>) -> Turn
+    pub(super) fn read_beside(&mut self, cx: &mut Context<'_>) -> DispatcherTurn
         requires open { MayBePolled S.calling self.old }
         requires running { self.old.ending ≡ None }
         requires armed { HasNoOutput (view_of T.wiring S.served S.calling B.gives L.noted self.old) ⊎ IsArmed cx.old }
@@ -88,7 +88,7 @@ where
 
     /// Reads at most so many bytes. Room for few of them serves until a read fills it: all the room that is lent is cleared
     /// before, and mostly few bytes come.
-    fn read_up_to(&mut self, limit: usize, cx: &mut Context<'_>) -> Turn
+    fn read_up_to(&mut self, limit: usize, cx: &mut Context<'_>) -> DispatcherTurn
         requires open { MayBePolled S.calling self.old }
         requires running { self.old.ending ≡ None }
         requires some { 0 < limit }
@@ -108,7 +108,7 @@ where
     }
 
     /// Reads at most so many bytes, with room for `READ_SIZE`.
-    fn read_many(&mut self, limit: usize, cx: &mut Context<'_>) -> Turn
+    fn read_many(&mut self, limit: usize, cx: &mut Context<'_>) -> DispatcherTurn
         requires open { MayBePolled S.calling self.old }
         requires running { self.old.ending ≡ None }
         requires some { 0 < limit }
@@ -125,7 +125,7 @@ where
     }
 
     /// Reads as many bytes as there are, at most what fits.
-    fn read(&mut self, buf: &mut [u8], cx: &mut Context<'_>) -> Turn
+    fn read(&mut self, buf: &mut [u8], cx: &mut Context<'_>) -> DispatcherTurn
         requires open { MayBePolled S.calling self.old }
         requires running { self.old.ending ≡ None }
         requires some { 0 < length buf.old }
@@ -138,22 +138,22 @@ where
         ensures kept { Keeps cx.old cx.new }
     {
         match self.transport.poll_read(buf, cx) {
-            Poll::Pending => Turn::Idle,
-            Poll::Ready(Err(Failed)) => Turn::Over(Err(DispatchError::Io)),
+            Poll::Pending => DispatcherTurn::Idle,
+            Poll::Ready(Err(Failed)) => DispatcherTurn::Over(Err(DispatchError::Io)),
             Poll::Ready(Ok(0)) => match self.traced.eof() {
-                Ok(()) => Turn::Counted,
+                Ok(()) => DispatcherTurn::Counted,
                 Err(_) => {
                     self.ending = Some(Ending::Broken);
-                    Turn::Over(Err(DispatchError::NoMemory))
+                    DispatcherTurn::Over(Err(DispatchError::NoMemory))
                 }
             },
             Poll::Ready(Ok(count)) => {
                 self.has_filled_read = count == buf.len();
                 match self.traced.read(&buf[..count]) {
-                    Ok(_) => Turn::Counted,
+                    Ok(_) => DispatcherTurn::Counted,
                     Err(_) => {
                         self.ending = Some(Ending::Broken);
-                        Turn::Over(Err(DispatchError::NoMemory))
+                        DispatcherTurn::Over(Err(DispatchError::NoMemory))
                     }
                 }
             }
@@ -162,11 +162,11 @@ where
 }
 
 /// Asks for another poll.
-pub(super) fn wake(cx: &mut Context<'_>) -> Turn
+pub(super) fn wake(cx: &mut Context<'_>) -> DispatcherTurn
     ensures idle { result ≡ Idle }
     ensures armed { IsArmed cx.new }
     ensures kept { Keeps cx.old cx.new }
 {
     let _: Poll<()> = cx.yield_now();
-    Turn::Idle
+    DispatcherTurn::Idle
 }

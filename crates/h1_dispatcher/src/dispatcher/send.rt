@@ -6,7 +6,7 @@ ghost use Rattle.futures.specs.declared.task.Poll.TheVariants.{Ready};
 ghost use Rattle.h1_dispatcher.specs.Steps.{Sent, Lacked};
 ghost use Rattle.h1_dispatcher.specs.Polls.{OnIdle, ServeSays};
 
-use crate::dispatcher::{Dispatcher, Ending, Turn, Work};
+use crate::dispatcher::{Dispatcher, DispatcherTurn, Ending, Work};
 use bytes::Bytes;
 use futures::task::{Context, Poll};
 use h1_connection::NoMemory;
@@ -27,7 +27,7 @@ where
     L: Recorder,
 {
     /// Goes on with the body that goes out, where there is room for a piece of it, or else with the input.
-    pub(super) fn send(&mut self, cx: &mut Context<'_>) -> Turn
+    pub(super) fn send(&mut self, cx: &mut Context<'_>) -> DispatcherTurn
         requires open { MayBePolled S.calling self.old }
         requires running { self.old.ending ≡ None }
         requires sends { is_sending (stage_of S.calling B.gives self.old.work) ≡ true }
@@ -44,7 +44,7 @@ where
     }
 
     /// Polls the body, and hands on what comes.
-    fn poll_body(&mut self, cx: &mut Context<'_>) -> Turn
+    fn poll_body(&mut self, cx: &mut Context<'_>) -> DispatcherTurn
         requires open { MayBePolled S.calling self.old }
         requires running { self.old.ending ≡ None }
         requires sends { is_sending (stage_of S.calling B.gives self.old.work) ≡ true }
@@ -63,20 +63,20 @@ where
                 self.read_on(cx)
             }
             Poll::Ready(None) => match self.traced.end_answer() {
-                Ok(()) => Turn::Counted,
+                Ok(()) => DispatcherTurn::Counted,
                 Err(_) => {
                     self.work = Work::Sending(body);
                     self.ending = Some(Ending::Broken);
-                    Turn::Over(Err(DispatchError::NoMemory))
+                    DispatcherTurn::Over(Err(DispatchError::NoMemory))
                 }
             },
             Poll::Ready(Some(piece)) => {
                 self.work = Work::Sending(body);
                 match self.put_piece(piece) {
-                    Ok(()) => Turn::Counted,
+                    Ok(()) => DispatcherTurn::Counted,
                     Err(_) => {
                         self.ending = Some(Ending::Broken);
-                        Turn::Over(Err(DispatchError::NoMemory))
+                        DispatcherTurn::Over(Err(DispatchError::NoMemory))
                     }
                 }
             }

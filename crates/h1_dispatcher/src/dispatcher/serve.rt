@@ -6,7 +6,7 @@ ghost use Rattle.h1_dispatcher.specs.View.{view_of, stage_of, is_busy, is_waitin
 ghost use Rattle.h1_dispatcher.specs.Steps.{is_bodyless};
 ghost use Rattle.h1_dispatcher.specs.Polls.{OnIdle, ServeSays, EndSays};
 
-use crate::dispatcher::{Dispatcher, Ending, Turn, Work};
+use crate::dispatcher::{Dispatcher, DispatcherTurn, Ending, Work};
 use futures::task::{Context, Poll};
 use h1_connection::{BodyKind, NextHead};
 use h1_traced::Recorder;
@@ -26,7 +26,7 @@ where
 {
     /// Goes on with the answer's body, or else the open request, or else the next head, where there is room for its answer
     /// and where some byte of it is there, or else the input.
-    pub(super) fn serve(&mut self, cx: &mut Context<'_>) -> Turn
+    pub(super) fn serve(&mut self, cx: &mut Context<'_>) -> DispatcherTurn
         requires open { MayBePolled S.calling self.old }
         requires running { self.old.ending ≡ None }
         requires armed { HasNoOutput (view_of T.wiring S.served S.calling B.gives L.noted self.old) ⊎ IsArmed cx.old }
@@ -67,7 +67,7 @@ where
     }
 
     /// Goes on with the open request: its answer, its call, or the service.
-    fn respond(&mut self, cx: &mut Context<'_>) -> Turn
+    fn respond(&mut self, cx: &mut Context<'_>) -> DispatcherTurn
         requires open { MayBePolled S.calling self.old }
         requires running { self.old.ending ≡ None }
         requires allowed { allows_answer (view_of T.wiring S.served S.calling B.gives L.noted self.old) ≡ true }
@@ -89,7 +89,7 @@ where
 
     /// Has the request that waits go to the service, unless it is held back, where there is room for its answer, and once its
     /// client was told to go on, if it waits for that.
-    fn admit(&mut self, cx: &mut Context<'_>) -> Turn
+    fn admit(&mut self, cx: &mut Context<'_>) -> DispatcherTurn
         requires open { MayBePolled S.calling self.old }
         requires running { self.old.ending ≡ None }
         requires allowed { allows_answer (view_of T.wiring S.served S.calling B.gives L.noted self.old) ≡ true }
@@ -115,7 +115,7 @@ where
     }
 
     /// Tells the client of the request that waits to go on.
-    pub(super) fn tell_on(&mut self) -> Turn
+    pub(super) fn tell_on(&mut self) -> DispatcherTurn
         requires open { MayBePolled S.calling self.old }
         requires running { self.old.ending ≡ None }
         requires waits { is_waiting (stage_of S.calling B.gives self.old.work) ≡ true }
@@ -126,16 +126,16 @@ where
         ensures open { MayBePolled S.calling self.new }
     {
         match self.traced.send_continue() {
-            Ok(()) => Turn::Counted,
+            Ok(()) => DispatcherTurn::Counted,
             Err(_) => {
                 self.ending = Some(Ending::Broken);
-                Turn::Over(Err(DispatchError::NoMemory))
+                DispatcherTurn::Over(Err(DispatchError::NoMemory))
             }
         }
     }
 
     /// Asks for the next head.
-    fn next(&mut self, cx: &mut Context<'_>) -> Turn
+    fn next(&mut self, cx: &mut Context<'_>) -> DispatcherTurn
         requires open { MayBePolled S.calling self.old }
         requires running { self.old.ending ≡ None }
         requires free { is_busy (stage_of S.calling B.gives self.old.work) ≡ false }
@@ -154,23 +154,23 @@ where
                 self.work = Work::Waiting(Request::new(item.head, ()));
                 self.is_holding = self.upgrades;
                 self.is_checking = self.expects;
-                Turn::Counted
+                DispatcherTurn::Counted
             }
-            Ok(NextHead::Fault(_)) => Turn::Counted,
+            Ok(NextHead::Fault(_)) => DispatcherTurn::Counted,
             Ok(NextHead::Pending) => self.read_alone(cx),
             Ok(NextHead::Closed(end)) => {
                 self.ending = Some(Ending::Closed(end));
-                Turn::Counted
+                DispatcherTurn::Counted
             }
             Err(_) => {
                 self.ending = Some(Ending::Broken);
-                Turn::Over(Err(DispatchError::NoMemory))
+                DispatcherTurn::Over(Err(DispatchError::NoMemory))
             }
         }
     }
 
     /// Begins a call with the request that waits, once the service takes one.
-    fn ask(&mut self, cx: &mut Context<'_>) -> Turn
+    fn ask(&mut self, cx: &mut Context<'_>) -> DispatcherTurn
         requires open { MayBePolled S.calling self.old }
         requires running { self.old.ending ≡ None }
         requires allowed { allows_answer (view_of T.wiring S.served S.calling B.gives L.noted self.old) ≡ true }

@@ -5,7 +5,7 @@ ghost use Rattle.h1_dispatcher.specs.View.{view_of, MayBePolled};
 ghost use Rattle.h1_dispatcher.specs.Polls.{OnIdle, TurnSays, result_of};
 ghost use Rattle.h1_dispatcher.specs.declared.dispatcher.Ending.TheVariants.{Closed};
 
-use crate::dispatcher::{Dispatcher, Ending, Turn};
+use crate::dispatcher::{Dispatcher, DispatcherTurn, Ending};
 use futures::task::{Context, Poll};
 use h1_connection::End;
 use h1_traced::Recorder;
@@ -25,7 +25,7 @@ where
 {
     /// One turn.
     #[tactic(auto, using(crate::proofs::Runs::stays_broken))]
-    pub(super) fn turn(&mut self, cx: &mut Context<'_>) -> Turn
+    pub(super) fn turn(&mut self, cx: &mut Context<'_>) -> DispatcherTurn
         requires open { MayBePolled S.calling self.old }
         ensures says { TurnSays (view_of T.wiring S.served S.calling B.gives L.noted self.old) (view_of T.wiring S.served S.calling B.gives L.noted self.new) result }
         ensures open { MayBePolled S.calling self.new }
@@ -35,13 +35,13 @@ where
         match self.ending {
             None => self.write(cx),
             Some(Ending::Closed(end)) => self.shut(end, cx),
-            Some(Ending::Abandoned) => Turn::Over(Err(DispatchError::DisconnectTimeout)),
-            Some(Ending::Broken) => Turn::Over(Err(DispatchError::NoMemory)),
+            Some(Ending::Abandoned) => DispatcherTurn::Over(Err(DispatchError::DisconnectTimeout)),
+            Some(Ending::Broken) => DispatcherTurn::Over(Err(DispatchError::NoMemory)),
         }
     }
 
     /// Shuts the transport down.
-    fn shut(&mut self, end: End, cx: &mut Context<'_>) -> Turn
+    fn shut(&mut self, end: End, cx: &mut Context<'_>) -> DispatcherTurn
         requires open { MayBePolled S.calling self.old }
         requires ended { self.old.ending ≡ Some (Closed end) }
         ensures says { TurnSays (view_of T.wiring S.served S.calling B.gives L.noted self.old) (view_of T.wiring S.served S.calling B.gives L.noted self.new) result }
@@ -50,9 +50,9 @@ where
         ensures kept { Keeps cx.old cx.new }
     {
         match self.transport.poll_shutdown(cx) {
-            Poll::Pending => Turn::Idle,
-            Poll::Ready(Err(Failed)) => Turn::Over(Err(DispatchError::Io)),
-            Poll::Ready(Ok(())) => Turn::Over(result_of_end(end)),
+            Poll::Pending => DispatcherTurn::Idle,
+            Poll::Ready(Err(Failed)) => DispatcherTurn::Over(Err(DispatchError::Io)),
+            Poll::Ready(Ok(())) => DispatcherTurn::Over(result_of_end(end)),
         }
     }
 }

@@ -3,12 +3,12 @@ ghost use Rattle.std.specs.Prelude.{◌≡◌, ◌&&◌, None, true, IfOk, optio
 ghost use Rattle.std.specs.Option.{option_copied};
 ghost use Rattle.futures.specs.Task.{IsArmed, Keeps};
 ghost use Rattle.model_h1.specs.Event as on;
-ghost use Rattle.h1_connection.specs.Meaning.{failing_of};
+ghost use Rattle.h1_connection.specs.EventMeaning.{failing_of};
 ghost use Rattle.h1_dispatcher.specs.View.{view_of, stage_of, waiting, is_waiting, is_held, is_offered, may_accept, with_holds, with_release, allows, allows_answer, MayBePolled};
 ghost use Rattle.h1_dispatcher.specs.Upgrades.{refusal_of, held_in, Accepts, AcceptSays};
 ghost use Rattle.h1_dispatcher.specs.Polls.{OnIdle, ServeSays};
 
-use crate::dispatcher::{Dispatcher, Turn, Work};
+use crate::dispatcher::{Dispatcher, DispatcherTurn, Work};
 use futures::task::Context;
 use h1_connection::{Event, HandshakeError, NoMemory, Outcome};
 use h1_traced::{Recorder, Traced};
@@ -205,7 +205,7 @@ where
 
     /// Tells the client of a request that is held back to go on, if it waits for that, isn't held back itself, and there is
     /// room; or else reads.
-    pub(super) fn hold(&mut self, cx: &mut Context<'_>) -> Turn
+    pub(super) fn hold(&mut self, cx: &mut Context<'_>) -> DispatcherTurn
         requires open { MayBePolled S.calling self.old }
         requires running { self.old.ending ≡ None }
         requires allowed { allows_answer (view_of T.wiring S.served S.calling B.gives L.noted self.old) ≡ true }
@@ -231,7 +231,7 @@ where
     }
 
     /// Reads, or asks for another poll where nothing may be read.
-    fn wait_held(&mut self, cx: &mut Context<'_>) -> Turn
+    fn wait_held(&mut self, cx: &mut Context<'_>) -> DispatcherTurn
         requires open { MayBePolled S.calling self.old }
         requires running { self.old.ending ≡ None }
         requires allowed { allows_answer (view_of T.wiring S.served S.calling B.gives L.noted self.old) ≡ true }

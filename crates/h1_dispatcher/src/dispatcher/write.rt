@@ -3,12 +3,12 @@ ghost use Rattle.std.specs.Prelude.{◌≡◌, ◌<◌, ◌⊎◌, ℕ, Some, No
 ghost use Rattle.futures.specs.Task.{IsArmed, Keeps};
 ghost use Rattle.model_state.specs.Local.{closing_by};
 ghost use Rattle.model_h1.specs.Event as on;
-ghost use Rattle.h1_connection.specs.Meaning.{setting_of, end_of};
+ghost use Rattle.h1_connection.specs.EventMeaning.{setting_of, end_of};
 ghost use Rattle.h1_dispatcher.specs.View.{view_of, MayBePolled, allows, allows_next, buffered, HasNoOutput};
 ghost use Rattle.h1_dispatcher.specs.Polls.{OnIdle, TurnSays, AfterSays, EndSays};
 
 use crate::dispatcher::read::wake;
-use crate::dispatcher::{Dispatcher, Ending, Turn};
+use crate::dispatcher::{Dispatcher, DispatcherTurn, Ending};
 use futures::task::{Context, Poll};
 use h1_connection::End;
 use h1_traced::Recorder;
@@ -27,7 +27,7 @@ where
     L: Recorder,
 {
     /// Writes what waits, and goes on where nothing does or the transport takes none of it.
-    pub(super) fn write(&mut self, cx: &mut Context<'_>) -> Turn
+    pub(super) fn write(&mut self, cx: &mut Context<'_>) -> DispatcherTurn
         requires open { MayBePolled S.calling self.old }
         requires running { self.old.ending ≡ None }
         ensures says { TurnSays (view_of T.wiring S.served S.calling B.gives L.noted self.old) (view_of T.wiring S.served S.calling B.gives L.noted self.new) result }
@@ -45,7 +45,7 @@ where
     }
 
     /// Gives the transport what waits.
-    fn give(&mut self, cx: &mut Context<'_>) -> Turn
+    fn give(&mut self, cx: &mut Context<'_>) -> DispatcherTurn
         requires open { MayBePolled S.calling self.old }
         requires running { self.old.ending ≡ None }
         requires some { 0 < length (buffered (view_of T.wiring S.served S.calling B.gives L.noted self.old)) }
@@ -60,19 +60,19 @@ where
             .poll_write(self.traced.connection().stretch(), cx)
         {
             Poll::Pending => self.go_on(cx),
-            Poll::Ready(Err(Failed)) => Turn::Over(Err(DispatchError::Io)),
+            Poll::Ready(Err(Failed)) => DispatcherTurn::Over(Err(DispatchError::Io)),
             Poll::Ready(Ok(count)) => match self.traced.advance(count) {
-                Ok(()) => Turn::Counted,
+                Ok(()) => DispatcherTurn::Counted,
                 Err(_) => {
                     self.ending = Some(Ending::Broken);
-                    Turn::Over(Err(DispatchError::NoMemory))
+                    DispatcherTurn::Over(Err(DispatchError::NoMemory))
                 }
             },
         }
     }
 
     /// Goes on with what is needed besides writing.
-    fn go_on(&mut self, cx: &mut Context<'_>) -> Turn
+    fn go_on(&mut self, cx: &mut Context<'_>) -> DispatcherTurn
         requires open { MayBePolled S.calling self.old }
         requires running { self.old.ending ≡ None }
         requires armed { HasNoOutput (view_of T.wiring S.served S.calling B.gives L.noted self.old) ⊎ IsArmed cx.old }
@@ -88,7 +88,7 @@ where
     }
 
     /// Has a connection that closes tell its end, once all is written.
-    fn close(&mut self, end: End, cx: &mut Context<'_>) -> Turn
+    fn close(&mut self, end: End, cx: &mut Context<'_>) -> DispatcherTurn
         requires open { MayBePolled S.calling self.old }
         requires running { self.old.ending ≡ None }
         requires closing { closing_by (setting_of (view_of T.wiring S.served S.calling B.gives L.noted self.old).traced.state.settings) (view_of T.wiring S.served S.calling B.gives L.noted self.old).traced.state.kept ≡ Some (end_of end) }
@@ -102,13 +102,13 @@ where
             return self.tell_end(end);
         }
         if self.traced.connection().can_write() {
-            return Turn::Idle;
+            return DispatcherTurn::Idle;
         }
         wake(cx)
     }
 
     /// The connection tells its end.
-    fn tell_end(&mut self, end: End) -> Turn
+    fn tell_end(&mut self, end: End) -> DispatcherTurn
         requires open { MayBePolled S.calling self.old }
         requires running { self.old.ending ≡ None }
         requires closing { closing_by (setting_of (view_of T.wiring S.served S.calling B.gives L.noted self.old).traced.state.settings) (view_of T.wiring S.served S.calling B.gives L.noted self.old).traced.state.kept ≡ Some (end_of end) }
@@ -119,11 +119,11 @@ where
         match self.traced.next() {
             Ok(_) => {
                 self.ending = Some(Ending::Closed(end));
-                Turn::Counted
+                DispatcherTurn::Counted
             }
             Err(_) => {
                 self.ending = Some(Ending::Broken);
-                Turn::Over(Err(DispatchError::NoMemory))
+                DispatcherTurn::Over(Err(DispatchError::NoMemory))
             }
         }
     }

@@ -1,11 +1,11 @@
 //! Replies that were noted.
-use proxy::{Reply, RequestHead};
+use proxy::{BegunReply, RequestHead};
 use std::alloc::Global;
 use vectors::Report;
 
 /// Of each reply the method and the target of its request, `-` where there is none, and the status; `none` where there are
 /// no replies.
-pub fn put_replies(alloc: Global, replies: &[Reply], found: &mut Report) {
+pub fn put_replies(alloc: Global, replies: &[BegunReply], found: &mut Report) {
     if replies.is_empty() {
         return found.put_text("none");
     }
@@ -17,7 +17,7 @@ pub fn put_replies(alloc: Global, replies: &[Reply], found: &mut Report) {
     }
 }
 
-fn put_reply(alloc: Global, reply: &Reply, found: &mut Report) {
+fn put_reply(alloc: Global, reply: &BegunReply, found: &mut Report) {
     match &reply.request {
         Some(head) => put_asked(alloc, head, found),
         None => found.put_text("-"),

@@ -5,7 +5,7 @@ ghost use Rattle.futures.specs.Task.{IsArmed, Keeps};
 ghost use Rattle.ws_service.specs.View.{view_of, is_broken, MayBePolled};
 ghost use Rattle.ws_service.specs.Polls.{PollSays, TurnsSay};
 
-use crate::dispatcher::{Ending, Turn, UpgradeDispatcher};
+use crate::dispatcher::{Ending, UpgradeDispatcher, UpgradeTurn};
 use crate::error::UpgradeError;
 use crate::item::UpgradeItem;
 use futures::task::{Context, Poll};
@@ -75,9 +75,9 @@ where
     {
         for turn in 0..64_u32 {
             match self.turn(cx) {
-                Turn::Counted => {}
-                Turn::Idle => return Poll::Pending,
-                Turn::Over(result) => return Poll::Ready(result),
+                UpgradeTurn::Counted => {}
+                UpgradeTurn::Idle => return Poll::Pending,
+                UpgradeTurn::Over(result) => return Poll::Ready(result),
             }
         }
         cx.yield_now()

@@ -4,9 +4,9 @@ ghost use Rattle.futures.specs.Task.{IsArmed, Keeps};
 ghost use Rattle.model_h1.specs.Event as on;
 ghost use Rattle.ws_service.specs.View.{view_of, MayBePolled, allows, room};
 ghost use Rattle.ws_service.specs.Polls.{OnIdle, ReadingSays};
-ghost use Rattle.ws_service.specs.declared.dispatcher.Turn.TheVariants.{Idle};
+ghost use Rattle.ws_service.specs.declared.dispatcher.UpgradeTurn.TheVariants.{Idle};
 
-use crate::dispatcher::{Ending, Turn, UpgradeDispatcher};
+use crate::dispatcher::{Ending, UpgradeDispatcher, UpgradeTurn};
 use crate::error::UpgradeError;
 use crate::item::UpgradeItem;
 use futures::task::{Context, Poll};
@@ -24,7 +24,7 @@ where
     L: Recorder,
 {
     /// Reads as far as the input may be held, or else waits.
-    pub(super) fn read(&mut self, is_armed: bool, cx: &mut Context<'_>) -> Turn
+    pub(super) fn read(&mut self, is_armed: bool, cx: &mut Context<'_>) -> UpgradeTurn
         requires open { MayBePolled U.calling self.old }
         requires running { self.old.ending ≡ None }
         requires armed { is_armed ≡ true → IsArmed cx.old }
@@ -44,7 +44,7 @@ where
         self.read_into(&mut buf[..READ_SIZE.min(room)], cx)
     }
 
-    fn read_into(&mut self, buf: &mut [u8], cx: &mut Context<'_>) -> Turn
+    fn read_into(&mut self, buf: &mut [u8], cx: &mut Context<'_>) -> UpgradeTurn
         requires open { MayBePolled U.calling self.old }
         requires running { self.old.ending ≡ None }
         requires some { 0 < length buf.old }
@@ -57,20 +57,20 @@ where
         ensures kept { Keeps cx.old cx.new }
     {
         match self.transport.poll_read(buf, cx) {
-            Poll::Pending => Turn::Idle,
-            Poll::Ready(Err(Failed)) => Turn::Over(Err(UpgradeError::Io)),
+            Poll::Pending => UpgradeTurn::Idle,
+            Poll::Ready(Err(Failed)) => UpgradeTurn::Over(Err(UpgradeError::Io)),
             Poll::Ready(Ok(0)) => match self.traced.eof() {
-                Ok(()) => Turn::Counted,
+                Ok(()) => UpgradeTurn::Counted,
                 Err(_) => {
                     self.ending = Some(Ending::Broken);
-                    Turn::Over(Err(UpgradeError::NoMemory))
+                    UpgradeTurn::Over(Err(UpgradeError::NoMemory))
                 }
             },
             Poll::Ready(Ok(count)) => match self.traced.read(&buf[..count]) {
-                Ok(_) => Turn::Counted,
+                Ok(_) => UpgradeTurn::Counted,
                 Err(_) => {
                     self.ending = Some(Ending::Broken);
-                    Turn::Over(Err(UpgradeError::NoMemory))
+                    UpgradeTurn::Over(Err(UpgradeError::NoMemory))
                 }
             },
         }
@@ -78,15 +78,15 @@ where
 }
 
 /// Leaves the rest to another poll: the task hears of something already, or else asks for one.
-pub(super) fn wait(is_armed: bool, cx: &mut Context<'_>) -> Turn
+pub(super) fn wait(is_armed: bool, cx: &mut Context<'_>) -> UpgradeTurn
     requires armed { is_armed ≡ true → IsArmed cx.old }
     ensures idle { result ≡ Idle }
     ensures armed { IsArmed cx.new }
     ensures kept { Keeps cx.old cx.new }
 {
     if is_armed {
-        return Turn::Idle;
+        return UpgradeTurn::Idle;
     }
     let _: Poll<()> = cx.yield_now();
-    Turn::Idle
+    UpgradeTurn::Idle
 }

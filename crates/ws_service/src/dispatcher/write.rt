@@ -3,12 +3,12 @@ ghost use Rattle.std.specs.Prelude.{◌≡◌, ◌<◌, ℕ, Some, None, true, l
 ghost use Rattle.futures.specs.Task.{IsArmed, Keeps};
 ghost use Rattle.model_state.specs.Local.{closing_by};
 ghost use Rattle.model_h1.specs.Event as on;
-ghost use Rattle.h1_connection.specs.Meaning.{setting_of, end_of};
+ghost use Rattle.h1_connection.specs.EventMeaning.{setting_of, end_of};
 ghost use Rattle.ws_service.specs.View.{view_of, MayBePolled, allows, allows_next, buffered};
 ghost use Rattle.ws_service.specs.Polls.{OnIdle, TurnSays, AfterSays, EndSays};
 
 use crate::dispatcher::read::wait;
-use crate::dispatcher::{Ending, Turn, UpgradeDispatcher};
+use crate::dispatcher::{Ending, UpgradeDispatcher, UpgradeTurn};
 use crate::error::UpgradeError;
 use crate::item::UpgradeItem;
 use futures::task::{Context, Poll};
@@ -26,7 +26,7 @@ where
     L: Recorder,
 {
     /// Writes what waits, or goes on where nothing does.
-    pub(super) fn write(&mut self, cx: &mut Context<'_>) -> Turn
+    pub(super) fn write(&mut self, cx: &mut Context<'_>) -> UpgradeTurn
         requires open { MayBePolled U.calling self.old }
         requires running { self.old.ending ≡ None }
         ensures says { TurnSays (view_of T.wiring U.served L.noted self.old) (view_of T.wiring U.served L.noted self.new) result }
@@ -44,7 +44,7 @@ where
     }
 
     /// Gives the transport what waits. What it doesn't take waits on.
-    fn give(&mut self, cx: &mut Context<'_>) -> Turn
+    fn give(&mut self, cx: &mut Context<'_>) -> UpgradeTurn
         requires open { MayBePolled U.calling self.old }
         requires running { self.old.ending ≡ None }
         requires some { 0 < length (buffered (view_of T.wiring U.served L.noted self.old)) }
@@ -59,19 +59,19 @@ where
             .poll_write(self.traced.connection().stretch(), cx)
         {
             Poll::Pending => self.go_on(true, cx),
-            Poll::Ready(Err(Failed)) => Turn::Over(Err(UpgradeError::Io)),
+            Poll::Ready(Err(Failed)) => UpgradeTurn::Over(Err(UpgradeError::Io)),
             Poll::Ready(Ok(count)) => match self.traced.advance(count) {
-                Ok(()) => Turn::Counted,
+                Ok(()) => UpgradeTurn::Counted,
                 Err(_) => {
                     self.ending = Some(Ending::Broken);
-                    Turn::Over(Err(UpgradeError::NoMemory))
+                    UpgradeTurn::Over(Err(UpgradeError::NoMemory))
                 }
             },
         }
     }
 
     /// Goes on with what is needed besides writing. Where the write was pending, the task hears of the transport already.
-    fn go_on(&mut self, is_armed: bool, cx: &mut Context<'_>) -> Turn
+    fn go_on(&mut self, is_armed: bool, cx: &mut Context<'_>) -> UpgradeTurn
         requires open { MayBePolled U.calling self.old }
         requires running { self.old.ending ≡ None }
         requires armed { is_armed ≡ true → IsArmed cx.old }
@@ -87,7 +87,7 @@ where
     }
 
     /// Has a connection that closes tell its end, once all is written.
-    fn close(&mut self, end: End, is_armed: bool, cx: &mut Context<'_>) -> Turn
+    fn close(&mut self, end: End, is_armed: bool, cx: &mut Context<'_>) -> UpgradeTurn
         requires open { MayBePolled U.calling self.old }
         requires running { self.old.ending ≡ None }
         requires closing { closing_by (setting_of (view_of T.wiring U.served L.noted self.old).traced.state.settings) (view_of T.wiring U.served L.noted self.old).traced.state.kept ≡ Some (end_of end) }
@@ -103,7 +103,7 @@ where
         wait(is_armed, cx)
     }
 
-    fn tell_end(&mut self, end: End) -> Turn
+    fn tell_end(&mut self, end: End) -> UpgradeTurn
         requires open { MayBePolled U.calling self.old }
         requires running { self.old.ending ≡ None }
         requires closing { closing_by (setting_of (view_of T.wiring U.served L.noted self.old).traced.state.settings) (view_of T.wiring U.served L.noted self.old).traced.state.kept ≡ Some (end_of end) }
@@ -114,11 +114,11 @@ where
         match self.traced.next() {
             Ok(_) => {
                 self.ending = Some(Ending::Closed(end));
-                Turn::Counted
+                UpgradeTurn::Counted
             }
             Err(_) => {
                 self.ending = Some(Ending::Broken);
-                Turn::Over(Err(UpgradeError::NoMemory))
+                UpgradeTurn::Over(Err(UpgradeError::NoMemory))
             }
         }
     }

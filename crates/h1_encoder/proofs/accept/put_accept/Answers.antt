@@ -1,6 +1,6 @@
 -- Piece by piece.
 use Rattle.std.proofs.Common.{ℕ, List, ◌++◌, ap, ◌∙◌}
-use Rattle.h1_encoder.specs.Lines.{accept_start}
+use Rattle.h1_encoder.specs.WrittenLines.{accept_start}
 use Rattle.h1_encoder.proofs.AcceptText.{accept_is}
 use Rattle.h1_encoder.proofs.accept.put_accept.Goals as goal
 

@@ -5,7 +5,7 @@ use Rattle.http_types.specs.ResponseHead.{ResponseParts}
 use Rattle.httparse.specs.Ascii.{crlf_bytes}
 use Rattle.model_h1.specs.Answer.{is_bodiless}
 use Rattle.model_h1.specs.AnswerText.{size_line}
-use Rattle.h1_encoder.specs.Lines.{Grows, status_words}
+use Rattle.h1_encoder.specs.WrittenLines.{Grows, status_words}
 use Rattle.h1_encoder.specs.Meaning.{answer_of, size_of, model_type, model_shape}
 use Rattle.h1_encoder.proofs.Pieces.{on_err, Grows-same, Grows-more, Grows-on}
 use Rattle.h1_encoder.proofs.HeadText.{head_is}

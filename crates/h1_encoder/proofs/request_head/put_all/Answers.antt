@@ -1,6 +1,6 @@
 use Rattle.std.proofs.Common.{◌≡◌, ℕ, List, ◌++◌, refl, ap, ◌∙◌}
 use Rattle.std.proofs.lemmas.Result.{on_ok_weaker, on_err_weaker}
-use Rattle.h1_encoder.specs.Lines.{Grows}
+use Rattle.h1_encoder.specs.WrittenLines.{Grows}
 use Rattle.h1_encoder.specs.Meaning.{size_of, model_type}
 use Rattle.h1_encoder.proofs.Pieces.{on_err, Grows-same, Grows-more, Grows-on}
 use Rattle.h1_encoder.specs.RequestLines.{request_words}

@@ -1,6 +1,6 @@
 use Rattle.std.proofs.Common.{◌≡◌, ◌++◌, ◌||◌, false}
 use Rattle.http_map.specs.HeaderMap.{pairs}
-use Rattle.h1_encoder.specs.Lines.{Grows, pairs_text, has_date}
+use Rattle.h1_encoder.specs.WrittenLines.{Grows, pairs_text, has_date}
 use Rattle.h1_encoder.proofs.request_headers.put_headers.Given as goal
 
 abbrev pub invariant-loop-name : goal.invariant-loop-name

@@ -1,5 +1,5 @@
 use Rattle.std.specs.Prelude.{map}
-use Rattle.h1_connection.specs.Meaning.{event_of}
+use Rattle.h1_connection.specs.EventMeaning.{event_of}
 use Rattle.h1_generated.specs.Generated.{generated}
 use Rattle.h1_generated.proofs.Lists.{one_step, all_made}
 use Rattle.h1_generated.proofs.events.generate.Goals as goal

@@ -1,6 +1,6 @@
 use Rattle.std.proofs.Common.{◌≡◌, ◌+◌, ◌-◌, ◌++◌}
 use Rattle.std.specs.Prelude.{map}
-use Rattle.h1_connection.specs.Meaning.{event_of}
+use Rattle.h1_connection.specs.EventMeaning.{event_of}
 use Rattle.h1_generated.specs.Generated.{exchanges_from, generated}
 use Rattle.h1_generated.proofs.events.generate.Given as goal
 

@@ -1,4 +1,4 @@
-use Rattle.h1_generated.specs.Meaning.{model_counts}
+use Rattle.h1_generated.specs.GeneratedMeaning.{model_counts}
 use Rattle.h1_generated.proofs.Tallies.{Comes}
 use Rattle.h1_generated.proofs.summary.counts_of.Given as goal
 

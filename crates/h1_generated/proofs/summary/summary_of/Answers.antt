@@ -1,7 +1,7 @@
 use Rattle.std.proofs.Common.{◌≡◌, ◌∙◌, ap, map, codes}
-use Rattle.h1_connection.specs.Meaning.{event_of}
+use Rattle.h1_connection.specs.EventMeaning.{event_of}
 use Rattle.h1_generated.specs.Summary.{summary_text}
-use Rattle.h1_generated.specs.Meaning.{model_counts}
+use Rattle.h1_generated.specs.GeneratedMeaning.{model_counts}
 use Rattle.h1_generated.specs.Run.{IsSummary}
 use Rattle.h1_generated.proofs.Totals.{generated_fits, generated_sums}
 use Rattle.h1_connection.proofs.ResultLemmas.{ok_map}

@@ -1,5 +1,5 @@
 use Rattle.std.proofs.Common.{◌+◌, ap, ◌∙◌, arith}
-use Rattle.h1_output.specs.Pieces.{body_len, in_row, laid}
+use Rattle.h1_output.specs.OutputPieces.{body_len, in_row, laid}
 use Rattle.h1_output.proofs.CopyLemmas.{used_one, used_none}
 use Rattle.h1_output.proofs.copies.copy_first.Goals as goal
 

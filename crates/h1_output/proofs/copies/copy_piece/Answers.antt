@@ -1,6 +1,6 @@
 use Rattle.std.proofs.Common.{◌≡◌, ◌+◌, ◌-◌, take, drop, sym, ap, ◌∙◌, arith}
 use Rattle.std.proofs.lemmas.List.{drop-drop}
-use Rattle.h1_output.specs.Pieces.{body_in, laid, own_len}
+use Rattle.h1_output.specs.OutputPieces.{body_in, laid, own_len}
 use Rattle.h1_output.proofs.CopyLemmas.{piece_copied}
 use Rattle.h1_output.proofs.copies.copy_piece.Goals as goal
 

@@ -1,6 +1,6 @@
 use Rattle.std.proofs.Common.{◌≡◌, ◌+◌, ◌≤◌, length, drop, ap, ◌∙◌, arith, inl, inr}
 use Rattle.std.proofs.lemmas.List.{drop_all}
-use Rattle.h1_output.specs.Pieces.{body_len, laid}
+use Rattle.h1_output.specs.OutputPieces.{body_len, laid}
 use Rattle.h1_output.proofs.CopyLemmas.{piece_at, used_first, laid_none}
 use Rattle.h1_output.proofs.copies.copy_rest.Goals as goal
 

@@ -1,5 +1,5 @@
 use Rattle.std.proofs.Common.{◌+◌, ◌-◌, ◌≤◌, length, drop}
-use Rattle.h1_output.specs.Pieces.{CopiesTo, used}
+use Rattle.h1_output.specs.OutputPieces.{CopiesTo, used}
 use Rattle.h1_output.proofs.copies.copy_rest.Given as given
 
 abbrev pub invariant-loop-place : given.invariant-loop-place

@@ -1,7 +1,7 @@
 use Rattle.std.proofs.Common.{ap, ◌∙◌, Some}
 use Rattle.http_types.specs.ResponseHead.{ResponseParts}
 use Rattle.h1_encoder.specs.Meaning.{headers_of}
-use Rattle.proxy_heads.specs.Meaning.{kept_reason, passed_lines}
+use Rattle.proxy_heads.specs.ForwardedMeaning.{kept_reason, passed_lines}
 use Rattle.proxy_heads.proofs.ReplyLemmas.{reply_is}
 use Rattle.proxy_heads.proofs.replies.reply_head.Goals as goal
 

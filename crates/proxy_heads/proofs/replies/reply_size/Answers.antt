@@ -1,5 +1,5 @@
 use Rattle.std.proofs.Common.{sym, ◌∙◌}
-use Rattle.proxy_heads.specs.Meaning.{stated_or}
+use Rattle.proxy_heads.specs.ForwardedMeaning.{stated_or}
 use Rattle.proxy_heads.proofs.ReplyLemmas.{size_is}
 use Rattle.proxy_heads.proofs.replies.reply_size.Goals as goal
 

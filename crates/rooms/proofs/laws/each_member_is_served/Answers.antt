@@ -1,4 +1,4 @@
-use Rattle.h1_connection.specs.Meaning.{setting_of}
+use Rattle.h1_connection.specs.EventMeaning.{setting_of}
 use Rattle.model_rooms.proofs.GoodHubs.{all_good}
 use Rattle.model_rooms.proofs.OrderLemmas.{in_order}
 use Rattle.model_rooms.proofs.SendLemmas.{none_refused}

@@ -3,7 +3,7 @@ use Rattle.std.proofs.Common.{ℕ, List, Some, refl, sym, subst}
 use Rattle.std.proofs.lemmas.List.{drop-append-le}
 use Rattle.model_h1.specs.FrameText.{Front, StopsWith, is_under_way}
 use Rattle.model_h1.proofs.FrameLemmas.{whole_stays, whole_fits, breaks_stays}
-use Rattle.ws_frames.specs.Pieces.{AreFrames}
+use Rattle.ws_frames.specs.FramePieces.{AreFrames}
 use Rattle.ws_frames.proofs.pieces.decoding_goes_on.Goals as goal
 
 pub returns-clause-given : goal.returns-clause-given

@@ -1,4 +1,4 @@
-use Rattle.h1_connection.specs.Meaning.{setting_of}
+use Rattle.h1_connection.specs.EventMeaning.{setting_of}
 use Rattle.ws_service.proofs.Closes.{no_input}
 use Rattle.ws_service.proofs.laws.nothing_is_read_while_it_closes.Goals as goal
 

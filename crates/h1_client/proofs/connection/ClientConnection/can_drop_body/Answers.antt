@@ -1,7 +1,7 @@
 use Rattle.std.proofs.Common.{ap, ◌∙◌}
 use Rattle.model_client.specs.ClientEvent as on
 use Rattle.model_client.specs.ClientKept.{client_allows}
-use Rattle.h1_client.specs.Meaning.{setting_of}
+use Rattle.h1_client.specs.ClientMeaning.{setting_of}
 use Rattle.h1_client.specs.State.{State}
 use Rattle.h1_client.proofs.connection.ClientConnection.can_drop_body.Goals as goal
 

@@ -1,4 +1,4 @@
-use Rattle.h1_client.specs.Meaning.{setting_of}
+use Rattle.h1_client.specs.ClientMeaning.{setting_of}
 use Rattle.h1_client.proofs.GoesOnLemmas.{on_map, goes_so}
 use Rattle.h1_client.proofs.connection.ClientConnection.chunk.Goals as goal
 

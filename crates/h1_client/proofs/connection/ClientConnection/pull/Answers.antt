@@ -1,6 +1,6 @@
 use Rattle.model_client.specs.ClientEvent as on
 use Rattle.h1_client.specs.Bodies.{SaysPulled}
-use Rattle.h1_client.specs.Meaning.{setting_of}
+use Rattle.h1_client.specs.ClientMeaning.{setting_of}
 use Rattle.h1_client.proofs.GoesOnLemmas.{ok_map, goes_on}
 use Rattle.h1_client.proofs.connection.ClientConnection.pull.Goals as goal
 

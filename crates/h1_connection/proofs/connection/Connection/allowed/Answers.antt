@@ -2,7 +2,7 @@ use Rattle.std.proofs.Common.{Bool, ◌∙◌, ap, sym, subst}
 use Rattle.std.specs.Prelude.{IsTrue, ◌↔◌}
 use Rattle.model_h1.specs.Trace as traces
 use Rattle.model_state.specs.Local.{allowed_by}
-use Rattle.h1_connection.specs.Meaning.{setting_of, event_of}
+use Rattle.h1_connection.specs.EventMeaning.{setting_of, event_of}
 use Rattle.h1_connection.specs.State.{State}
 use Rattle.h1_connection.proofs.GoesOnLemmas.{allowed_traced}
 use Rattle.h1_connection.proofs.connection.Connection.allowed.Goals as goal

@@ -1,7 +1,7 @@
 use Rattle.std.proofs.Common.{ℕ, Option, ◌∙◌, sym, ap, subst}
 use Rattle.model_h1.specs.Deadline.{IsDeadline}
 use Rattle.model_state.specs.Deadline.{deadline_by}
-use Rattle.h1_connection.specs.Meaning.{setting_of}
+use Rattle.h1_connection.specs.EventMeaning.{setting_of}
 use Rattle.h1_connection.specs.State.{State}
 use Rattle.h1_connection.proofs.DeadlineLemmas.{deadline_traced}
 use Rattle.h1_connection.proofs.StepLemmas.{sound_may}

@@ -4,7 +4,7 @@ use Rattle.model_h1.specs.Event as on
 use Rattle.h1_connection.specs.declared.event.Outcome.TheVariants as out
 use Rattle.http_types.specs.ResponseHead.{ResponseParts}
 use Rattle.h1_encoder.specs.Meaning.{answer_of, size_of}
-use Rattle.h1_connection.specs.Meaning.{SaysOutcome}
+use Rattle.h1_connection.specs.EventMeaning.{SaysOutcome}
 use Rattle.h1_connection.specs.State.{GoesOn, Is}
 use Rattle.h1_connection.proofs.ResultLemmas.{ok_map}
 use Rattle.h1_connection.proofs.RunLemmas.{at_event, says_more}

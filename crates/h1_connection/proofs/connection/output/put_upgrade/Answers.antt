@@ -1,6 +1,6 @@
 use Rattle.std.proofs.Common.{false}
 use Rattle.http_config.specs.Config.{default_settings}
-use Rattle.h1_connection.specs.Meaning.{setting_of}
+use Rattle.h1_connection.specs.EventMeaning.{setting_of}
 use Rattle.h1_connection.proofs.ResultLemmas.{on_map}
 use Rattle.h1_connection.proofs.connection.output.put_upgrade.Goals as goal
 

@@ -1,7 +1,7 @@
 use Rattle.std.proofs.Common.{rules, ◌≡◌, ◌≤◌, ◌-◌, length, drop, refl, sym, ap, ◌∙◌, subst, arith}
 use Rattle.std.proofs.lemmas.List.{length-drop}
 use Rattle.h1_output.specs.Queued.{behind}
-use Rattle.h1_output.specs.Pieces.{in_row}
+use Rattle.h1_output.specs.OutputPieces.{in_row}
 use Rattle.h1_output.proofs.Moves.{none_laid, all_gone, none_fits, no_piece, no_pieces, behind_none, behind_part}
 use Rattle.h1_output.proofs.queue.Segments.advance.Goals as goal
 

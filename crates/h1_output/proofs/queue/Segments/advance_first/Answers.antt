@@ -1,7 +1,7 @@
 use Rattle.std.proofs.Common.{rules, ◌≡◌, ◌≤◌, ◌<◌, ◌-◌, ◌∷◌, length, sym, ap, ◌∙◌, subst, arith}
 use Rattle.std.proofs.lemmas.Bool.Decides.{nat_tests}
 use Rattle.h1_output.specs.Queued.{behind}
-use Rattle.h1_output.specs.Pieces.{IsInRow, body_len, in_row, queued, with_rest}
+use Rattle.h1_output.specs.OutputPieces.{IsInRow, body_len, in_row, queued, with_rest}
 use Rattle.h1_output.specs.declared.piece.Body.TheVariants.{Shared}
 use Rattle.h1_output.proofs.Moves.{empty_row, first_some, no_piece, none_fits, none_moved, framing_fits, framing_laid, framing_queued, own_fits, own_laid, own_queued, shared_fits, shared_laid, shared_queued}
 use Rattle.h1_output.proofs.queue.Segments.advance_first.Goals as goal

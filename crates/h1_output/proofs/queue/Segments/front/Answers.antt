@@ -2,7 +2,7 @@ use Rattle.std.proofs.Common.{rules, ◌≡◌, length, take, sym, ap, ◌∙◌
 use Rattle.std.proofs.lemmas.Bool.Decides.{nat_tests}
 use Rattle.std.proofs.lemmas.List.{length-take-le}
 use Rattle.h1_output.specs.Queued.{front_of}
-use Rattle.h1_output.specs.Pieces.{body_in, in_row, own_len}
+use Rattle.h1_output.specs.OutputPieces.{body_in, in_row, own_len}
 use Rattle.h1_output.proofs.Moves.{empty_row, front_none, front_framing, front_body, first_fits, front_stretch}
 use Rattle.h1_output.proofs.InOrder.{front_first}
 use Rattle.h1_output.proofs.queue.Segments.front.Goals as goal

@@ -1,7 +1,7 @@
 use Rattle.std.proofs.Common.{rules, ◌≡◌, ◌≤◌, length, take, min, refl, sym, ap, ◌∙◌, subst, arith}
 use Rattle.std.proofs.lemmas.List.{take_min, drop_all}
 use Rattle.h1_output.specs.Queued.{behind}
-use Rattle.h1_output.specs.Pieces.{in_row}
+use Rattle.h1_output.specs.OutputPieces.{in_row}
 use Rattle.h1_output.proofs.Ends.{ok_leads, own_bytes_are}
 use Rattle.h1_output.proofs.Moves.{no_pieces, no_piece, none_fits, none_laid, all_gone, all_own}
 use Rattle.h1_output.proofs.queue.Segments.give.Goals as goal

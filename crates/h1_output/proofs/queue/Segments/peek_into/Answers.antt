@@ -1,7 +1,7 @@
 use Rattle.std.proofs.Common.{◌≡◌, ◌+◌, ◌-◌, ◌++◌, length, take, drop, min, sym, ap, ◌∙◌, arith}
 use Rattle.std.specs.Prelude.{option_to_list}
 use Rattle.std.proofs.lemmas.List.{take_all, length-drop}
-use Rattle.h1_output.specs.Pieces.{in_row, laid}
+use Rattle.h1_output.specs.OutputPieces.{in_row, laid}
 use Rattle.h1_output.proofs.CopyLemmas.{none_copied, used-append, ends_copied}
 use Rattle.h1_output.proofs.queue.Segments.peek_into.Goals as goal
 

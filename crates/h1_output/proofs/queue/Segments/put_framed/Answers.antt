@@ -2,7 +2,7 @@ use Rattle.std.proofs.Common.{rules, ◌≡◌, ◌+◌, ◌-◌, ◌∷◌, ◌
 use Rattle.h1_output.specs.declared.piece.Body.TheVariants.{Shared}
 use Rattle.h1_output.specs.declared.piece.Piece.{Piece}
 use Rattle.h1_output.specs.Queued.{with_text, with_piece}
-use Rattle.h1_output.specs.Pieces.{in_row, queued}
+use Rattle.h1_output.specs.OutputPieces.{in_row, queued}
 use Rattle.h1_output.proofs.Framed.{framed_laid, framed_queued}
 use Rattle.h1_output.proofs.queue.Segments.put_framed.Goals as goal
 

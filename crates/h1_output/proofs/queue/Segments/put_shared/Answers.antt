@@ -1,6 +1,6 @@
 use Rattle.std.proofs.Common.{◌≡◌, rules, ◌<◌, ◌-◌, ◌∷◌, ◌++◌, [], length, refl, sym, ap, ◌∙◌, ◌+◌, append-nil}
 use Rattle.h1_output.specs.Queued.{with_piece}
-use Rattle.h1_output.specs.Pieces.{in_row, queued}
+use Rattle.h1_output.specs.OutputPieces.{in_row, queued}
 use Rattle.h1_output.specs.declared.piece.Body.TheVariants.{Shared}
 use Rattle.h1_output.specs.declared.piece.Piece.{Piece}
 use Rattle.h1_output.proofs.Moves.{piece_laid, piece_queued}

@@ -1,6 +1,6 @@
 use Rattle.std.proofs.Common.{refl, ap, ◌∙◌}
 use Rattle.h1_output.specs.Queued.{with_text}
-use Rattle.h1_output.specs.Pieces.{in_row}
+use Rattle.h1_output.specs.OutputPieces.{in_row}
 use Rattle.h1_output.proofs.Moves.{text_laid, text_queued}
 use Rattle.h1_output.proofs.queue.Segments.put_with.Goals as goal
 

@@ -1,7 +1,7 @@
 use Rattle.std.proofs.Common.{◌≡◌, ◌≤◌, ℕ, List, length, take, ap, ◌∙◌, subst, arith}
 use Rattle.std.proofs.lemmas.Bool.Decides.{nat_tests}
 use Rattle.std.proofs.lemmas.Option.{IfSome_then}
-use Rattle.h1_output.specs.Pieces.{in_row}
+use Rattle.h1_output.specs.OutputPieces.{in_row}
 use Rattle.h1_output.proofs.Ends.{shared_first}
 use Rattle.h1_output.proofs.queue.Segments.shared_front.Goals as goal
 

@@ -1,5 +1,5 @@
 use Rattle.std.proofs.Common.{rules}
-use Rattle.h1_output.specs.Pieces.{in_row}
+use Rattle.h1_output.specs.OutputPieces.{in_row}
 use Rattle.h1_output.proofs.Moves.{own_stretch}
 use Rattle.h1_output.proofs.queue.Segments.stretch.Goals as goal
 

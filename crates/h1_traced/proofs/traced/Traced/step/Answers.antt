@@ -1,5 +1,5 @@
 use Rattle.std.proofs.Common.{refl, sym}
-use Rattle.h1_connection.specs.Meaning.{event_of, SaysOutcome}
+use Rattle.h1_connection.specs.EventMeaning.{event_of, SaysOutcome}
 use Rattle.h1_traced.proofs.TracedLaws.{any_err, ok_given, when_err, traced_steps, fails_before, fails_after}
 use Rattle.h1_traced.proofs.traced.Traced.step.Goals as goal
 

@@ -1,6 +1,6 @@
 use Rattle.std.proofs.Common.{refl}
 use Rattle.std.proofs.Common.{Some, None}
-use Rattle.proxy.specs.declared.proxy.Sent.{Sent}
+use Rattle.proxy.specs.declared.proxy.SentRequest.{SentRequest}
 use Rattle.proxy.proofs.Moves.{goes_then, fails, resent}
 use Rattle.proxy.proofs.Work.{less_then, closed_less, drop_sent, remarked, broken_mark}
 use Rattle.proxy.proofs.Served.{with_server, resent_serves, no_reply_of}
@@ -12,7 +12,7 @@ use Rattle.proxy.proofs.proxy.Proxy.break_body.Goals as goal
 
 pub returns-then-sent-clause-goes : goal.returns-then-sent-clause-goes
 returns-then-sent-clause-goes c =
-    let s : Sent = record c.args.sent { is_broken = true } in
+    let s : SentRequest = record c.args.sent { is_broken = true } in
     resent (record c.args.self.now { server = Some c.args.server; sent = Some s }) s c.broken.result
     (record { unsent = c.requires.runs.unsent; sent = refl }) c.broken.ensures.whole c.broken.ensures.broken
 

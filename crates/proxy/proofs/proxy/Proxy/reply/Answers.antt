@@ -6,7 +6,7 @@ use Rattle.proxy.proofs.Served.{noted_idle, noted_serves, idle_serves, head_put}
 use Rattle.std.proofs.Common.{subst}
 use Rattle.proxy.proofs.Replies.{left_put, last_as, noted_client, noted_server}
 use Rattle.proxy.specs.Replies.{own}
-use Rattle.proxy_heads.specs.Meaning.{status_of}
+use Rattle.proxy_heads.specs.ForwardedMeaning.{status_of}
 use Rattle.model_h1.specs.Answer.{AnswerHead, size_of}
 use Rattle.proxy.specs.Puts.{begins, MayPut}
 use Rattle.proxy.proofs.proxy.Proxy.reply.Goals as goal

@@ -4,7 +4,7 @@ use Rattle.proxy.proofs.Done.{did_ask}
 use Rattle.std.proofs.Common.{sym, ap, ◌∙◌, inl, inr, Some, true, arith, refl}
 use Rattle.proxy.proofs.Work.{over_less, waits_rests, works, works_of_server, then_less, less_then, server_less, server_asks, sent_less, over_as, noted_less}
 use Rattle.h1_encoder.specs.Meaning.{size_of}
-use Rattle.h1_client.specs.Meaning.{request_of}
+use Rattle.h1_client.specs.ClientMeaning.{request_of}
 use Rattle.proxy.proofs.Served.{with_server, noted_serves, sent_serves}
 use Rattle.proxy.proofs.Replies.{no_part_put, unsent_cause, same_puts, noted_client}
 use Rattle.proxy.proofs.Puts.{puts_none}

@@ -8,7 +8,7 @@ use Rattle.proxy.proofs.Puts.{puts_none, hands_same}
 use Rattle.proxy.proofs.Replies.{fails_last}
 use Rattle.proxy.specs.Replies.{marks_of}
 use Rattle.proxy_heads.specs.declared.replies.AnswerUse.{AnswerUse}
-use Rattle.proxy_heads.specs.Meaning.{found_as}
+use Rattle.proxy_heads.specs.ForwardedMeaning.{found_as}
 use Rattle.model_proxy.specs.Answers.{found_by}
 use Rattle.model_client.specs.AnswerReading.{answer_is}
 use Rattle.proxy.proofs.proxy.Proxy.take_answer.Goals as goal

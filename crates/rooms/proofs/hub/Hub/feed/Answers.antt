@@ -1,5 +1,5 @@
 use Rattle.std.proofs.Common.{true, false, refl, sym, ◌∙◌, inl, inr, arith}
-use Rattle.h1_connection.specs.Meaning.{event_of}
+use Rattle.h1_connection.specs.EventMeaning.{event_of}
 use Rattle.model_rooms.specs.Hub.{feeds}
 use Rattle.rooms.specs.Hub.{SaysCore}
 use Rattle.rooms.proofs.HubLemmas.{unknown, not_fed, not_allowed, hub_fed}

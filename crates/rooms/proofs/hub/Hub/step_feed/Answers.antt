@@ -1,4 +1,4 @@
-use Rattle.h1_connection.specs.Meaning.{event_of}
+use Rattle.h1_connection.specs.EventMeaning.{event_of}
 use Rattle.model_rooms.specs.Hub.{feeds}
 use Rattle.rooms.proofs.CallLemmas.{as_value}
 use Rattle.rooms.proofs.hub.Hub.step_feed.Goals as goal

@@ -2,7 +2,7 @@ use Rattle.std.proofs.Common.{◌≡◌, List, sym, subst}
 use Rattle.std.proofs.lemmas.Bool.{false≢true}
 use Rattle.model_h1.specs.Event as on
 use Rattle.model_h1.specs.Sums.{Step}
-use Rattle.h1_connection.specs.Meaning.{event_of}
+use Rattle.h1_connection.specs.EventMeaning.{event_of}
 use Rattle.h1_connection.specs.State.{TakesNoMemory}
 use Rattle.rooms.specs.Seat.{SeatState, SeatStands}
 use Rattle.rooms.proofs.KeptLemmas.{seat_stepped}

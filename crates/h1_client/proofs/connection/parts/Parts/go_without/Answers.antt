@@ -1,7 +1,7 @@
 use Rattle.std.proofs.Common.{◌∙◌, sym, refl}
 use Rattle.std.proofs.lemmas.Bool.{eq-eqb, ne_eqb}
 use Rattle.h1_client.specs.declared.heads.AnswerFault.TheVariants as faults
-use Rattle.h1_client.specs.Meaning.{setting_of}
+use Rattle.h1_client.specs.ClientMeaning.{setting_of}
 use Rattle.h1_client.specs.declared.event.ClientEnd.TheVariants.{LargeAnswer}
 use Rattle.h1_client.proofs.AnswerLemmas.{full_next, pending_next}
 use Rattle.h1_client.proofs.connection.parts.Parts.go_without.Goals as goal

@@ -1,5 +1,5 @@
 use Rattle.std.proofs.Common.{sym}
-use Rattle.h1_client.specs.Meaning.{setting_of}
+use Rattle.h1_client.specs.ClientMeaning.{setting_of}
 use Rattle.h1_client.proofs.AnswerLemmas.{closed_next, needs_by}
 use Rattle.h1_client.proofs.connection.parts.Parts.next.Goals as goal
 

@@ -3,7 +3,7 @@ use Rattle.std.specs.Prelude.{slice_range}
 use Rattle.model_h1.specs.Request.{Fault}
 use Rattle.model_client.specs.AnswerReading.{answer_is, refused, IsAnswerReadingWithin}
 use Rattle.h1_client.specs.HeadMeaning.{fault_of}
-use Rattle.h1_client.specs.Meaning.{setting_of}
+use Rattle.h1_client.specs.ClientMeaning.{setting_of}
 use Rattle.h1_client.specs.Answers.{IsNexted}
 use Rattle.h1_client.specs.declared.connection.parts.Parts.{Parts}
 use Rattle.h1_client.specs.declared.event.NextAnswer.TheVariants as next

@@ -1,6 +1,6 @@
 use Rattle.std.proofs.Common.{ℕ, ◌-◌, length, ap, ◌∙◌}
 use Rattle.std.specs.Prelude.{min}
-use Rattle.h1_client.specs.Meaning.{setting_of}
+use Rattle.h1_client.specs.ClientMeaning.{setting_of}
 use Rattle.h1_client.proofs.BodyLemmas.{read_step}
 use Rattle.h1_client.proofs.connection.parts.Parts.read.Goals as goal
 

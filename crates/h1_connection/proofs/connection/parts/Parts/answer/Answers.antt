@@ -2,7 +2,7 @@ use Rattle.std.proofs.Common.{ℕ, ◌++◌, ◌∙◌, sym, ap}
 use Rattle.h1_encoder.specs.Meaning.{answer_of, size_of, model_type}
 use Rattle.model_h1.specs.Setting.{keeps}
 use Rattle.http_config.specs.declared.keep_alive.KeepAlive.{KeepAlive}
-use Rattle.h1_connection.specs.Meaning.{setting_of, keep_alive_of}
+use Rattle.h1_connection.specs.EventMeaning.{setting_of, keep_alive_of}
 use Rattle.h1_connection.proofs.AnswerLemmas.{text_by, no_answer, waiting_unsearched, at_once_steps, complete_sound, later_steps_by, later_sound_by}
 use Rattle.h1_output.specs.Queued.{Queued}
 use Rattle.h1_connection.specs.declared.connection.parts.Parts.{Parts}

@@ -2,7 +2,7 @@ use Rattle.std.proofs.Common.{sym, ap, ◌∙◌, subst}
 use Rattle.model_h1.specs.Request.{Fault, faulty}
 use Rattle.model_h1.specs.RequestHead.{IsReading}
 use Rattle.h1_connection.specs.Given.{HasOpened}
-use Rattle.h1_connection.specs.Meaning.{setting_of}
+use Rattle.h1_connection.specs.EventMeaning.{setting_of}
 use Rattle.h1_connection.specs.Parts.{kept_of, IsSound}
 use Rattle.h1_connection.specs.Stock.{Stock, CountsOn}
 use Rattle.h1_connection.specs.declared.connection.parts.Parts.{Parts}

@@ -1,7 +1,7 @@
 use Rattle.std.proofs.Common.{◌≡◌, sym, ◌∙◌, subst}
 use Rattle.std.specs.Prelude.{IfOk, IsOk, OnOk}
 use Rattle.model_h1.specs.Event as on
-use Rattle.h1_connection.specs.Meaning.{setting_of}
+use Rattle.h1_connection.specs.EventMeaning.{setting_of}
 use Rattle.h1_connection.specs.Parts.{kept_of, IsSound, Steps}
 use Rattle.h1_connection.specs.Ticks.{expiry_of, IsQuietTick}
 use Rattle.h1_connection.specs.declared.connection.parts.Parts.{Parts}

@@ -1,7 +1,7 @@
 use Rattle.std.proofs.Common.{rules, inl, inr, refl}
 use Rattle.h1_dispatcher.specs.View.{view_of}
 use Rattle.h1_dispatcher.proofs.Turns.{nothing_read}
-use Rattle.h1_dispatcher.specs.declared.dispatcher.Turn.TheVariants.{Idle}
+use Rattle.h1_dispatcher.specs.declared.dispatcher.DispatcherTurn.TheVariants.{Idle}
 use Rattle.h1_dispatcher.proofs.dispatcher.read.Dispatcher+T+S+S+Call+L+B.read_on.Goals as goal
 
 pub returns-then-room-eq0-clause-says : goal.returns-then-room-eq0-clause-says

@@ -1,0 +1,25 @@
+use Rattle.std.proofs.Common.{refl, sym, ◌∙◌, inl, inr, [], ◌∷◌}
+use Rattle.model_h1.specs.Event as on
+use Rattle.proxy.proofs.Sides.{client_plain}
+use Rattle.proxy.proofs.Wants.{has_end, end_not_wanted}
+use Rattle.proxy.proofs.Puts.{one_puts}
+use Rattle.proxy.specs.Puts.{ends}
+use Rattle.proxy.proofs.downstream.put_end.Goals as goal
+
+pub returns-then-not-can_end_answer-clause-wants : goal.returns-then-not-can_end_answer-clause-wants
+returns-then-not-can_end_answer-clause-wants c = λ trace stands.
+    end_not_wanted c.args.client.now (sym c.can_end_answer.ensures.ends ∙ c.if-not-can_end_answer.true)
+
+pub returns-clause-brings : goal.returns-clause-brings
+returns-clause-brings c = client_plain c.args.client.now on.body_end on.done c.end_answer.new.self c.end_answer.ensures.settings c.in_ok-end_answer.ensures.stands refl refl refl tt
+
+pub returns-clause-wants : goal.returns-clause-wants
+returns-clause-wants c =
+    has_end c.args.client.now c.end_answer.new.self c.end_answer.ensures.settings c.in_ok-end_answer.ensures.stands
+    (sym c.can_end_answer.ensures.ends ∙ c.if-not-can_end_answer.false)
+
+pub returns-then-not-can_end_answer-clause-puts : goal.returns-then-not-can_end_answer-clause-puts
+returns-then-not-can_end_answer-clause-puts c = inl (sym c.can_end_answer.ensures.ends ∙ c.if-not-can_end_answer.true, refl)
+
+pub returns-clause-puts : goal.returns-clause-puts
+returns-clause-puts c = inr (one_puts c.args.client.now on.body_end _ c.end_answer.new.self (ends ∷ []) c.in_ok-end_answer.ensures.stands (λ o says. refl))

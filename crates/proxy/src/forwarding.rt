@@ -1,0 +1,646 @@
+//! What a forwarder does of its own between two events, turn by turn.
+#![tactic(auto)]
+
+ghost use Rattle.std.specs.Prelude.{◌≡◌, ◌<◌, ◌+◌, ◌*◌, ◌||◌, [], IsTrue, None, Some, true, false, not, is_some, length, OnOk, IfOk};
+ghost use Rattle.model_h1.specs.Event as on;
+ghost use Rattle.model_h1.specs.Request.{Head};
+ghost use Rattle.model_h1.specs.Answer.{asked_of};
+ghost use Rattle.h1_decoder.specs.HeadItem.{SaysHead};
+ghost use Rattle.proxy.specs.Sides.{ServerStays, SendsBody};
+ghost use Rattle.proxy.specs.Wants.{IsTold};
+ghost use Rattle.model_proxy.specs.Rests.{MAX_WAITING};
+ghost use Rattle.proxy.specs.Kept.{Goes, GoesWith, GoesUnsent, GoesFrom, HoldsNoRequest, Runs, GoesBroken};
+ghost use Rattle.proxy.specs.Served.{Serving, GoesOnServing, HasNoReply, HasNoReplyTo};
+ghost use Rattle.proxy_heads.specs.ForwardedMeaning.{status_of};
+ghost use Rattle.h1_client.specs.State as servers;
+ghost use Rattle.model_client.specs.ClientKept.{client_closing};
+ghost use Rattle.proxy.specs.Puts.{ends};
+ghost use Rattle.proxy.specs.Fresh.{is_used, is_server_used, IsToldTime, SendsOrWaits, SendsWhereItCan, ClosesOver, BeginsWhereItMay};
+ghost use Rattle.proxy.specs.Replies.{own, KeepsIdle, KeepsFor, may_keep, ReplyIsOver, marks_of, PutsLast, TurnReplies, HasReplied, Fails, Breaks, PassesBody, PassesHead, TakesAnswer, Opens};
+ghost use Rattle.proxy.specs.Rests.{may_begin, is_over, may_turn, Settles, LeavesLess, LeavesMore, Works, WorksBody, Turns, IsNotToEnd};
+
+use crate::downstream::{
+    cut_reply, leave_body, next_bytes, next_head, put_end, put_head, put_piece, tell_to_continue,
+};
+use crate::proxy::{MAX_WAITING, Proxy, SentRequest, Unsent};
+use crate::upstream::{ask, next_answer, next_piece, sends_body, tick_server};
+use h1_client::{ClientConnection, NextAnswer, ResponseItem};
+use h1_connection::{BodySize, HeadItem, NextHead, NoMemory, Pulled, StatusCode};
+use proxy_heads::{
+    AnswerUse, Refusal, answer_use, is_forwardable, reply_head, reply_size, says_close,
+};
+
+impl Proxy {
+    /// Makes turns until none is possible.
+    pub(crate) fn settle(&mut self) -> Result<(), NoMemory>
+        ensures goes { OnOk result (Goes self.old self.new) }
+        ensures rests { OnOk result (Settles self.old self.new) }
+        ensures serves { OnOk result (GoesOnServing self.old self.new) }
+        ensures replies { OnOk result (HasReplied self.old self.new) }
+    {
+        for turn in 0..self.most_turns() {
+            let more = self.turn()?;
+            if !more {
+                return Ok(());
+            }
+        }
+        Ok(())
+    }
+
+    // No more turns are possible one after another: 32 for each byte that may be held of a side, and 8.
+    fn most_turns(&self) -> usize
+        ensures { result ≡ 32 * self.now.config.h1_hold_size + 8 }
+    {
+        32 * self.config.h1_hold_size() + 8
+    }
+
+    // The first turn that is possible; whether there was one.
+    fn turn(&mut self) -> Result<bool, NoMemory>
+        ensures goes { OnOk result (Goes self.old self.new) }
+        ensures works { IfOk result (λ more. Turns more self.old self.new) }
+        ensures serves { OnOk result (GoesOnServing self.old self.new) }
+        ensures replies { OnOk result (TurnReplies self.old self.new) }
+        ensures begins { OnOk result (BeginsWhereItMay self.old self.new) }
+        ensures sends { OnOk result (SendsWhereItCan self.old self.new) }
+        ensures keeps { OnOk result (KeepsIdle self.old self.new) }
+    {
+        if self.is_still() {
+            return Ok(false);
+        }
+        match self.unsent.take() {
+            Some(unsent) => {
+                let more = self.send(unsent)?;
+                Ok(more)
+            }
+            None => {
+                let more = self.go_on()?;
+                Ok(more)
+            }
+        }
+    }
+
+    // No turn is possible: enough waits towards the client, or towards a server that goes on where no request is under way
+    // whose answer may come; or the client's connection is to end.
+    fn is_still(&self) -> bool
+        ensures { result ≡ not (may_turn self.now) }
+    {
+        if self.client.buffered() >= MAX_WAITING {
+            return true;
+        }
+        if !self.may_begin() {
+            return true;
+        }
+        self.is_closing()
+    }
+
+    // A request that is under way may be answered. Else one may be begun where there is room towards the server, and a
+    // server connection that is to end may be closed, whatever waits there.
+    fn may_begin(&self) -> bool
+        ensures { result ≡ (may_begin self.now.sent self.now.server || is_over self.now.server) }
+    {
+        if self.sent.is_some() {
+            return true;
+        }
+        match &self.server {
+            Some(server) => server.front().len() < MAX_WAITING || server.closing().is_some(),
+            None => true,
+        }
+    }
+
+    // Sends a request on, where there is a server connection.
+    fn send(&mut self, unsent: Unsent) -> Result<bool, NoMemory>
+        ensures goes { OnOk result (GoesUnsent unsent self.old self.new) }
+        ensures works { IfOk result (λ more. Works more (record self.old { unsent = Some unsent }) self.new) }
+        ensures serves { OnOk result (GoesOnServing (record self.old { unsent = Some unsent }) self.new) }
+        ensures replies { OnOk result (TurnReplies (record self.old { unsent = Some unsent }) self.new) }
+        ensures sends { OnOk result (SendsOrWaits unsent (record self.old { unsent = Some unsent }) self.new) }
+        ensures closes { OnOk result (ClosesOver (record self.old { unsent = Some unsent }) self.new) }
+    {
+        if self.is_server_used() {
+            self.server = None;
+            self.unsent = Some(unsent);
+            return Ok(true);
+        }
+        let Some(mut server) = self.server.take() else {
+            self.unsent = Some(unsent);
+            return Ok(false);
+        };
+        self.tell_time(&mut server);
+        if ask(&mut server, &unsent.head, unsent.size)? {
+            self.server = Some(server);
+            self.sent = Some(unsent.sent);
+            self.unsent = None;
+            self.note_unsent(Some(unsent));
+            return Ok(true);
+        }
+        self.unsent = Some(unsent);
+        Ok(true)
+    }
+
+    // The server connection closes: it has ended, or bytes came that no request asked for.
+    fn is_server_over(&self) -> bool
+        ensures some { IsTrue result → is_some self.now.server ≡ true }
+        ensures over { IsTrue result → (s : servers.State) × (self.now.server ≡ Some s) × (is_some (client_closing s.kept) ≡ true) }
+        ensures is { result ≡ is_over self.now.server }
+        ensures goes_on { result ≡ false → IsNotToEnd self.now.server }
+    {
+        match &self.server {
+            Some(server) => server.closing().is_some(),
+            None => false,
+        }
+    }
+
+    // It closes, or something of an earlier answer is to come: then no request is sent on there.
+    fn is_server_used(&self) -> bool
+        ensures { result ≡ is_server_used self.now.server }
+    {
+        match &self.server {
+            Some(server) => !has_read_all(server),
+            None => false,
+        }
+    }
+
+    fn tell_time(&self, server: &mut ClientConnection)
+        ensures stays { ServerStays server.old server.new }
+        ensures told { IsToldTime self.now.moment server.old server.new }
+    {
+        if let Some(moment) = self.moment {
+            tick_server(server, moment);
+        }
+    }
+
+    // No request waits.
+    fn go_on(&mut self) -> Result<bool, NoMemory>
+        requires unsent { self.old.unsent ≡ None }
+        ensures goes { OnOk result (Goes self.old self.new) }
+        ensures works { IfOk result (λ more. Works more self.old self.new) }
+        ensures serves { OnOk result (GoesOnServing self.old self.new) }
+        ensures replies { OnOk result (TurnReplies self.old self.new) }
+        ensures keeps { OnOk result (KeepsIdle self.old self.new) }
+        ensures closes { OnOk result (ClosesOver self.old self.new) }
+    {
+        match self.sent {
+            Some(sent) => {
+                let more = self.pass_on(sent)?;
+                Ok(more)
+            }
+            None => {
+                let more = self.begin()?;
+                Ok(more)
+            }
+        }
+    }
+
+    // No request is under way: the server connection is idle.
+    fn begin(&mut self) -> Result<bool, NoMemory>
+        requires idle { HoldsNoRequest self.old }
+        ensures goes { OnOk result (Goes self.old self.new) }
+        ensures works { IfOk result (λ more. Works more self.old self.new) }
+        ensures serves { OnOk result (GoesOnServing self.old self.new) }
+        ensures replies { OnOk result (TurnReplies self.old self.new) }
+        ensures keeps { OnOk result (KeepsIdle self.old self.new) }
+        ensures closes { OnOk result (ClosesOver self.old self.new) }
+    {
+        if self.is_server_over() {
+            self.server = None;
+            return Ok(true);
+        }
+        let more = self.take_head()?;
+        Ok(more)
+    }
+
+    // The next request's head; the server connection, if there is one, isn't to end.
+    fn take_head(&mut self) -> Result<bool, NoMemory>
+        requires idle { HoldsNoRequest self.old }
+        requires goes_on { IsNotToEnd self.old.server }
+        ensures goes { OnOk result (Goes self.old self.new) }
+        ensures works { IfOk result (λ more. Works more self.old self.new) }
+        ensures serves { OnOk result (GoesOnServing self.old self.new) }
+        ensures replies { OnOk result (TurnReplies self.old self.new) }
+        ensures keeps { OnOk result (KeepsIdle self.old self.new) }
+    {
+        match next_head(&mut self.client)? {
+            NextHead::Head(item) => {
+                self.open(item)?;
+                Ok(true)
+            }
+            NextHead::Fault(fault) => {
+                self.note_fault(fault)?;
+                Ok(true)
+            }
+            NextHead::Pending => Ok(false),
+            NextHead::Closed(_) => Ok(false),
+        }
+    }
+
+    // A request is open. One that can't be sent on gets 501, and the server connection is closed.
+    fn open(&mut self, item: HeadItem) -> Result<(), NoMemory>
+        requires idle { HoldsNoRequest self.old }
+        ensures goes { OnOk result (GoesFrom item self.old self.new) }
+        ensures works { OnOk result (LeavesMore 3 self.old self.new) }
+        ensures serves { OnOk result ((h : Head) → SaysHead item h → HasNoReplyTo (asked_of h).is_head self.old → Serving self.new) }
+        ensures replies { OnOk result (Opens item self.old.client self.new) }
+        ensures keeps { OnOk result (KeepsFor item self.old self.new) }
+    {
+        if !is_forwardable(&item) {
+            self.server = None;
+            self.note_request(item.head);
+            self.reply(Refusal::NotForwardable)?;
+            return Ok(());
+        }
+        self.unsent = Some(Unsent::new(item));
+        tell_to_continue(&mut self.client)?;
+        Ok(())
+    }
+
+    // A request is under way.
+    fn pass_on(&mut self, sent: SentRequest) -> Result<bool, NoMemory>
+        requires runs { Runs sent self.old }
+        ensures goes { OnOk result (Goes self.old self.new) }
+        ensures works { IfOk result (λ more. Works more self.old self.new) }
+        ensures serves { OnOk result (GoesOnServing self.old self.new) }
+        ensures replies { OnOk result (TurnReplies self.old self.new) }
+    {
+        match self.server.take() {
+            Some(server) => {
+                let more = self.pass(sent, server)?;
+                Ok(more)
+            }
+            None => {
+                self.fail(sent)?;
+                Ok(true)
+            }
+        }
+    }
+
+    // What is there of its answer is passed on; else more of its body.
+    fn pass(&mut self, sent: SentRequest, server: ClientConnection) -> Result<bool, NoMemory>
+        requires runs { Runs sent self.old }
+        ensures goes { OnOk result (GoesWith server self.old self.new) }
+        ensures works { IfOk result (λ more. Works more (record self.old { server = Some server }) self.new) }
+        ensures serves { OnOk result (GoesOnServing self.old self.new) }
+        ensures replies { OnOk result (TurnReplies (record self.old { server = Some server }) self.new) }
+    {
+        if sent.is_answered {
+            let moved = self.pass_piece(sent, server)?;
+            return Ok(moved);
+        }
+        let more = self.pass_answer(sent, server)?;
+        Ok(more)
+    }
+
+    // The head of its answer is passed on, where it is there; else more of its body.
+    fn pass_answer(&mut self, sent: SentRequest, server: ClientConnection) -> Result<bool, NoMemory>
+        requires runs { Runs sent self.old }
+        ensures goes { OnOk result (GoesWith server self.old self.new) }
+        ensures works { IfOk result (λ more. sent.is_answered ≡ false → Works more (record self.old { server = Some server }) self.new) }
+        ensures serves { OnOk result (sent.is_answered ≡ false → GoesOnServing self.old self.new) }
+        ensures replies { OnOk result (sent.is_answered ≡ false → TurnReplies (record self.old { server = Some server }) self.new) }
+    {
+        let mut server = server;
+        match next_answer(&mut server)? {
+            NextAnswer::Answer(item) => {
+                self.take_answer(sent, server, item)?;
+                Ok(true)
+            }
+            NextAnswer::Fault(_) => {
+                self.fail(sent)?;
+                Ok(true)
+            }
+            NextAnswer::Closed(_) => {
+                self.fail(sent)?;
+                Ok(true)
+            }
+            NextAnswer::Pending => {
+                let more = self.pass_body(sent, server)?;
+                Ok(more)
+            }
+        }
+    }
+
+    // The head of its answer has come.
+    fn take_answer(
+        &mut self,
+        sent: SentRequest,
+        server: ClientConnection,
+        item: ResponseItem,
+    ) -> Result<(), NoMemory>
+        requires runs { Runs sent self.old }
+        ensures goes { OnOk result (GoesWith server self.old self.new) }
+        ensures works { OnOk result (LeavesLess 0 (record self.old { server = Some server }) self.new) }
+        ensures serves { OnOk result (sent.is_answered ≡ false → GoesOnServing self.old self.new) }
+        ensures replies { OnOk result (TakesAnswer sent server item self.old self.new) }
+    {
+        match answer_use(&item) {
+            AnswerUse::Refuse => {
+                self.fail(sent)?;
+                Ok(())
+            }
+            AnswerUse::PassOver => {
+                self.server = Some(server);
+                Ok(())
+            }
+            AnswerUse::PassOn => {
+                self.pass_noted(sent, server, item)?;
+                Ok(())
+            }
+        }
+    }
+
+    // It is passed on, and that is noted.
+    fn pass_noted(
+        &mut self,
+        sent: SentRequest,
+        server: ClientConnection,
+        item: ResponseItem,
+    ) -> Result<(), NoMemory>
+        requires runs { Runs sent self.old }
+        ensures goes { OnOk result (GoesWith server self.old self.new) }
+        ensures works { OnOk result (LeavesLess 0 (record self.old { server = Some server }) self.new) }
+        ensures serves { OnOk result (HasNoReplyTo sent.is_head self.old → IsTold self.old.client → Serving self.new) }
+        ensures replies { OnOk result (PassesHead sent server item self.old.client self.new) }
+    {
+        let status = status_of(&item);
+        self.pass_head(sent, server, item)?;
+        self.note_reply(status)?;
+        Ok(())
+    }
+
+    fn pass_head(
+        &mut self,
+        sent: SentRequest,
+        server: ClientConnection,
+        item: ResponseItem,
+    ) -> Result<(), NoMemory>
+        requires runs { Runs sent self.old }
+        ensures goes { OnOk result (GoesWith server self.old self.new) }
+        ensures works { OnOk result (LeavesLess 0 (record self.old { server = Some server }) self.new) }
+        ensures serves { OnOk result (HasNoReplyTo sent.is_head self.old → IsTold self.old.client → Serving self.new) }
+        ensures replies { OnOk result (PassesHead sent server item self.old.client self.new) }
+    {
+        let size = reply_size(sent.is_head, &item);
+        let sent = answered(sent, says_close(&item));
+        self.sent = Some(sent);
+        let head = reply_head(self.alloc, item)?;
+        if !size.is_eof() {
+            put_head(&mut self.client, &head, size)?;
+            self.server = Some(server);
+            return Ok(());
+        }
+        leave_body(&mut self.client);
+        put_head(&mut self.client, &head, size)?;
+        self.part(sent, server);
+        Ok(())
+    }
+
+    // More of the answer's body is passed on, where there is room for it; else more of the request's.
+    fn pass_piece(&mut self, sent: SentRequest, server: ClientConnection) -> Result<bool, NoMemory>
+        requires runs { Runs sent self.old }
+        ensures goes { OnOk result (GoesWith server self.old self.new) }
+        ensures works { IfOk result (λ more. sent.is_answered ≡ true → Works more (record self.old { server = Some server }) self.new) }
+        ensures serves { OnOk result (sent.is_answered ≡ true → GoesOnServing self.old self.new) }
+        ensures replies { OnOk result (sent.is_answered ≡ true → TurnReplies (record self.old { server = Some server }) self.new) }
+    {
+        if !self.client.can_chunk() {
+            let moved = self.pass_body(sent, server)?;
+            return Ok(moved);
+        }
+        let mut server = server;
+        match next_piece(&mut server)? {
+            Pulled::Bytes(bytes) => {
+                put_piece(&mut self.client, bytes)?;
+                self.server = Some(server);
+                Ok(true)
+            }
+            Pulled::Trailers(_) => {
+                self.server = Some(server);
+                Ok(true)
+            }
+            Pulled::End => {
+                self.end_reply(sent, server)?;
+                Ok(true)
+            }
+            Pulled::Broken(_) => {
+                self.fail(sent)?;
+                Ok(true)
+            }
+            Pulled::Pending => {
+                let more = self.pass_body(sent, server)?;
+                Ok(more)
+            }
+        }
+    }
+
+    // All of the answer was passed on.
+    fn end_reply(&mut self, sent: SentRequest, server: ClientConnection) -> Result<(), NoMemory>
+        requires runs { Runs sent self.old }
+        ensures goes { OnOk result (GoesWith server self.old self.new) }
+        ensures works { OnOk result (LeavesLess 0 (record self.old { server = Some server; sent = None }) self.new) }
+        ensures serves { OnOk result (sent.is_answered ≡ true → GoesOnServing self.old self.new) }
+        ensures replies { OnOk result (PutsLast [] ends self.old.client self.new.client) }
+        ensures over { OnOk result (ReplyIsOver sent.is_whole sent.closes server self.new) }
+    {
+        leave_body(&mut self.client);
+        put_end(&mut self.client)?;
+        self.part(sent, server);
+        Ok(())
+    }
+
+    // The reply is complete. The server connection is kept where both sides are whole and it goes on.
+    fn part(&mut self, sent: SentRequest, server: ClientConnection)
+        requires runs { Runs sent self.old }
+        ensures goes { GoesWith server self.old self.new }
+        ensures works { LeavesLess 0 (record self.old { server = Some server; sent = None }) self.new }
+        ensures serves { GoesOnServing (record self.old { sent = None }) self.new }
+        ensures client { self.new.client ≡ self.old.client }
+        ensures over { ReplyIsOver sent.is_whole sent.closes server self.new }
+    {
+        self.sent = None;
+        if may_keep(sent, &server) {
+            self.server = Some(server);
+            return;
+        }
+        self.server = None;
+    }
+
+    // More of the request's body goes towards the server.
+    fn pass_body(&mut self, sent: SentRequest, server: ClientConnection) -> Result<bool, NoMemory>
+        requires runs { Runs sent self.old }
+        ensures goes { OnOk result (GoesWith server self.old self.new) }
+        ensures works { IfOk result (λ more. WorksBody sent server more self.old self.new) }
+        ensures serves { OnOk result (GoesOnServing self.old self.new) }
+        ensures replies { OnOk result (PassesBody sent server self.old.client self.new) }
+    {
+        if !may_send(sent, &server) {
+            self.server = Some(server);
+            return Ok(false);
+        }
+        let mut server = server;
+        match next_bytes(&mut self.client)? {
+            Pulled::Bytes(bytes) => {
+                server.chunk(bytes.as_slice())?;
+                self.server = Some(server);
+                Ok(true)
+            }
+            Pulled::Trailers(_) => {
+                self.server = Some(server);
+                Ok(true)
+            }
+            Pulled::End => {
+                server.end_body()?;
+                self.server = Some(server);
+                self.sent = Some(whole(sent));
+                Ok(true)
+            }
+            Pulled::Broken(_) => {
+                self.break_body(sent, server)?;
+                Ok(true)
+            }
+            Pulled::Pending => {
+                self.server = Some(server);
+                Ok(false)
+            }
+        }
+    }
+
+    // The request's body is broken. Where its answer is under way, that goes on; else the client gets 400, and the server
+    // connection is closed.
+    fn break_body(&mut self, sent: SentRequest, server: ClientConnection) -> Result<(), NoMemory>
+        requires runs { Runs sent self.old }
+        ensures goes { OnOk result (GoesBroken sent server self.old self.new) }
+        ensures works { OnOk result (sent.is_whole ≡ false → sent.is_broken ≡ false → LeavesLess 1 (record self.old { server = Some server }) self.new) }
+        ensures serves { OnOk result (GoesOnServing self.old self.new) }
+        ensures replies { OnOk result (Breaks sent.is_answered sent server self.old.client self.new) }
+    {
+        if sent.is_answered {
+            self.server = Some(server);
+            self.sent = Some(broken(sent));
+            return Ok(());
+        }
+        self.server = None;
+        self.sent = None;
+        self.reply(Refusal::BrokenBody)?;
+        Ok(())
+    }
+
+    // The answer is bad, and its server connection is closed: the client gets 502, or where a head was passed on, a reply
+    // that is cut.
+    fn fail(&mut self, sent: SentRequest) -> Result<(), NoMemory>
+        requires unsent { self.old.unsent ≡ None }
+        ensures goes { OnOk result (Goes (record self.old { server = None }) self.new) }
+        ensures works { OnOk result (LeavesLess 0 (record self.old { server = None; sent = None }) self.new) }
+        ensures serves { OnOk result (GoesOnServing (record self.old { sent = Some sent }) self.new) }
+        ensures replies { OnOk result (Fails sent.is_answered self.old.client self.new) }
+    {
+        self.server = None;
+        self.sent = None;
+        if sent.is_answered {
+            cut_reply(&mut self.client);
+            return Ok(());
+        }
+        self.reply(Refusal::NoAnswer)?;
+        Ok(())
+    }
+
+    // A reply of the forwarder's own.
+    pub(crate) fn reply(&mut self, refusal: Refusal) -> Result<(), NoMemory>
+        ensures goes { OnOk result (Goes self.old self.new) }
+        ensures works { OnOk result (LeavesLess 0 self.old self.new) }
+        ensures serves { OnOk result (HoldsNoRequest self.old → HasNoReply self.old → Serving self.new) }
+        ensures replies { OnOk result (PutsLast [] (own (status_of refusal)) self.old.client self.new.client) }
+        ensures idle { OnOk result (HoldsNoRequest self.old → HoldsNoRequest self.new) }
+        ensures server { OnOk result (self.new.server ≡ self.old.server) }
+    {
+        leave_body(&mut self.client);
+        let head = refusal.head(self.alloc);
+        put_head(&mut self.client, &head, BodySize::Sized(0))?;
+        self.note_reply(refusal.status())?;
+        Ok(())
+    }
+}
+
+fn status_of(item: &ResponseItem) -> StatusCode {
+    item.head.status
+}
+
+// The head of its answer was passed on.
+fn answered(sent: SentRequest, closes: bool) -> SentRequest
+    ensures whole { result.is_whole ≡ sent.is_whole }
+    ensures broken { result.is_broken ≡ sent.is_broken }
+    ensures marks { marks_of result ≡ record { is_head = sent.is_head; is_answered = true; closes = closes } }
+{
+    SentRequest {
+        is_answered: true,
+        closes,
+        ..sent
+    }
+}
+
+// The end of its body was sent on.
+fn whole(sent: SentRequest) -> SentRequest
+    ensures whole { result.is_whole ≡ true }
+    ensures broken { result.is_broken ≡ sent.is_broken }
+    ensures marks { marks_of result ≡ marks_of sent }
+{
+    SentRequest {
+        is_whole: true,
+        ..sent
+    }
+}
+
+// Its body broke.
+fn broken(sent: SentRequest) -> SentRequest
+    ensures whole { result.is_whole ≡ sent.is_whole }
+    ensures broken { result.is_broken ≡ true }
+    ensures marks { marks_of result ≡ marks_of sent }
+{
+    SentRequest {
+        is_broken: true,
+        ..sent
+    }
+}
+
+// Whether the server connection may serve another request: both messages are whole, and it goes on.
+fn may_keep(sent: SentRequest, server: &ClientConnection) -> bool
+    ensures whole { IsTrue result → sent.is_whole ≡ true }
+    ensures keeps { result ≡ may_keep sent.is_whole sent.closes server.now }
+{
+    if !sent.is_whole {
+        return false;
+    }
+    if sent.closes {
+        return false;
+    }
+    server.closing().is_none()
+}
+
+// Whether nothing of an earlier answer is to come, and no byte came that no request asked for.
+fn has_read_all(server: &ClientConnection) -> bool
+    ensures { result ≡ not (is_used server.now) }
+{
+    if server.closing().is_some() {
+        return false;
+    }
+    if server.waiting() != 0 {
+        return false;
+    }
+    server.can_next()
+}
+
+// Whether more of the request's body may be sent on.
+fn may_send(sent: SentRequest, server: &ClientConnection) -> bool
+    ensures sends { IsTrue result → SendsBody server.now }
+    ensures more { IsTrue result → (sent.is_whole ≡ false) × (sent.is_broken ≡ false) }
+    ensures none { result ≡ false → sent.is_whole ≡ false → sent.is_broken ≡ false → length server.now.kept.buffered < MAX_WAITING → SendsBody server.now → ⊥ }
+{
+    if sent.is_whole {
+        return false;
+    }
+    if sent.is_broken {
+        return false;
+    }
+    if server.front().len() >= MAX_WAITING {
+        return false;
+    }
+    sends_body(server)
+}
