@@ -1,5 +1,5 @@
 //! The script of the input, replayed twice: as it comes, and then so that each step that finds no memory is tried again.
-//! With memory to spare none is: `bin/refuse` runs the program with one allocation refused.
+//! With memory to spare none is: `test/refuse` runs the program with one allocation refused.
 
 use crate::twice::{Replayed, replayed_twice};
 use h1_replay::{ScriptError, read_script};
