@@ -3,9 +3,9 @@ use Rattle.std.specs.Prelude.{◌≡◌, ◌⊎◌, ℕ, Bool, true, false, List
 use Rattle.model_proxy.specs.Past as event
 use Rattle.model_proxy.specs.Past.{ProxyEvent, done}
 use Rattle.proxy.specs.declared.proxy.Proxy.{Proxy}
-use Rattle.proxy.specs.Kept.{GoesBy, is_answering}
+use Rattle.proxy.specs.Kept.{is_answering}
 use Rattle.proxy_loop.specs.Flow.{TakesIn, Writes, HasReadCause, HasWriteCause}
-use Rattle.proxy_loop.specs.History.{EndsServer}
+use Rattle.proxy_loop.specs.History.{ForwarderDoes, EndsServer}
 use Rattle.proxy_loop.specs.declared.flow.TakenIn.{TakenIn}
 use Rattle.proxy_loop.specs.declared.flow.TakenIn.TheVariants as came
 use Rattle.app_proxy.specs.declared.standing.Stage.{Stage}
@@ -16,7 +16,7 @@ use Rattle.app_proxy.specs.declared.standing.Stage.TheVariants as stage
 -- What is made of what a read of the client brought: its end is told, and nothing else. It is let go at most where the read failed.
 abbrev pub FollowsClient : TakenIn → Proxy → Stage → Stage → Proxy → Type 0
 FollowsClient (came.Bytes n) old before now new = (new ≡ old) × (now ≡ before)
-FollowsClient came.End old before now new = GoesBy event.client_eof done old new × (now ≡ before)
+FollowsClient came.End old before now new = ForwarderDoes event.client_eof done old new × (now ≡ before)
 FollowsClient came.Failed old before now new = (new ≡ old) × ((now ≡ before) ⊎ (now ≡ stage.Lost))
 FollowsClient came.Full old before now new = (new ≡ old) × (now ≡ before)
 
