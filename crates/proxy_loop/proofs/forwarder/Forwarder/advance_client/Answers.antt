@@ -14,6 +14,6 @@ invariant_of-self c =
 pub returns-in-Ok : goal.returns-in-Ok
 returns-in-Ok c = record {
   goes = subst (λ (p : Proxy). ForwarderDoes (event.to_client c.args.count) (gave (take c.args.count ((client_of p).kept.buffered))) p c.advance_client.new.self) c.self.view_is
-    (does (event.to_client c.args.count) (gave (take c.args.count ((client_of c.self.inside.proxy).kept.buffered))) c.self.inside.proxy c.advance_client.new.self c.self.invariant c.in-Ok.ensures.goes c.in-Ok.ensures.rests
+      (does (event.to_client c.args.count) (gave (take c.args.count ((client_of c.self.inside.proxy).kept.buffered))) c.self.inside.proxy c.advance_client.new.self c.self.invariant c.in-Ok.ensures.goes c.in-Ok.ensures.rests
       c.in-Ok.ensures.serves c.in-Ok.ensures.replies);
 }

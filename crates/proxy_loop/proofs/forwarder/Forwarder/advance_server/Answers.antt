@@ -14,6 +14,6 @@ invariant_of-self c =
 pub returns-in-Ok : goal.returns-in-Ok
 returns-in-Ok c = record {
   goes = subst (λ (p : Proxy). ForwarderDoes (event.to_server c.args.count) (gave (take c.args.count (server_text (server_of p)))) p c.advance_server.new.self) c.self.view_is
-    (does (event.to_server c.args.count) (gave (take c.args.count (server_text (server_of c.self.inside.proxy)))) c.self.inside.proxy c.advance_server.new.self c.self.invariant c.in-Ok.ensures.goes c.in-Ok.ensures.rests
+      (does (event.to_server c.args.count) (gave (take c.args.count (server_text (server_of c.self.inside.proxy)))) c.self.inside.proxy c.advance_server.new.self c.self.invariant c.in-Ok.ensures.goes c.in-Ok.ensures.rests
       c.in-Ok.ensures.serves c.in-Ok.ensures.replies);
 }

@@ -22,7 +22,7 @@ returns-in-Ok-clause-goes c =
     told (wants_server c.args.self.now) event.refused done c.args.self.now c.refused.new.self
     (ap (λ (p : Proxy). wants_server p) (sym c.self.view_is) ∙ sym c.wants_server.ensures ∙ c.if-not-wants_server.false)
     (seen_by event.refused done c.self.inside.proxy c.args.self.now c.refused.new.self c.self.view_is
-      (does event.refused done c.self.inside.proxy c.refused.new.self c.self.invariant c.in-Ok.ensures.goes c.in-Ok.ensures.rests c.in-Ok.ensures.serves c.in-Ok.ensures.replies))
+    (does event.refused done c.self.inside.proxy c.refused.new.self c.self.invariant c.in-Ok.ensures.goes c.in-Ok.ensures.rests c.in-Ok.ensures.serves c.in-Ok.ensures.replies))
 
 pub returns-in-Ok-clause-told : goal.returns-in-Ok-clause-told
 returns-in-Ok-clause-told c = sym (ap (λ (p : Proxy). wants_server p) (sym c.self.view_is) ∙ sym c.wants_server.ensures ∙ c.if-not-wants_server.false)

@@ -23,7 +23,7 @@ returns-in-Ok-clause-goes c =
     told (server_allows (server_of c.args.self.now) asked.eof) event.server_eof done c.args.self.now c.server_eof.new.self
     (ap (λ (p : Proxy). server_allows (server_of p) asked.eof) (sym c.self.view_is) ∙ sym c.can_read_server.ensures.eof ∙ c.if-not-can_read_server.false)
     (seen_by event.server_eof done c.self.inside.proxy c.args.self.now c.server_eof.new.self c.self.view_is
-      (does event.server_eof done c.self.inside.proxy c.server_eof.new.self c.self.invariant c.in-Ok.ensures.goes c.in-Ok.ensures.rests c.in-Ok.ensures.serves c.in-Ok.ensures.replies))
+    (does event.server_eof done c.self.inside.proxy c.server_eof.new.self c.self.invariant c.in-Ok.ensures.goes c.in-Ok.ensures.rests c.in-Ok.ensures.serves c.in-Ok.ensures.replies))
 
 pub returns-in-Ok-clause-told : goal.returns-in-Ok-clause-told
 returns-in-Ok-clause-told c = sym (ap (λ (p : Proxy). server_allows (server_of p) asked.eof) (sym c.self.view_is) ∙ sym c.can_read_server.ensures.eof ∙ c.if-not-can_read_server.false)

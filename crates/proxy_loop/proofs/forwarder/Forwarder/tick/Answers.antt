@@ -23,7 +23,7 @@ returns-in-Ok-clause-goes c =
     told (client_takes c.args.self.now (on.tick c.args.moment)) (event.tick c.args.moment) done c.args.self.now c.tick.new.self
     (ap (λ (p : Proxy). client_takes p (on.tick c.args.moment)) (sym c.self.view_is) ∙ sym c.can_tick.ensures ∙ c.if-not-can_tick.false)
     (seen_by (event.tick c.args.moment) done c.self.inside.proxy c.args.self.now c.tick.new.self c.self.view_is
-      (does (event.tick c.args.moment) done c.self.inside.proxy c.tick.new.self c.self.invariant c.in-Ok.ensures.goes c.in-Ok.ensures.rests c.in-Ok.ensures.serves c.in-Ok.ensures.replies))
+    (does (event.tick c.args.moment) done c.self.inside.proxy c.tick.new.self c.self.invariant c.in-Ok.ensures.goes c.in-Ok.ensures.rests c.in-Ok.ensures.serves c.in-Ok.ensures.replies))
 
 pub returns-in-Ok-clause-told : goal.returns-in-Ok-clause-told
 returns-in-Ok-clause-told c = sym (ap (λ (p : Proxy). client_takes p (on.tick c.args.moment)) (sym c.self.view_is) ∙ sym c.can_tick.ensures ∙ c.if-not-can_tick.false)
