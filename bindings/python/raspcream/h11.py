@@ -11,8 +11,8 @@ The engine reads all that comes, checks the lines that are sent, says how a body
 writes bodies. Heads and trailers are written here, with the caller's reason, and its lines in their order and case.
 
 What differs from h11: lines of one name come together, with the name in lower case; 8 KiB at least are held of what comes, and
-128 KiB by itself; a piece of a body doesn't say where it stands in its chunk; what is behind the head of a CONNECT or an
-upgrade is not read as a body; nothing is answered before a request came.
+128 KiB by itself; a piece of a body doesn't say where it stands in its chunk; a client can't send CONNECT, and a server that
+declines one without a length closes the connection; nothing is answered before a request came.
 """
 import re
 import time
@@ -30,14 +30,19 @@ __all__ = [
 PRODUCT_ID = "python-raspcream/0.1.0"
 
 
-class _Word:
-    """A constant with a name."""
+class _Word(type):
+    """A constant with a name. Programs for h11 ask `type(event) is NEED_DATA`, so each is its own type."""
+
+    def __new__(cls, name: str) -> "_Word":
+        word = super().__new__(cls, name, (cls,), {})
+        word.__class__ = word
+        return word
 
     def __init__(self, name: str) -> None:
-        self._name = name
+        pass
 
     def __repr__(self) -> str:
-        return self._name
+        return self.__name__
 
 
 CLIENT, SERVER = _Word("CLIENT"), _Word("SERVER")
@@ -345,7 +350,10 @@ class Connection:
             if ends and (states[role] is DONE or (states[role] is IDLE and states[other] is CLOSED)):
                 states[role] = MUST_CLOSE
 
-    def _switch(self) -> None:
+    def _switch(self, behind: bytes = b"") -> None:
+        """`behind` is what was held before the answer, which may drop it as a body that nobody read."""
+        if behind and not self._held():
+            self._left = behind + bytes(self._left)
         self._states[CLIENT] = self._states[SERVER] = SWITCHED_PROTOCOL
 
     # ---- what comes
@@ -360,9 +368,16 @@ class Connection:
             self._left = bytes(self._left) + bytes(data) if self._left else data
             self._feed()
 
+    def _has_paused(self) -> bool:
+        """Whether what comes may be another protocol's."""
+        return self.their_state in (MIGHT_SWITCH_PROTOCOL, SWITCHED_PROTOCOL)
+
     def _feed(self) -> bool:
         """Hands in what there is room for. Whether something was taken."""
         count = 0
+        if self._has_paused():
+            self._left = bytes(self._left)
+            return False
         try:
             if self._left:
                 count = self._conn.read(self._left)
@@ -406,7 +421,7 @@ class Connection:
 
     def _next(self):
         theirs = self.their_state
-        if theirs is MIGHT_SWITCH_PROTOCOL or theirs is SWITCHED_PROTOCOL:
+        if self._has_paused():
             return PAUSED
         if self._in_body:
             return self._next_piece()
@@ -454,8 +469,8 @@ class Connection:
         event = _head(Request, minor, headers, method=method, target=target)
         self.their_http_version, self._method = event.http_version, method
         self._lasts = self._lasts and _lasts(event)
-        # What follows an upgrade is another protocol's, unless the request is declined.
-        self._switches = body == Body.RAW
+        # What follows may be another protocol's, unless the request is declined.
+        self._switches = body == Body.RAW or method == b"CONNECT" or any(name == b"upgrade" for name, _ in headers)
         self._body_comes(body if body != Body.RAW else Body.NONE, length)
         self._expects = self._has_body and bool(self._conn.state()[0] & Can.CONTINUE)
         self._step(CLIENT, Request, RemoteProtocolError)
@@ -565,6 +580,7 @@ class Connection:
             if status < 300 and self._method == b"CONNECT":
                 size = NO_BODY
             lasts = self._lasts and _lasts(event)
+            behind = self._held() if self._switches else b""
             self._conn.answer(status, Keep.DEFAULT if lasts else Keep.CLOSE, size, lines)
             written = self._conn.take().partition(b"\r\n\r\n")[0].lower()
             self._lasts = lasts and b"\r\nconnection: close" not in written
@@ -574,8 +590,8 @@ class Connection:
         self._is_chunked = is_chunked and not has_no_body
         self._size = 0 if has_no_body else None if size == STREAM else size
         self._expects = False
-        if self._method == b"CONNECT" and 200 <= status < 300:
-            self._switch()
+        if self._method == b"CONNECT" and 200 <= status < 300 and not self._is_refused:
+            self._switch(behind)
         else:
             self._switches = False
             self._step(SERVER, Response)
@@ -614,9 +630,10 @@ class Connection:
     def _inform(self, event) -> "list[bytes]":
         self._is_well(event, SERVER)
         if event.status_code == 101:
+            behind = self._held()
             self._conn.answer(101, Keep.UPGRADE, NO_BODY, [pair for pair in event.headers if pair[0] not in _FRAMING])
             self._conn.take()
-            self._switch()
+            self._switch(behind)
         elif event.status_code == 100:
             self._expects = False
             if self._conn.state()[0] & Can.CONTINUE:
