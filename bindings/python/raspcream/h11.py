@@ -11,8 +11,9 @@ The engine reads all that comes, checks the lines that are sent, says how a body
 writes bodies. Heads and trailers are written here, with the caller's reason, and its lines in their order and case.
 
 What differs from h11: lines of one name come together, with the name in lower case; 8 KiB at least are held of what comes, and
-128 KiB by itself; a piece of a body doesn't say where it stands in its chunk; a client can't send CONNECT, and a server that
-declines one without a length closes the connection; nothing is answered before a request came.
+128 KiB by itself; a piece of a body doesn't say where it stands in its chunk; a client can't send CONNECT; a server closes the
+connection where it declines a CONNECT without a length, or an upgrade that the `connection` line names; nothing is answered
+before a request came.
 """
 import re
 import time
@@ -583,7 +584,8 @@ class Connection:
             behind = self._held() if self._switches else b""
             self._conn.answer(status, Keep.DEFAULT if lasts else Keep.CLOSE, size, lines)
             written = self._conn.take().partition(b"\r\n\r\n")[0].lower()
-            self._lasts = lasts and b"\r\nconnection: close" not in written
+            # The engine ends a connection whose request names an upgrade, even where that is declined.
+            self._lasts = lasts and b"\r\nconnection: close" not in written and b"\r\nconnection: upgrade" not in written
         has_no_body = size == NO_BODY or self._method == b"HEAD"
         is_chunked = b"\r\ntransfer-encoding: chunked" in written or (
             self._method == b"HEAD" and size == STREAM and self.their_http_version == b"1.1")

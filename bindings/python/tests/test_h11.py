@@ -102,9 +102,9 @@ class Server(unittest.TestCase):
         self.assertIs(conn.next_event(), h11.PAUSED)
         self.assertEqual(conn.trailing_data, (b"more of it", False))
 
-    def upgraded(self):
+    def upgraded(self, lines=b""):
         conn = server()
-        conn.receive_data(b"GET / HTTP/1.1\r\nHost: a\r\nConnection: upgrade\r\nUpgrade: a, b\r\n\r\n")
+        conn.receive_data(b"GET / HTTP/1.1\r\nHost: a\r\n" + lines + b"Upgrade: a, b\r\n\r\n")
         self.assertEqual(conn.next_event().method, b"GET")
         self.assertEqual(conn.next_event(), h11.EndOfMessage())
         self.assertIs(conn.their_state, h11.MIGHT_SWITCH_PROTOCOL)
@@ -113,7 +113,7 @@ class Server(unittest.TestCase):
         return conn
 
     def test_an_upgrade_is_accepted(self):
-        conn = self.upgraded()
+        conn = self.upgraded(b"Connection: upgrade\r\n")
         conn.send(h11.InformationalResponse(status_code=101, headers=[("upgrade", "a")]))
         self.assertEqual(conn.states, {h11.CLIENT: h11.SWITCHED_PROTOCOL, h11.SERVER: h11.SWITCHED_PROTOCOL})
         self.assertEqual(conn.trailing_data, (b"GET /2 HTTP/1.1\r\nHost: a\r\n\r\n", False))
@@ -124,6 +124,10 @@ class Server(unittest.TestCase):
         conn.send(h11.EndOfMessage())
         conn.start_next_cycle()
         self.assertEqual(conn.next_event().target, b"/2")
+        conn = self.upgraded(b"Connection: upgrade\r\n")
+        self.assertIn(b"Connection: close", conn.send(h11.Response(status_code=200, headers=[("content-length", "0")])))
+        conn.send(h11.EndOfMessage())
+        self.assertIs(conn.our_state, h11.MUST_CLOSE)
 
 
 class TwoEnds(unittest.TestCase):
