@@ -266,11 +266,13 @@ end_server() {
     fi
 }
 
+microseconds() { echo "${EPOCHREALTIME/[.,]/}"; }
+
 # Waits for a server that is to end, and kills it where it takes too long.
 give_time() {
-    local until=$((SECONDS + drain))
+    local until=$(($(microseconds) + drain * 1000000))
     while [ "$signals" = 1 ] && kill -0 "$server" 2>/dev/null; do
-        if [ "$SECONDS" -ge "$until" ]; then
+        if [ "$(microseconds)" -ge "$until" ]; then
             echo "$launcher: it hasn't ended within $drain seconds, so it is killed" >&2
             kill -KILL "$server" 2>/dev/null || :
             return
