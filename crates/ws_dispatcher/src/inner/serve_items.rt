@@ -93,7 +93,7 @@ where
         ensures kept { Keeps cx.old cx.new }
     {
         match self.service.poll_ready(cx) {
-            Poll::Pending => Turn::Idle,
+            Poll::Pending => Turn::Idle, // The service wakes the task.
             Poll::Ready(Err(error)) => {
                 self.end = End::Failed(error);
                 Turn::Counted
