@@ -5,6 +5,7 @@ use Rattle.http_types.specs.declared.error.Error.{Error}
 use Rattle.http_services.specs.Serving.{Serving, Calling}
 use Rattle.http_transport.specs.Wiring.{Wiring}
 use Rattle.ws_frames.specs.declared.message.Message.{Message}
+use Rattle.model_state.specs.Kept.{is_upgraded}
 use Rattle.model_state.specs.Local.{closing_by, allowed_by}
 use Rattle.model_h1.specs.Event as on
 use Rattle.model_h1.specs.Frame as said
@@ -151,8 +152,6 @@ HasNoOutput v = (length (buffered v) ≡ 0) ⊎ (allows v (on.write 0) ≡ false
 abbrev pub HasNoInput : View → Type 0
 HasNoInput v = (allows v on.eof ≡ false) ⊎ ((room v ≡ 0) ⊎ (v.input_ended ≡ true))
 
--- It is no connection that was upgraded, or it had ended before: while it doesn't close no frame may be asked for, or it closes, and
--- neither may its end be told nor anything be written.
+-- the connection doesn't speak WebSocket, or nothing is allowed any more
 abbrev pub IsForeign : View → Type 0
-IsForeign v =
-    ((closes v ≡ false) × (allows_pull v ≡ false)) ⊎ ((closes v ≡ true) × (allows_next v ≡ false) × (allows v (on.write 0) ≡ false))
+IsForeign v = (is_upgraded v.traced.state.kept ≡ false) ⊎ (v.traced.state.kept.is_over ≡ true)

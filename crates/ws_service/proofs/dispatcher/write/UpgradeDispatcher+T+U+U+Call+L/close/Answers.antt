@@ -1,7 +1,9 @@
 use Rattle.std.proofs.Common.{rules, refl, ap, is_some, inr}
+use Rattle.h1_connection.specs.EventMeaning.{setting_of}
 use Rattle.ws_service.specs.View.{view_of}
 use Rattle.ws_service.proofs.Turns.{end_then, held_idle}
 use Rattle.ws_service.proofs.Runs.{stays_foreign}
+use Rattle.ws_service.proofs.Closes.{not_written}
 use Rattle.ws_service.proofs.dispatcher.write.UpgradeDispatcher+T+U+U+Call+L.close.Goals as goal
 
 pub returns-then-can_next-clause-says : goal.returns-then-can_next-clause-says
@@ -18,4 +20,4 @@ returns-then-can_write-clause-says g c =
 pub returns-clause-says : goal.returns-clause-says
 returns-clause-says g c =
     let v = view_of g.T.Transport.wiring g.U.Service.served g.L.Recorder.noted g.L.Recorder.is_listening c.args.self.now in
-    stays_foreign v c.requires.running (inr (ap is_some c.requires.closing, search rules, search rules))
+    stays_foreign v c.requires.running (inr (not_written (setting_of v.traced.state.settings) v.traced.state.kept (search rules)))
