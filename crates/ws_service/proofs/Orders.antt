@@ -110,6 +110,9 @@ queued a b c in_first in_rest out_first out_rest first then =
     sym (append_assoc a in_first in_rest) ∙ ap (λ l. l ++ in_rest) first ∙ append_assoc out_first b in_rest ∙ ap (λ l. out_first ++ l) then
     ∙ sym (append_assoc out_first out_rest c)
 
+more_calls : {A B : Type 0} (p q r : ℕ) (a b : List A) (c e : List B) → p + length a ≡ length c + q → q + length b ≡ length e + r → p + length (a ++ b) ≡ length (c ++ e) + r
+more_calls p q r a b c e x y = omega (arith, x, y, length-append a b, length-append c e)
+
 pub run_keeps : (v w : View) (steps : List Step) → IsRun v steps w → KeepsOrder v steps w
 run_keeps v w [] is = record {
   waits = append-nil (waits_in v.stage) ∙ ap (λ (x : View). waits_in x.stage) (sym is);
@@ -124,7 +127,7 @@ run_keeps v w (d ∷ steps) is =
     let then = run_keeps u w steps is.2 in
     record {
       waits = queued (waits_in v.stage) (waits_in u.stage) (waits_in w.stage) (step_frames d) (frames steps) (step_calls d) (calls steps) first.waits then.waits;
-      each = omega (arith, first.each, then.each, length-append (step_calls d) (calls steps), length-append (step_answers d) (answers steps));
+      each = more_calls (calls_in v.stage) (calls_in u.stage) (calls_in w.stage) (step_calls d) (calls steps) (step_answers d) (answers steps) first.each then.each;
       sent_so = queued (unsent_in v.stage) (unsent_in u.stage) (unsent_in w.stage) (step_messages d) (messages steps) (step_sent d) (sends steps) first.sent_so then.sent_so;
       called_so = grown (step_calls d) (calls steps) _ _ _ first.called_so then.called_so;
       answered_so = grown (step_answers d) (answers steps) _ _ _ first.answered_so then.answered_so;
@@ -145,7 +148,7 @@ pub all_answered : (request : RequestParts Unit Unit) (traced : TracedView) (lis
 all_answered request traced listening transport service v w steps run is =
     let k = run_keeps (view_begun request traced listening transport service) v steps run in
     record {
-      called = k.waits ∙ ap (λ s. calls steps ++ waits_in s) is.1 ∙ append-nil (calls steps);
+      called_so = k.waits ∙ ap (λ s. calls steps ++ waits_in s) is.1 ∙ append-nil (calls steps);
       each = k.each ∙ ap (λ s. length (answers steps) + calls_in s) is.1 ∙ plus_none (length (answers steps));
       sent_so = k.sent_so ∙ ap (λ s. sends steps ++ unsent_in s) is.1 ∙ append-nil (sends steps);
     }

@@ -106,6 +106,6 @@ pub record StartsWith (request : RequestParts Unit Unit) (steps : List Step) (w 
 -- Nothing is left: the service was called with the request and with every frame that came, each call has its answer, and every message
 -- among the answers was sent.
 pub record AllAnswered (request : RequestParts Unit Unit) (steps : List Step) : Type 0 where
-  pub called : items.Open request ∷ frames steps ≡ calls steps
+  pub called_so : items.Open request ∷ frames steps ≡ calls steps
   pub each : length (calls steps) ≡ length (answers steps)
   pub sent_so : messages steps ≡ sends steps

@@ -159,7 +159,7 @@ pub record IsHeld (v w : View) : Type 0 where
   pub stays : w ≡ v
   pub closing : closes v ≡ true
   pub next : allows_next v ≡ false
-  pub written : allows v (on.write 0) ≡ true
+  pub may_write : allows v (on.write 0) ≡ true
 
 -- nothing more can be done while the connection goes on: its writing waits, and then all else
 pub record IsStuckRunning (v w : View) : Type 0 where

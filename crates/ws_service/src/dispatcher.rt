@@ -95,8 +95,8 @@ where
         }
     }
 
-    /// Has the connection end: an upgraded one drains at once. The next poll tells it so, unless it closes by then. What the
-    /// service has said is written before, and what it hasn't said is not waited for.
+    /// Has the connection end: an upgraded one drains at once. The next poll tells it so, unless it closes by then. The answers
+    /// that were sent are written before. One that waits for room is given up, and so is one that the service hasn't given yet.
     pub fn drain(&mut self)
         ensures view { view_of T.wiring U.served L.noted L.is_listening self.new ≡ with_drain (view_of T.wiring U.served L.noted L.is_listening self.old) }
         ensures open { MayBePolled U.calling self.old → MayBePolled U.calling self.new }

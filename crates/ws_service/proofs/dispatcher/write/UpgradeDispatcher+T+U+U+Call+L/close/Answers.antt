@@ -15,7 +15,7 @@ returns-then-can_next-clause-says g c =
 pub returns-then-can_write-clause-says : goal.returns-then-can_write-clause-says
 returns-then-can_write-clause-says g c =
     let v = view_of g.T.Transport.wiring g.U.Service.served g.L.Recorder.noted g.L.Recorder.is_listening c.args.self.now in
-    held_idle v c.wait.result c.wait.ensures.idle (record { stays = refl; closing = ap is_some c.requires.closing; next = search rules; written = search rules })
+    held_idle v c.wait.result c.wait.ensures.idle (record { stays = refl; closing = ap is_some c.requires.closing; next = search rules; may_write = search rules })
 
 pub returns-clause-says : goal.returns-clause-says
 returns-clause-says g c =
