@@ -125,7 +125,7 @@ noted_on : (s t : List Step) → AllNoted s → AllNoted t → AllNoted (s ++ t)
 noted_on [] t first then = then
 noted_on (d ∷ s) t first then = (first.0, noted_on s t first.1 then)
 
-begun_run : (v w : View) (moment : ℕ) → IsBegun v moment w → (steps : List Step) × IsRun v steps w × AllNoted steps
+pub begun_run : (v w : View) (moment : ℕ) → IsBegun v moment w → (steps : List Step) × IsRun v steps w × AllNoted steps
 begun_run v w moment is = drains (ticks is.ticks) is.drains
   where
     ticks : Ticks v moment is.between → (steps : List Step) × IsRun v steps is.between × AllNoted steps
@@ -181,7 +181,7 @@ goes_noted (failed_write count) goes = absurd goes
 goes_noted (failed_read came) goes = absurd goes
 goes_noted asked_to_drain goes = tt
 
-go_noted : (steps : List Step) → AllContinue steps → AllNoted steps
+pub go_noted : (steps : List Step) → AllContinue steps → AllNoted steps
 go_noted [] all = tt
 go_noted (d ∷ steps) all = (goes_noted d all.0, go_noted steps all.1)
 

@@ -8,3 +8,4 @@ pub mod Lacks
 pub mod Causes
 pub mod Closes
 pub mod Ends
+pub mod Stays

@@ -287,7 +287,7 @@ tells v u w finds allowed goes same =
     (frame_writes (setting_of v.traced.state.settings) v.traced.state.kept u.traced.state.kept o allowed machine) (ap of_frame says)))
     (done u w on.eof (ap (λ (x : View). x.transport) same ∙ sym (ap (λ (x : View). x.transport) finds.same)) refl goes)
 
-step_follows : (v w : View) (d : Step) → IsNoted d → IsStep v d w → By v (step_frames d) (map message_says (step_sent d)) w
+pub step_follows : (v w : View) (d : Step) → IsNoted d → IsStep v d w → By v (step_frames d) (map message_says (step_sent d)) w
 step_follows v w (ticked moment expiry) noted is =
     went v w (on.tick moment) [] (Is (expiry_of expiry)) is.0 (λ out says machine. quiet v w (on.tick moment) [] out (ap (λ (x : View). x.transport) is.1) refl
     (ap step_written says ∙ expiry_writes expiry) (ap of_frame says ∙ expiry_frames expiry))

@@ -1,5 +1,5 @@
 //! What the steps of every run are together.
-ghost use Rattle.std.specs.Prelude.{◌≡◌, ℕ, Bool, true, List, Result};
+ghost use Rattle.std.specs.Prelude.{◌≡◌, ℕ, Bool, true, List, Result, Err};
 ghost use Rattle.futures.specs.declared.task.Poll.{Poll};
 ghost use Rattle.futures.specs.declared.task.Poll.TheVariants.{Ready};
 ghost use Rattle.futures.specs.declared.task.context.Context.{Context};
@@ -11,6 +11,8 @@ ghost use Rattle.model_state.specs.Local.{is_exhausted};
 ghost use Rattle.h1_connection.specs.EventMeaning.{setting_of};
 ghost use Rattle.h1_traced.specs.Traced.{TracedView, TracedStands};
 ghost use Rattle.ws_service.specs.declared.error.UpgradeError.{UpgradeError};
+ghost use Rattle.ws_service.specs.declared.error.UpgradeError.TheVariants.{NotUpgraded};
+ghost use Rattle.ws_service.specs.Stays.{IsLive};
 ghost use Rattle.ws_service.specs.View.{View, Upgrading, closes, view_begun};
 ghost use Rattle.ws_service.specs.Steps.{Step, IsStep, IsRun, read, told_end};
 ghost use Rattle.ws_service.specs.Polls.{PollSays};
@@ -67,4 +69,11 @@ pub fn polls_end_by_their_cause()
 /// No byte is asked for while the connection closes.
 pub fn nothing_is_read_while_it_closes()
     ensures { (v w : View) (came : List ℕ) (answer : Poll (Result ℕ Failed)) → closes v ≡ true → ¬ IsStep v (read came answer) w }
+{}
+
+/// A connection that speaks WebSocket stays so, over every run in which memory doesn't run out, and until the dispatcher has ended
+/// something is allowed. So no poll over one answers `NotUpgraded`.
+pub fn an_upgraded_connection_stays_so()
+    ensures runs { (v w : View) (steps : List Step) (trace : List sums.Step) → TracedStands v.traced trace → AllNoted steps → IsRun v steps w → IsLive v → IsLive w }
+    ensures polls { (v w : View) (cx : Context) (moment : ℕ) (trace : List sums.Step) → TracedStands v.traced trace → IsLive v → ¬ PollSays v w cx moment (Ready (Err NotUpgraded)) }
 {}
