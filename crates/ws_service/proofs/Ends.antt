@@ -30,12 +30,10 @@ rest_none ended (frames_rest under_way limit) bytes p is pulls none =
 
 pull_none : (k : Kept) (e : Option Exchange) (c : Change) → k.exchange ≡ e → is_upgraded k ≡ true → IsPulling k e c → c.outcome ≡ on.pending
     → of_exchange (λ x. has_no_frame k.unread x.rest) k ≡ true
-pull_none k None c at is pulls none = absurd (no_frames k at is)
-  where
-    no_frames : (k : Kept) → k.exchange ≡ None → is_upgraded k ≡ true → ⊥
-    no_frames k at is =
-        let never : false ≡ true = sym (ap (λ y. of_exchange (λ z. is_frames z.rest) (record k { exchange = y })) at) ∙ is in
-        cc never
+pull_none k None c at is pulls none =
+    absurd
+    (let never : false ≡ true = sym (ap (λ y. of_exchange (λ z. is_frames z.rest) (record k { exchange = y })) at) ∙ is in
+    cc never)
 pull_none k (Some x) c at is pulls none =
     ap (λ y. of_exchange (λ z. has_no_frame k.unread z.rest) (record k { exchange = y })) at
     ∙ rest_none k.has_ended x.rest k.unread pulls.0 (sym (ap (λ y. of_exchange (λ z. is_frames z.rest) (record k { exchange = y })) at) ∙ is) pulls.1
