@@ -92,7 +92,7 @@ Ended w steps (Err error.DisconnectTimeout) = AllContinue steps × (w.ending ≡
 Ended w steps (Err error.NoMemory) = (w.ending ≡ Some Broken) × (LacksMemory steps ⊎ AllContinue steps)
 Ended w steps (Err error.NotUpgraded) = AllContinue steps × (w.ending ≡ None) × IsForeign w
 
--- ---- progress: an event that was noted, and whose outcome isn't that nothing came
+-- ---- progress: an event that was noted, and whose outcome isn't that nothing came; or the transport showed the end of the input
 
 abbrev pub moves : Poll (Result ℕ Failed) → ℕ
 moves (Ready x) = 1
@@ -292,8 +292,8 @@ abbrev pub BeginSays : {A E : Type 0} → View → ℕ → View → Result A E �
 BeginSays v moment w (Ok x) = IsBegun v moment w
 BeginSays v moment w (Err e) = BeginFails v moment w
 
--- The turns of a poll are at most 64, of at most four steps each. They are pending where nothing more can be done, or where 64 events
--- were noted, and then the task is woken; what waited to be written was given to the transport first.
+-- The turns of a poll are at most 64, of at most four steps each. They are pending where nothing more can be done, or where 64 steps
+-- were progress, and then the task is woken; what waited to be written was given to the transport first.
 pub record IsSpent (v w : View) (cx : Context) : Type 0 where
   pub goes : Progress v w 64 (4 * 64)
   pub first : WritesFirst v goes.steps
