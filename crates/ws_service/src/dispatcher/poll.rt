@@ -25,10 +25,11 @@ where
     /// connection.
     ///
     /// The moment is told to the connection, and then the drain, where it was asked for and is allowed. Then come at most 64
-    /// turns, each of which does the first of these that is possible: what waits is written; a connection that closes tells its
-    /// end, and the transport is shut down; an answer that waits is sent, where there is room; the call in progress is polled; the
-    /// service is called with what waits for it; the next frame is asked for; the input is read. While it closes nothing is
-    /// read, asked for or sent, and the service isn't called or polled.
+    /// turns, of at most four steps each, each of which does the first of these that is possible: what waits is written; a
+    /// connection that closes tells its end, and the transport is shut down; an answer that waits is sent, where there is room; the
+    /// call in progress is polled; the service is called with what waits for it; the next frame is asked for; the input is read, or
+    /// its end is told, once that has come and no frame is left. While it closes nothing is read, asked for or sent, and the service
+    /// isn't called or polled.
     ///
     /// It is pending where all that is needed is pending, or where its turns are spent: then the task is woken.
     ///
@@ -36,11 +37,11 @@ where
     ///
     /// `Upgrade` where the service failed: an item that it wasn't ready for waits still, and after a call that failed the next
     /// frame is asked for where it is polled again. `Io` where the transport failed. `DisconnectTimeout` where the peer took too long
-    /// to take what was left. `NoMemory` where memory ran out: what was noted is a trace still, and the last step may not have
+    /// to take what was left. `NotUpgraded` where the connection wasn't upgraded, or had ended before. `NoMemory` where memory ran out: what was noted is a trace still, and the last step may not have
     /// been noted. From then on each poll answers `NoMemory` and does nothing.
     pub fn poll(&mut self, moment: u64, cx: &mut Context<'_>) -> Poll<Result<(), UpgradeError>>
         requires open { MayBePolled U.calling self.old }
-        ensures says { PollSays (view_of T.wiring U.served L.noted self.old) (view_of T.wiring U.served L.noted self.new) cx.new moment result }
+        ensures says { PollSays (view_of T.wiring U.served L.noted L.is_listening self.old) (view_of T.wiring U.served L.noted L.is_listening self.new) cx.new moment result }
         ensures open { MayBePolled U.calling self.new }
         ensures registered { OnPending result (IsArmed cx.new) }
         ensures kept { Keeps cx.old cx.new }
@@ -56,7 +57,7 @@ where
 
     // Whether memory ran out.
     fn is_broken(&self) -> bool
-        ensures { result ≡ is_broken (view_of T.wiring U.served L.noted self.now).ending }
+        ensures { result ≡ is_broken (view_of T.wiring U.served L.noted L.is_listening self.now).ending }
     {
         match self.ending {
             None => false,
@@ -68,7 +69,7 @@ where
 
     fn turns(&mut self, cx: &mut Context<'_>) -> Poll<Result<(), UpgradeError>>
         requires open { MayBePolled U.calling self.old }
-        ensures says { TurnsSay (view_of T.wiring U.served L.noted self.old) (view_of T.wiring U.served L.noted self.new) cx.new result }
+        ensures says { TurnsSay (view_of T.wiring U.served L.noted L.is_listening self.old) (view_of T.wiring U.served L.noted L.is_listening self.new) cx.new result }
         ensures open { MayBePolled U.calling self.new }
         ensures registered { OnPending result (IsArmed cx.new) }
         ensures kept { Keeps cx.old cx.new }
