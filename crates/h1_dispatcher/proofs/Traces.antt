@@ -8,6 +8,8 @@ use Rattle.http_bodies.specs.Giving.{Piece}
 use Rattle.http_bodies.specs.Told.{Grows}
 use Rattle.http_bodies.specs.declared.body.fault.BodyFault.TheVariants.{Body, NoMemory}
 use Rattle.http_bodies.proofs.Histories.{grown, grown-none}
+use Rattle.http_config.specs.Config.{Settings}
+use Rattle.http_services.specs.Serving.{Serving}
 use Rattle.http_transport.specs.Wiring.{Wiring, ReadSays, WriteSays, moved}
 use Rattle.h1_payload.specs.Rests.{SaysPulled}
 use Rattle.h1_payload.specs.declared.pulled.Pulled.{Pulled}
@@ -24,14 +26,16 @@ use Rattle.model_state.specs.Change.{IsNext}
 use Rattle.model_state.specs.Change.{IsStep as Machine}
 use Rattle.h1_connection.specs.Heads.{SaysNext}
 use Rattle.h1_connection.specs.EventMeaning.{setting_of, end_of}
-use Rattle.h1_connection.specs.State.{Is}
+use Rattle.h1_connection.specs.State.{IsMarked, IsCounted, Is}
+use Rattle.h1_connection.specs.Steps.{Pair}
 use Rattle.h1_connection.specs.Ticks.{expiry_of}
 use Rattle.h1_connection.specs.declared.connection.heads.NextHead.{NextHead}
 use Rattle.h1_connection.specs.declared.connection.heads.NextHead.TheVariants as next_head
 use Rattle.h1_connection.specs.declared.connection.ticks.Expiry.{Expiry}
 use Rattle.h1_connection.specs.declared.connection.ticks.Expiry.TheVariants as expiries
 use Rattle.h1_traced.specs.Traced.{TracedView, TracedStands}
-use Rattle.h1_dispatcher.specs.View.{View, buffered, room}
+use Rattle.h1_traced.proofs.TracedLaws.{fresh_marked, fresh_counted}
+use Rattle.h1_dispatcher.specs.View.{View, Asking, Answer, buffered, room, view_begun}
 use Rattle.h1_dispatcher.specs.Steps.{Step, Goes, Wrote, Took, Sent, IsStep, IsRun, request_at, ticked, drained, written as wrote, read, shut, next, closed, continued, ready, called, answered, pulled, paused, dropped, replied, sent, failed, failed_write, failed_read, failed_fed, failed_sent, asked_to_drain, asked_to_hold, declined, let_on, turned_away, refused}
 use Rattle.h1_dispatcher.specs.Traces.{IsNoted, AllNoted, of_answer, answers_in, piece_hands, step_hands, hands, of_request, requests_in, Came, heads_of, pieces_of, step_came, came, AreCame, Follows, AreTraces}
 
@@ -98,6 +102,8 @@ still v w traced received sent_so = λ trace stands. record {
   sent = subst (λ l. Grows v.transport.sent w.transport.sent l) (sym none_written) sent_so;
   answers = refl;
   requests = tt;
+  marks = λ marked. subst (λ (l : TracedView). IsMarked l.state trace) (sym traced) marked;
+  ahead = λ counted. subst (λ (l : TracedView). IsCounted l.state trace) (sym traced) counted;
 }
 
 -- what an outcome has to fit
@@ -121,6 +127,8 @@ went v w event asks Says goes fits = λ trace stands.
       sent = subst (λ l. Grows v.transport.sent w.transport.sent l) (sym (one_written s)) f.sent;
       answers = refl;
       requests = f.requests;
+      marks = x.2.marks;
+      ahead = x.2.ahead;
     }
 
 -- by which the transport moved nothing
@@ -300,9 +308,19 @@ follows_on v u w first then asks later a b = λ trace stands.
       sent = subst (λ l. Grows v.transport.sent w.transport.sent l) (sym (written_more y.more x.more)) (grown (written x.more) (written y.more) _ _ _ x.sent y.sent);
       answers = answers_more y.more x.more ∙ ap (λ l. l ++ answers_in y.more) x.answers ∙ ap (λ l. first ++ l) y.answers;
       requests = subst (λ l. AreCame (asks ++ later) l) (sym (requests_more y.more x.more)) (have_on asks later (requests_in x.more) (requests_in y.more) x.requests y.requests);
+      marks = λ marked. subst (λ (l : List sums.Step). IsMarked w.traced.state l) (sym (append_assoc y.more x.more trace)) (y.marks (x.marks marked));
+      ahead = λ counted. subst (λ (l : List sums.Step). IsCounted w.traced.state l) (sym (append_assoc y.more x.more trace)) (y.ahead (x.ahead counted));
     }
 
 pub run_follows : (v w : View) (steps : List Step) → AllNoted steps → IsRun v steps w → AreTraces v steps w
 run_follows v w [] noted is = transport_same v w (ap (λ (x : View). x.traced) is) (ap (λ (x : View). x.transport) is)
 run_follows v w (d ∷ steps) noted is =
     follows_on v is.0 w (step_hands d) (hands steps) (step_came d) (came steps) (step_follows v is.0 d noted.0 is.1) (run_follows is.0 w steps noted.1 is.2)
+
+-- ---- before the first step
+
+pub begun_marked : (transport : Wiring) (service : Serving Asking Answer Answer) (settings : Settings) (noted : Option (List Pair)) → IsMarked (view_begun transport service settings noted).traced.state []
+begun_marked transport service settings noted = fresh_marked settings
+
+pub begun_counted : (transport : Wiring) (service : Serving Asking Answer Answer) (settings : Settings) (noted : Option (List Pair)) → IsCounted (view_begun transport service settings noted).traced.state []
+begun_counted transport service settings noted = fresh_counted settings

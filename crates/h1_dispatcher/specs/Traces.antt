@@ -16,6 +16,7 @@ use Rattle.model_h1.specs.Request.{Head}
 use Rattle.http_bodies.specs.Told.{Grows}
 use Rattle.model_h1.specs.Setting.{Setting}
 use Rattle.model_h1.specs.Trace.{IsTrace}
+use Rattle.h1_connection.specs.State.{IsMarked, IsCounted}
 use Rattle.h1_connection.specs.Steps.{Pair}
 use Rattle.model_h1.specs.Sums as sums
 use Rattle.model_h1.specs.Sums.{taken, written}
@@ -121,7 +122,8 @@ AreCame (c ∷ more) (out ∷ outs) = IsCame c out × AreCame more outs
 
 -- After this trace these steps of the connection came, the newest first, and the connection and what was noted stand for
 -- all of them. What the transport received is the bytes that their reads took, and what it sent is those that were written. What
--- they hand on of answers is this, and what they hand out of requests is that.
+-- they hand on of answers is this, and what they hand out of requests is that. The places of the body bytes among those that
+-- wait, and the number of heads that were read ahead, stay those of the trace.
 pub record Follows (v w : View) (trace : List sums.Step) (handed : List on.Event) (asked : List Came) : Type 0 where
   pub more : List sums.Step
   pub stands : TracedStands w.traced (more ++ trace)
@@ -129,6 +131,8 @@ pub record Follows (v w : View) (trace : List sums.Step) (handed : List on.Event
   pub sent : Grows v.transport.sent w.transport.sent (written more)
   pub answers : answers_in more ≡ handed
   pub requests : AreCame asked (requests_in more)
+  pub marks : IsMarked v.traced.state trace → IsMarked w.traced.state (more ++ trace)
+  pub ahead : IsCounted v.traced.state trace → IsCounted w.traced.state (more ++ trace)
 
 -- this holds after each trace that the connection stood for
 abbrev pub AreTraces : View → List Step → View → Type 0

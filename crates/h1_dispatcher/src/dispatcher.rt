@@ -1,7 +1,10 @@
 //! A dispatcher, and what it keeps.
-ghost use Rattle.std.specs.Prelude.{◌≡◌, ◌≤◌, ◌⊎◌, None, Some, []};
+ghost use Rattle.std.specs.Prelude.{◌≡◌, ◌≤◌, ◌⊎◌, None, Some, List, []};
+ghost use Rattle.model_h1.specs.Sums as sums;
+ghost use Rattle.model_state.specs.Ahead.{IsAhead};
 ghost use Rattle.model_state.specs.Deadline.{deadline_by};
 ghost use Rattle.h1_connection.specs.EventMeaning.{setting_of};
+ghost use Rattle.h1_connection.specs.State.{IsCounted};
 ghost use Rattle.h1_traced.specs.Traced.{TracedStands};
 ghost use Rattle.http_services.specs.Serving.{Calling};
 ghost use Rattle.h1_dispatcher.specs.View.{Asking, view_of, view_begun, with_drain, parts_of, told_service, stage_of, is_busy, is_waiting, is_sending, MayBePolled};
@@ -182,6 +185,8 @@ where
     pub fn ahead(&self) -> usize
         ensures value { result ≡ (view_of T.wiring S.served S.calling B.gives L.noted self.now).traced.state.ahead }
         ensures most { result ≤ 16 }
+        ensures traced { (trace : List sums.Step) → IsCounted (view_of T.wiring S.served S.calling B.gives L.noted self.now).traced.state trace
+            → IsAhead (setting_of (view_of T.wiring S.served S.calling B.gives L.noted self.now).traced.state.settings) trace result }
     {
         self.traced.connection().ahead()
     }

@@ -12,6 +12,7 @@ ghost use Rattle.http_transport.specs.Wiring.{Wiring};
 ghost use Rattle.model_h1.specs.Sums as sums;
 ghost use Rattle.model_state.specs.Local.{has_room};
 ghost use Rattle.h1_connection.specs.EventMeaning.{setting_of};
+ghost use Rattle.h1_connection.specs.State.{IsMarked, IsCounted};
 ghost use Rattle.h1_traced.specs.Traced.{TracedStands};
 ghost use Rattle.h1_connection.specs.declared.connection.heads.NextHead.{NextHead};
 ghost use Rattle.h1_connection.specs.declared.connection.heads.NextHead.TheVariants.{Pending};
@@ -56,9 +57,12 @@ pub fn polls_end_by_their_cause()
 /// heads that it hands out are those of the requests that came to the dispatcher, each its own, and behind each what it hands
 /// out of its body is what came of that, all of it and in order.
 /// Each answer that was handed on stands in that trace with its head and the size of its body, and behind it all that came
-/// of the body, in order.
+/// of the body, in order. Where the body bytes among those that wait, and the number of heads that were read ahead, are those
+/// of the trace before, they are those of the longer trace; for a new dispatcher they are those of the empty one.
 pub fn runs_are_traces()
-    ensures { (v w : View) (steps : List Step) → AllNoted steps → IsRun v steps w → AreTraces v steps w }
+    ensures runs { (v w : View) (steps : List Step) → AllNoted steps → IsRun v steps w → AreTraces v steps w }
+    ensures marks { (transport : Wiring) (service : Serving Asking Answer Answer) (settings : Settings) (noted : Option (List Pair)) → IsMarked (view_begun transport service settings noted).traced.state [] }
+    ensures ahead { (transport : Wiring) (service : Serving Asking Answer Answer) (settings : Settings) (noted : Option (List Pair)) → IsCounted (view_begun transport service settings noted).traced.state [] }
 {}
 
 /// After the first step of a run in which memory runs out, what was noted is a trace of the connection still, whatever came

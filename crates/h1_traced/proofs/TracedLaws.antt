@@ -11,6 +11,9 @@ use Rattle.model_h1.specs.Sums as sums
 use Rattle.model_state.specs.Kept.{Kept, Change}
 use Rattle.model_state.specs.Change.{IsStep}
 use Rattle.model_state.specs.StandsFor.{StandsFor}
+use Rattle.model_state.specs.Marks.{body_runs}
+use Rattle.model_state.specs.Runs.{runs_behind}
+use Rattle.model_state.proofs.Numbers.{ahead-nil}
 use Rattle.model_state.proofs.Stands.{table_steps, fresh_stands}
 use Rattle.h1_payload.specs.Rests.{SaysPulled}
 use Rattle.h1_payload.specs.declared.pulled.Pulled.{Pulled}
@@ -23,7 +26,7 @@ use Rattle.h1_connection.specs.declared.connection.ticks.Expiry.{Expiry}
 use Rattle.h1_connection.specs.declared.connection.ticks.Expiry.TheVariants as expiry
 use Rattle.h1_connection.specs.Ticks.{expiry_of}
 use Rattle.h1_connection.specs.Run.{SaysStep, SaySteps}
-use Rattle.h1_connection.specs.State.{State, fresh_state, Stands, GoesOn, Is}
+use Rattle.h1_connection.specs.State.{State, fresh_state, Stands, IsMarked, IsCounted, GoesOn, Is}
 use Rattle.h1_connection.specs.Steps.{Pair}
 use Rattle.h1_connection.specs.declared.event.Event.TheVariants.{Write}
 use Rattle.h1_connection.specs.declared.event.Outcome.TheVariants.{Gave}
@@ -34,6 +37,14 @@ use Rattle.h1_traced.specs.Traced.{SaysNoted, TracedStands, Notes, Stepped, Trac
 
 pub fresh_traced : (settings : Settings) (noted : Option (List Pair)) → SaysNoted noted [] → TracedStands (record { state = fresh_state settings; noted = noted }) []
 fresh_traced settings noted says = record { stands = fresh_stands (setting_of settings); noted = says }
+
+-- no body byte waits in a new connection, and no head was read ahead
+pub fresh_marked : (settings : Settings) → IsMarked (fresh_state settings) []
+unfolding body_runs runs_behind
+fresh_marked settings = refl
+
+pub fresh_counted : (settings : Settings) → IsCounted (fresh_state settings) []
+fresh_counted settings = ([], record { same = refl; right = tt }, sym ahead-nil)
 
 pub says_none : (noted : Option (List Pair)) (trace : List sums.Step) → noted ≡ None → SaysNoted noted trace
 says_none noted trace none = subst (λ (n : Option (List Pair)). SaysNoted n trace) (sym none) tt
@@ -69,12 +80,15 @@ in_settings : (a b : Settings) (k : Kept) (trace : List sums.Step) → b ≡ a �
 in_settings a b k trace same stands = subst (λ (s : Settings). StandsFor (setting_of s) k trace) same stands
 
 stepped : (old new : State) (was now : Option (List Pair)) (trace : List sums.Step) (s : sums.Step) → new.settings ≡ old.settings
-    → Stands old trace → Stands new (s ∷ trace) → SaysNoted now (s ∷ trace) → Notes was now
+    → Stands old trace → Stands new (s ∷ trace) → (IsMarked old trace → IsMarked new (s ∷ trace)) → (IsCounted old trace → IsCounted new (s ∷ trace))
+    → SaysNoted now (s ∷ trace) → Notes was now
     → Stepped (record { state = old; noted = was }) trace s (record { state = new; noted = now })
-stepped old new was now trace s same before after says notes = record {
+stepped old new was now trace s same before after marks ahead says notes = record {
   stands = record { stands = after; noted = says };
   noted = notes;
   machine = machine_step (setting_of old.settings) old.kept new.kept trace s before (in_settings old.settings new.settings new.kept (s ∷ trace) same after);
+  marks = marks;
+  ahead = ahead;
 }
 
 -- a step that was noted
@@ -84,7 +98,7 @@ pub traced_steps : (old new : State) (was now : Option (List Pair)) (p : Pair) (
 traced_steps old new was now p event Says goes same grows says = λ trace stands.
     let g = goes trace stands.stands in
     let s : sums.Step = record { event = event; outcome = g.0 } in
-    (g.0, g.1, stepped old new was now trace s same stands.stands g.3 (noted_more was now trace p s stands.noted grows (says g.0 g.1)) (p ∷ [], grows))
+    (g.0, g.1, stepped old new was now trace s same stands.stands g.3 g.4 g.5 (noted_more was now trace p s stands.noted grows (says g.0 g.1)) (p ∷ [], grows))
 
 -- and one that nobody listens to
 pub traced_steps_unheard : (old new : State) (was : Option (List Pair)) (event : on.Event) (Says : on.Outcome → Type 0) → GoesOn old event Says new
@@ -92,7 +106,7 @@ pub traced_steps_unheard : (old new : State) (was : Option (List Pair)) (event :
 traced_steps_unheard old new was event Says goes same none = λ trace stands.
     let g = goes trace stands.stands in
     let s : sums.Step = record { event = event; outcome = g.0 } in
-    (g.0, g.1, stepped old new was was trace s same stands.stands g.3 (says_none was (s ∷ trace) none) ([], grown-none was))
+    (g.0, g.1, stepped old new was was trace s same stands.stands g.3 g.4 g.5 (says_none was (s ∷ trace) none) ([], grown-none was))
 
 -- what was written is what stood in front
 written_outcome : (set : Setting) (k next : Kept) (n : ℕ) (out : on.Outcome) → IsStep set k (on.write n) out next → out ≡ on.gave (take n k.buffered)

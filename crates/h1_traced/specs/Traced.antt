@@ -6,7 +6,7 @@ use Rattle.model_state.specs.Change.{IsStep}
 use Rattle.http_bodies.specs.Told.{Grows}
 use Rattle.h1_connection.specs.EventMeaning.{setting_of}
 use Rattle.h1_connection.specs.Run.{SaySteps}
-use Rattle.h1_connection.specs.State.{State, Stands, GoesOn}
+use Rattle.h1_connection.specs.State.{State, Stands, IsMarked, IsCounted, GoesOn}
 use Rattle.h1_connection.specs.Steps.{Pair}
 
 -- a traced connection: its connection, and who notes the steps
@@ -37,11 +37,14 @@ pub record TracedStands (v : TracedView) (trace : List sums.Step) : Type 0 where
 abbrev pub Notes : Option (List Pair) → Option (List Pair) → Type 0
 Notes was now = (more : List Pair) × Grows was now more
 
--- After this trace came that step: the traced connection stands for the longer trace, and the machine has such a step.
+-- After this trace came that step: the traced connection stands for the longer trace, and the machine has such a step. The
+-- places of the body bytes among those that wait, and the number of heads that were read ahead, stay those of the trace.
 pub record Stepped (old : TracedView) (trace : List sums.Step) (s : sums.Step) (new : TracedView) : Type 0 where
   pub stands : TracedStands new (s ∷ trace)
   pub noted : Notes old.noted new.noted
   pub machine : IsStep (setting_of old.state.settings) old.state.kept s.event s.outcome new.state.kept
+  pub marks : IsMarked old.state trace → IsMarked new.state (s ∷ trace)
+  pub ahead : IsCounted old.state trace → IsCounted new.state (s ∷ trace)
 
 -- After each trace that the traced connection stands for, the event came, and its outcome is such a one.
 abbrev pub TracedSteps : TracedView → on.Event → (on.Outcome → Type 0) → TracedView → Type 0
