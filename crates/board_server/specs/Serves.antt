@@ -18,8 +18,8 @@ use Rattle.board_server.specs.declared.error.ServeError.TheVariants.{Dispatch, B
 use Rattle.board.specs.Work.{Worked, begun_work, serving_of, IsKept}
 
 -- a new dispatcher over this transport, for the pass of this number, to which nothing was asked
-abbrev pub begun_view : Wiring → ℕ → Settings → Option (List Pair) → View
-begun_view transport number settings noted = view_begun transport (told_service (λ _. holds []) (serving_of (begun_work number))) settings noted
+abbrev pub begun_view : Wiring → ℕ → Settings → Option (List Pair) → Bool → View
+begun_view transport number settings noted listens = view_begun transport (told_service (λ _. holds []) (serving_of (begun_work number))) settings noted listens
 
 -- a poll at a moment that the clock may give, which was pending
 abbrev pub IsWait : (ℕ → Bool) → Act → Type 0

@@ -20,7 +20,8 @@ pub record WasServed (settings : Settings) (polls : ℕ) (may_give : ℕ → Boo
   pub fresh : IsFresh was
   pub number : ℕ
   pub recorded : Option (List Pair)
-  pub served : HasServed (begun_view was number settings recorded) polls may_give now noted pass end
+  pub listens : Bool
+  pub served : HasServed (begun_view was number settings recorded listens) polls may_give now noted pass end
   pub told : IsTold settings was now noted pass end
 
 -- a count after so many more

@@ -309,8 +309,8 @@ run_holds v w (d ∷ steps) noted is h =
 pub run_grows : (v u w : View) (steps : List Step) (step : Step) → AllNoted steps → IsNoted step → HasRoomForAnswer v → IsRun v steps u → IsStep u step w → GrowsInRoom u step w
 run_grows v u w steps step all one h run is = (step_holds u w step one is (run_holds v u steps all run h)).grows
 
-pub begun_room : (transport : Wiring) (service : Serving Asking Answer Answer) (settings : Settings) → HasRoomForAnswer (view_begun transport service settings None)
-begun_room transport service settings = record { tied = begun_tied transport service settings; room = λ asks. absurd (cc asks) }
+pub begun_room : (transport : Wiring) (service : Serving Asking Answer Answer) (settings : Settings) (listens : Bool) → HasRoomForAnswer (view_begun transport service settings None listens)
+begun_room transport service settings listens = record { tied = begun_tied transport service settings listens; room = λ asks. absurd (cc asks) }
 
-pub begun_room_noted : (transport : Wiring) (service : Serving Asking Answer Answer) (settings : Settings) → HasRoomForAnswer (view_begun transport service settings (Some []))
-begun_room_noted transport service settings = record { tied = begun_tied_noted transport service settings; room = λ asks. absurd (cc asks) }
+pub begun_room_noted : (transport : Wiring) (service : Serving Asking Answer Answer) (settings : Settings) (listens : Bool) → HasRoomForAnswer (view_begun transport service settings (Some []) listens)
+begun_room_noted transport service settings listens = record { tied = begun_tied_noted transport service settings listens; room = λ asks. absurd (cc asks) }

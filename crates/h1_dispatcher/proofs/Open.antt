@@ -411,8 +411,8 @@ run_stays v w steps noted is t =
 
 -- ---- a new dispatcher
 
-pub begun_tied : (transport : Wiring) (service : Serving Asking Answer Answer) (settings : Settings) → IsTied (view_begun transport service settings None)
-begun_tied transport service settings = record { trace = []; stands = fresh_traced settings None (says_none None [] refl); tied = refl; sends = refl }
+pub begun_tied : (transport : Wiring) (service : Serving Asking Answer Answer) (settings : Settings) (listens : Bool) → IsTied (view_begun transport service settings None listens)
+begun_tied transport service settings listens = record { trace = []; stands = fresh_traced settings None listens (says_none None [] refl); tied = refl; sends = refl }
 
-pub begun_tied_noted : (transport : Wiring) (service : Serving Asking Answer Answer) (settings : Settings) → IsTied (view_begun transport service settings (Some []))
-begun_tied_noted transport service settings = record { trace = []; stands = fresh_traced settings (Some []) (says_empty (Some []) refl); tied = refl; sends = refl }
+pub begun_tied_noted : (transport : Wiring) (service : Serving Asking Answer Answer) (settings : Settings) (listens : Bool) → IsTied (view_begun transport service settings (Some []) listens)
+begun_tied_noted transport service settings listens = record { trace = []; stands = fresh_traced settings (Some []) listens (says_empty (Some []) refl); tied = refl; sends = refl }

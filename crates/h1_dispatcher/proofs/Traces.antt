@@ -1,5 +1,5 @@
 -- A run is a trace of the connection.
-use Rattle.std.proofs.Common.{◌≡◌, ◌≤◌, ℕ, ◌-◌, List, [], ◌∷◌, ◌++◌, length, take, Option, Some, None, Result, Ok, Err, inl, inr, refl, sym, ap, ◌∙◌, subst, append_assoc, append-nil, arith}
+use Rattle.std.proofs.Common.{◌≡◌, ◌≤◌, ℕ, Bool, ◌-◌, List, [], ◌∷◌, ◌++◌, length, take, Option, Some, None, Result, Ok, Err, inl, inr, refl, sym, ap, ◌∙◌, subst, append_assoc, append-nil, arith}
 use Rattle.std.proofs.lemmas.List.{length-take, take_all}
 use Rattle.futures.specs.declared.task.Poll.{Poll}
 use Rattle.futures.specs.declared.task.Poll.TheVariants.{Ready, Pending}
@@ -319,8 +319,8 @@ run_follows v w (d ∷ steps) noted is =
 
 -- ---- before the first step
 
-pub begun_marked : (transport : Wiring) (service : Serving Asking Answer Answer) (settings : Settings) (noted : Option (List Pair)) → IsMarked (view_begun transport service settings noted).traced.state []
-begun_marked transport service settings noted = fresh_marked settings
+pub begun_marked : (transport : Wiring) (service : Serving Asking Answer Answer) (settings : Settings) (noted : Option (List Pair)) (listens : Bool) → IsMarked (view_begun transport service settings noted listens).traced.state []
+begun_marked transport service settings noted listens = fresh_marked settings
 
-pub begun_counted : (transport : Wiring) (service : Serving Asking Answer Answer) (settings : Settings) (noted : Option (List Pair)) → IsCounted (view_begun transport service settings noted).traced.state []
-begun_counted transport service settings noted = fresh_counted settings
+pub begun_counted : (transport : Wiring) (service : Serving Asking Answer Answer) (settings : Settings) (noted : Option (List Pair)) (listens : Bool) → IsCounted (view_begun transport service settings noted listens).traced.state []
+begun_counted transport service settings noted listens = fresh_counted settings

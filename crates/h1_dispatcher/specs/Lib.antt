@@ -11,3 +11,4 @@ pub mod Bodies
 pub mod Feeds
 pub mod Bounds
 pub mod Causes
+pub mod Memory

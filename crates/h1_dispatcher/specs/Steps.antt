@@ -81,10 +81,11 @@ pub data Step : Type 0 where
   turned_away : (request : Asking) → (answer : Answer) → Step
   refused : (limit : ℕ) → (error : HandshakeError) → Step
 
--- the event came to the connection, was noted, and had such an outcome; its settings stay
+-- the event came to the connection, was noted, and had such an outcome; its settings stay, and so does whether somebody listens
 pub record Goes (old : TracedView) (event : on.Event) (Says : on.Outcome → Type 0) (new : TracedView) : Type 0 where
   pub steps : TracedSteps old event Says new
   pub settings : new.state.settings ≡ old.state.settings
+  pub listens : new.listens ≡ old.listens
 
 -- how it has ended after a tick
 abbrev pub ending_at : Expiry → Option Ending → Option Ending
@@ -329,6 +330,7 @@ IsStep v (failed_write count) w =
     (v.ending ≡ None) × (0 < length (buffered v)) × WriteSays {E = Failed} v.transport w.transport (Ready (Ok count)) (buffered v)
     × TracedFails v.traced (on.write count) w.traced
     × (w ≡ record v { traced = w.traced; transport = w.transport; ending = Some Broken })
+    × ¬ (v.traced.listens ≡ false)
 IsStep v (failed_read came event) w =
     (v.ending ≡ None) × (allows v on.eof ≡ true)
     × ((buf : List ℕ) × (count : ℕ) × (0 < length buf) × (length buf ≤ room v) × (came ≡ take count buf)

@@ -129,10 +129,10 @@ pub record View : Type 0 where
   pub holding : Bool
   pub checking : Bool
 
-abbrev pub view_of : {T S C L B : Type 0} → (T → Wiring) → (S → Serving Asking (FullResponse B) (FullResponse B)) → (C → Calling Asking) → (B → Giving) → (L → Option (List Pair)) → Dispatcher T S C L B → View
-view_of wiring served calls gives noted d =
+abbrev pub view_of : {T S C L B : Type 0} → (T → Wiring) → (S → Serving Asking (FullResponse B) (FullResponse B)) → (C → Calling Asking) → (B → Giving) → (L → Option (List Pair)) → (L → Bool) → Dispatcher T S C L B → View
+view_of wiring served calls gives noted listening d =
     record {
-      traced = traced_of noted d.traced;
+      traced = traced_of noted listening d.traced;
       transport = wiring d.transport;
       service = told_service gives (served d.service);
       queue = d.queue;
@@ -145,11 +145,11 @@ view_of wiring served calls gives noted d =
       checking = d.is_checking;
     }
 
--- a new dispatcher over this transport and this service
-abbrev pub view_begun : Wiring → Serving Asking Answer Answer → Settings → Option (List Pair) → View
-view_begun transport service settings noted =
+-- a new dispatcher over this transport and this service, whose recorder has noted this, and listens or doesn't
+abbrev pub view_begun : Wiring → Serving Asking Answer Answer → Settings → Option (List Pair) → Bool → View
+view_begun transport service settings noted listens =
     record {
-      traced = record { state = fresh_state settings; noted = noted };
+      traced = record { state = fresh_state settings; noted = noted; listens = listens };
       transport = transport;
       service = service;
       queue = new_queue true;

@@ -143,8 +143,8 @@ where
         config: ServiceConfig,
         recorder: L,
     ) -> Dispatcher<T, S, S::Call, L, B>
-        ensures view { view_of T.wiring S.served S.calling B.gives L.noted result ≡ view_begun (T.wiring transport) (told_service B.gives (S.served service)) config (L.noted recorder) }
-        ensures stands { (L.noted recorder ≡ None) ⊎ (L.noted recorder ≡ Some []) → TracedStands (view_of T.wiring S.served S.calling B.gives L.noted result).traced [] }
+        ensures view { view_of T.wiring S.served S.calling B.gives L.noted L.is_listening result ≡ view_begun (T.wiring transport) (told_service B.gives (S.served service)) config (L.noted recorder) (L.is_listening recorder) }
+        ensures stands { (L.noted recorder ≡ None) ⊎ (L.noted recorder ≡ Some []) → TracedStands (view_of T.wiring S.served S.calling B.gives L.noted L.is_listening result).traced [] }
         ensures open { MayBePolled S.calling result }
     {
         Dispatcher {
@@ -166,7 +166,7 @@ where
 
     /// Has the connection end once no request is open. The next poll tells it so, where it doesn't close yet.
     pub fn drain(&mut self)
-        ensures view { view_of T.wiring S.served S.calling B.gives L.noted self.new ≡ with_drain (view_of T.wiring S.served S.calling B.gives L.noted self.old) }
+        ensures view { view_of T.wiring S.served S.calling B.gives L.noted L.is_listening self.new ≡ with_drain (view_of T.wiring S.served S.calling B.gives L.noted L.is_listening self.old) }
         ensures open { MayBePolled S.calling self.old → MayBePolled S.calling self.new }
     {
         self.is_draining = true;
@@ -175,7 +175,7 @@ where
     /// The least moment at which a poll would tell that a time has run out, in milliseconds after the start of 1970, where
     /// one would. Who drives the dispatcher polls it then, if it isn't woken before.
     pub fn deadline(&self) -> Option<u64>
-        ensures { result ≡ deadline_by (setting_of (view_of T.wiring S.served S.calling B.gives L.noted self.now).traced.state.settings) (view_of T.wiring S.served S.calling B.gives L.noted self.now).traced.state.kept }
+        ensures { result ≡ deadline_by (setting_of (view_of T.wiring S.served S.calling B.gives L.noted L.is_listening self.now).traced.state.settings) (view_of T.wiring S.served S.calling B.gives L.noted L.is_listening self.now).traced.state.kept }
     {
         self.traced.connection().deadline()
     }
@@ -183,17 +183,17 @@ where
     /// How many heads were read ahead of the request that was handed out last: at most 16. They count among the bytes that
     /// are held.
     pub fn ahead(&self) -> usize
-        ensures value { result ≡ (view_of T.wiring S.served S.calling B.gives L.noted self.now).traced.state.ahead }
+        ensures value { result ≡ (view_of T.wiring S.served S.calling B.gives L.noted L.is_listening self.now).traced.state.ahead }
         ensures most { result ≤ 16 }
-        ensures traced { (trace : List sums.Step) → IsCounted (view_of T.wiring S.served S.calling B.gives L.noted self.now).traced.state trace
-            → IsAhead (setting_of (view_of T.wiring S.served S.calling B.gives L.noted self.now).traced.state.settings) trace result }
+        ensures traced { (trace : List sums.Step) → IsCounted (view_of T.wiring S.served S.calling B.gives L.noted L.is_listening self.now).traced.state trace
+            → IsAhead (setting_of (view_of T.wiring S.served S.calling B.gives L.noted L.is_listening self.now).traced.state.settings) trace result }
     {
         self.traced.connection().ahead()
     }
 
     /// The service.
     pub fn service(&self) -> &S
-        ensures { told_service B.gives (S.served result.now) ≡ (view_of T.wiring S.served S.calling B.gives L.noted self.now).service }
+        ensures { told_service B.gives (S.served result.now) ≡ (view_of T.wiring S.served S.calling B.gives L.noted L.is_listening self.now).service }
     {
         &self.service
     }

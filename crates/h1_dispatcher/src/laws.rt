@@ -1,5 +1,5 @@
 //! What the steps of every run are together.
-ghost use Rattle.std.specs.Prelude.{◌≡◌, ◌≤◌, ℕ, true, false, List, Option, Some, None, [], ◌∷◌, length, Result, Err};
+ghost use Rattle.std.specs.Prelude.{◌≡◌, ◌≤◌, ℕ, Bool, true, false, List, Option, Some, None, [], ◌∷◌, length, Result, Err};
 ghost use Rattle.std.specs.List.{AllByRecursion};
 ghost use Rattle.futures.specs.declared.task.Poll.TheVariants.{Ready};
 ghost use Rattle.futures.specs.declared.task.context.Context.{Context};
@@ -23,6 +23,7 @@ ghost use Rattle.h1_dispatcher.specs.Bodies.{SendsBody, OnlyEnds};
 ghost use Rattle.h1_payload.specs.declared.pulled.Pulled.{Pulled};
 ghost use Rattle.h1_connection.specs.Steps.{Pair};
 ghost use Rattle.h1_dispatcher.specs.Feeds.{CameBody, body_after, HasBody, HasQueueBound};
+ghost use Rattle.h1_dispatcher.specs.Memory.{TakesMemory};
 ghost use Rattle.h1_dispatcher.specs.Order.{KeepsOrder};
 ghost use Rattle.h1_dispatcher.specs.Open.{IsTied, StaysTied};
 ghost use Rattle.h1_dispatcher.specs.Traces.{IsNoted, AllNoted, AreTraces, NotesTrace};
@@ -61,14 +62,21 @@ pub fn polls_end_by_their_cause()
 /// of the trace before, they are those of the longer trace; for a new dispatcher they are those of the empty one.
 pub fn runs_are_traces()
     ensures runs { (v w : View) (steps : List Step) → AllNoted steps → IsRun v steps w → AreTraces v steps w }
-    ensures marks { (transport : Wiring) (service : Serving Asking Answer Answer) (settings : Settings) (noted : Option (List Pair)) → IsMarked (view_begun transport service settings noted).traced.state [] }
-    ensures ahead { (transport : Wiring) (service : Serving Asking Answer Answer) (settings : Settings) (noted : Option (List Pair)) → IsCounted (view_begun transport service settings noted).traced.state [] }
+    ensures marks { (transport : Wiring) (service : Serving Asking Answer Answer) (settings : Settings) (noted : Option (List Pair)) (listens : Bool) → IsMarked (view_begun transport service settings noted listens).traced.state [] }
+    ensures ahead { (transport : Wiring) (service : Serving Asking Answer Answer) (settings : Settings) (noted : Option (List Pair)) (listens : Bool) → IsCounted (view_begun transport service settings noted listens).traced.state [] }
 {}
 
 /// After the first step of a run in which memory runs out, what was noted is a trace of the connection still, whatever came
 /// before.
 pub fn runs_note_traces()
     ensures { (v u w : View) (steps : List Step) (step : Step) (trace : List sums.Step) → TracedStands v.traced trace → AllNoted steps → IsRun v steps u → ¬ IsNoted step → IsStep u step w → NotesTrace (setting_of u.traced.state.settings) w.traced.noted trace }
+{}
+
+/// Where nobody listens, memory runs out only where it is taken: over every run, the first step in which it runs out is one of
+/// an event that takes some, or bytes that came of a request's body were fed, or an answer's body was itself out of memory. It
+/// doesn't run out for the input's end, the rest of a body that is dropped, a drain, or bytes that were written.
+pub fn runs_lack_what_they_take()
+    ensures { (v u w : View) (steps : List Step) (step : Step) → v.traced.listens ≡ false → AllNoted steps → IsRun v steps u → IsStep u step w → TakesMemory u step }
 {}
 
 /// Over every run requests are called, or refused, in the order in which their heads were handed out; the last one may
@@ -100,7 +108,7 @@ pub fn runs_send_bodies()
 pub fn runs_feed_bodies()
     ensures runs { (v w : View) (steps : List Step) (body : CameBody) → IsRun v steps w → HasBody body v.stage v.queue → HasBody (body_after body steps) w.stage w.queue }
     ensures wanted { (v w : View) (piece : Pulled) → IsStep v (pulled piece) w → Wants v }
-    ensures new { (transport : Wiring) (service : Serving Asking Answer Answer) (settings : Settings) (noted : Option (List Pair)) (body : CameBody) → HasBody body (view_begun transport service settings noted).stage (view_begun transport service settings noted).queue × HasQueueBound (view_begun transport service settings noted) }
+    ensures new { (transport : Wiring) (service : Serving Asking Answer Answer) (settings : Settings) (noted : Option (List Pair)) (listens : Bool) (body : CameBody) → HasBody body (view_begun transport service settings noted listens).stage (view_begun transport service settings noted listens).queue × HasQueueBound (view_begun transport service settings noted listens) }
     ensures bound { (v w : View) (steps : List Step) (trace : List sums.Step) → TracedStands v.traced trace → AllNoted steps → IsRun v steps w → HasQueueBound v → HasQueueBound w }
     ensures once { (v w : View) (steps : List Step) (body : CameBody) (trace : List sums.Step) → TracedStands v.traced trace → AllNoted steps → IsRun v steps w → body.faults ≡ [] → length (body_after body steps).faults ≤ 1 }
     ensures held { (v : View) (trace : List sums.Step) → TracedStands v.traced trace → length v.traced.state.kept.unread ≤ v.traced.state.settings.h1_hold_size }
@@ -111,7 +119,7 @@ pub fn runs_feed_bodies()
 /// body of an answer that isn't whole is at hand, and may be polled while the connection goes on, wherever there is room for
 /// a piece of it. So it is for a new dispatcher whose recorder knows of no step.
 pub fn runs_lose_no_request()
-    ensures new { (transport : Wiring) (service : Serving Asking Answer Answer) (settings : Settings) → IsTied (view_begun transport service settings None) × IsTied (view_begun transport service settings (Some [])) }
+    ensures new { (transport : Wiring) (service : Serving Asking Answer Answer) (settings : Settings) (listens : Bool) → IsTied (view_begun transport service settings None listens) × IsTied (view_begun transport service settings (Some []) listens) }
     ensures runs { (v w : View) (steps : List Step) → AllNoted steps → IsRun v steps w → IsTied v → StaysTied w }
 {}
 
@@ -121,14 +129,14 @@ pub fn runs_lose_no_request()
 /// body, or of its end, or tells a client to go on. A moment may add the text of one answer of the connection's own, and then it closes.
 pub fn runs_bound_output()
     ensures asked { (v w : View) (head : NextHead) → IsStep v (next head) w → has_write_room v ≡ true }
-    ensures new { (transport : Wiring) (service : Serving Asking Answer Answer) (settings : Settings) → HasRoomForAnswer (view_begun transport service settings None) × HasRoomForAnswer (view_begun transport service settings (Some [])) }
+    ensures new { (transport : Wiring) (service : Serving Asking Answer Answer) (settings : Settings) (listens : Bool) → HasRoomForAnswer (view_begun transport service settings None listens) × HasRoomForAnswer (view_begun transport service settings (Some []) listens) }
     ensures runs { (v u w : View) (steps : List Step) (step : Step) → AllNoted steps → IsNoted step → HasRoomForAnswer v → IsRun v steps u → IsStep u step w → GrowsInRoom u step w }
 {}
 
 /// Over every run in which nobody asks that requests be held back, none is: so all that is said of requests that aren't held
 /// back holds of each. So it is over polls and drains alone. A new dispatcher holds none back.
 pub fn runs_hold_none_unasked()
-    ensures new { (transport : Wiring) (service : Serving Asking Answer Answer) (settings : Settings) (noted : Option (List Pair)) → HoldsNone (view_begun transport service settings noted) }
+    ensures new { (transport : Wiring) (service : Serving Asking Answer Answer) (settings : Settings) (noted : Option (List Pair)) (listens : Bool) → HoldsNone (view_begun transport service settings noted listens) }
     ensures runs { (v w : View) (steps : List Step) → AllByRecursion AsksNoHold steps → IsRun v steps w → HoldsNone v → StaysUnheld w }
     ensures polls { (v w : View) (acts : List Act) → ActsSay v acts w → HoldsNone v → StaysUnheld w }
 {}

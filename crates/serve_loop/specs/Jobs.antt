@@ -1,5 +1,5 @@
 -- A service over a transport as a job: what is done to it is what is done to its dispatcher.
-use Rattle.std.specs.Prelude.{◌≡◌, ℕ, List, [], ◌∷◌, None, Result}
+use Rattle.std.specs.Prelude.{◌≡◌, ℕ, false, List, [], ◌∷◌, None, Result}
 use Rattle.futures.specs.declared.task.Poll.{Poll}
 use Rattle.futures.specs.declared.task.context.Context.{Context}
 use Rattle.http_config.specs.Config.{Settings}
@@ -18,7 +18,7 @@ pub record IsBegun (v : View) : Type 0 where
   pub fresh : IsFresh transport
   pub service : Serving Asking Answer Answer
   pub settings : Settings
-  pub is : v ≡ view_begun transport service settings None
+  pub is : v ≡ view_begun transport service settings None false
 
 -- Polls, and drains between them, have brought it there from such a one, and they are one run of steps.
 pub record HasServed (v : View) : Type 0 where

@@ -1,5 +1,5 @@
 //! What holds of each connection of a loop.
-ghost use Rattle.std.specs.Prelude.{None, ℕ, Result};
+ghost use Rattle.std.specs.Prelude.{None, false, ℕ, Result};
 ghost use Rattle.http_types.specs.declared.error.DispatchError.{DispatchError};
 ghost use Rattle.net_loop.specs.LoopRuns.{Lives, EndsBy};
 ghost use Rattle.h1_dispatcher.specs.View.{view_of, View, MayBePolled};
@@ -20,7 +20,7 @@ where
     T: Transport,
     S: Service<Request<(), ()>, Response = Response<B>, Error = Response<B>, Lent = Payload>,
     B: MessageBody,
-    ensures { let view = λ (j : Job T S S.Call B). view_of T.wiring S.served S.calling B.gives (λ _. None) j.dispatcher in
+    ensures { let view = λ (j : Job T S S.Call B). view_of T.wiring S.served S.calling B.gives (λ _. None) (λ _. false) j.dispatcher in
         (job : Job T S S.Call B) → Lives (Polls view) (Drains view) (IsNew view) (λ j. MayBePolled S.calling j.dispatcher) job → HasServed (view job) }
 {}
 
@@ -30,6 +30,6 @@ where
     T: Transport,
     S: Service<Request<(), ()>, Response = Response<B>, Error = Response<B>, Lent = Payload>,
     B: MessageBody,
-    ensures { let view = λ (j : Job T S S.Call B). view_of T.wiring S.served S.calling B.gives (λ _. None) j.dispatcher in
+    ensures { let view = λ (j : Job T S S.Call B). view_of T.wiring S.served S.calling B.gives (λ _. None) (λ _. false) j.dispatcher in
         (a b : Job T S S.Call B) (moment : ℕ) (output : Result Unit DispatchError) → EndsBy (Polls view) (Drains view) a moment output b → (v : View) × HasCause v (view b) output }
 {}

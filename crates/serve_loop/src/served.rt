@@ -1,5 +1,5 @@
 //! A service over a transport as a job.
-ghost use Rattle.std.specs.Prelude.{None};
+ghost use Rattle.std.specs.Prelude.{None, false};
 ghost use Rattle.h1_dispatcher.specs.View.{view_of, MayBePolled};
 ghost use Rattle.serve_loop.specs.Jobs.{IsNew, Polls, Drains};
 
@@ -27,13 +27,13 @@ where
 {
     type Output = Result<(), DispatchError>;
 
-    ghost begun = { IsNew (λ j. view_of T.wiring S.served S.calling B.gives (λ _. None) j.dispatcher) };
+    ghost begun = { IsNew (λ j. view_of T.wiring S.served S.calling B.gives (λ _. None) (λ _. false) j.dispatcher) };
 
     ghost can_poll = { λ j. MayBePolled S.calling j.dispatcher };
 
-    ghost polled = { Polls (λ j. view_of T.wiring S.served S.calling B.gives (λ _. None) j.dispatcher) };
+    ghost polled = { Polls (λ j. view_of T.wiring S.served S.calling B.gives (λ _. None) (λ _. false) j.dispatcher) };
 
-    ghost drained = { Drains (λ j. view_of T.wiring S.served S.calling B.gives (λ _. None) j.dispatcher) };
+    ghost drained = { Drains (λ j. view_of T.wiring S.served S.calling B.gives (λ _. None) (λ _. false) j.dispatcher) };
 
     fn poll(&mut self, moment: u64, cx: &mut Context<'_>) -> Poll<Result<(), DispatchError>> {
         self.dispatcher.poll(moment, cx)

@@ -7,3 +7,4 @@ pub mod Traces
 pub mod Lacks
 pub mod Causes
 pub mod Closes
+pub mod Takes

@@ -74,9 +74,9 @@ read_fails v w came buf count event running may some fits moves says is fails sa
 -- a frame was asked for
 pub pulled_step : (v w : View) (outcome : Outcome) (given : Given) → v.ending ≡ None → v.stage ≡ free → allows_pull v ≡ true → given ≡ given_of outcome
     → TracedSteps v.traced on.pull (SaysOutcome outcome) w.traced → w.traced.state.settings ≡ v.traced.state.settings
-    → w ≡ record v { traced = w.traced; stage = w.stage } → w.stage ≡ stage_given given → IsStep v (pulled given) w
-pulled_step v w outcome given running is allowed gives steps settings same now =
-    (running, is, allowed, (outcome, gives, record { steps = steps; settings = settings }), same ∙ ap (λ x. record v { traced = w.traced; stage = x }) now)
+    → w.traced.listens ≡ v.traced.listens → w ≡ record v { traced = w.traced; stage = w.stage } → w.stage ≡ stage_given given → IsStep v (pulled given) w
+pulled_step v w outcome given running is allowed gives steps settings listens same now =
+    (running, is, allowed, (outcome, gives, record { steps = steps; settings = settings; listens = listens }), same ∙ ap (λ x. record v { traced = w.traced; stage = x }) now)
 
 -- ---- what is needed
 
@@ -99,12 +99,12 @@ any_message set k m is = is
 -- one was sent, or couldn't be
 pub sent_step : (v w : View) (message : Message) (outcome : Outcome) → v.ending ≡ None → v.stage ≡ sending message → allows_send v ≡ true
     → TracedSteps v.traced (on.send (message_says message)) (SaysOutcome outcome) w.traced → w.traced.state.settings ≡ v.traced.state.settings
-    → w ≡ record v { traced = w.traced; stage = w.stage } → w.stage ≡ free → IsStep v (sent message) w
-sent_step v w message outcome running is allowed steps settings same now = (
+    → w.traced.listens ≡ v.traced.listens → w ≡ record v { traced = w.traced; stage = w.stage } → w.stage ≡ free → IsStep v (sent message) w
+sent_step v w message outcome running is allowed steps settings listens same now = (
   running,
   is,
   any_message (setting_of v.traced.state.settings) v.traced.state.kept (message_says message) allowed,
-  (outcome, record { steps = steps; settings = settings }),
+  (outcome, record { steps = steps; settings = settings; listens = listens }),
   same ∙ ap (λ x. record v { traced = w.traced; stage = x }) now,
 )
 

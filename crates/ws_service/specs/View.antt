@@ -59,10 +59,10 @@ pub record View : Type 0 where
   pub ending : Option Ending
   pub draining : Bool
 
-abbrev pub view_of : {T U C L : Type 0} → (T → Wiring) → (U → Upgrading) → (L → Option (List Pair)) → UpgradeDispatcher T U C L → View
-view_of wiring served noted d =
+abbrev pub view_of : {T U C L : Type 0} → (T → Wiring) → (U → Upgrading) → (L → Option (List Pair)) → (L → Bool) → UpgradeDispatcher T U C L → View
+view_of wiring served noted listening d =
     record {
-      traced = traced_of noted d.traced;
+      traced = traced_of noted listening d.traced;
       transport = wiring d.transport;
       service = served d.service;
       stage = stage_of d.work;

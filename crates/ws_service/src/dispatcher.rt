@@ -79,7 +79,7 @@ where
         transport: T,
         service: U,
     ) -> UpgradeDispatcher<T, U, U::Call, L>
-        ensures view { view_of T.wiring U.served L.noted result ≡ view_begun request (traced_of L.noted traced) (T.wiring transport) (U.served service) }
+        ensures view { view_of T.wiring U.served L.noted L.is_listening result ≡ view_begun request (traced_of L.noted L.is_listening traced) (T.wiring transport) (U.served service) }
         ensures open { MayBePolled U.calling result }
     {
         UpgradeDispatcher {
@@ -95,7 +95,7 @@ where
     /// Has the connection end: an upgraded one drains at once. The next poll tells it so, unless it closes by then. What the
     /// service has said is written before, and what it hasn't said is not waited for.
     pub fn drain(&mut self)
-        ensures view { view_of T.wiring U.served L.noted self.new ≡ with_drain (view_of T.wiring U.served L.noted self.old) }
+        ensures view { view_of T.wiring U.served L.noted L.is_listening self.new ≡ with_drain (view_of T.wiring U.served L.noted L.is_listening self.old) }
         ensures open { MayBePolled U.calling self.old → MayBePolled U.calling self.new }
     {
         self.is_draining = true;
@@ -104,21 +104,21 @@ where
     /// The least moment at which a poll would tell that a time has run out, in milliseconds after the start of 1970; none
     /// where none would. Who polls it does so then, if the task isn't woken before.
     pub fn deadline(&self) -> Option<u64>
-        ensures { result ≡ deadline_by (setting_of (view_of T.wiring U.served L.noted self.now).traced.state.settings) (view_of T.wiring U.served L.noted self.now).traced.state.kept }
+        ensures { result ≡ deadline_by (setting_of (view_of T.wiring U.served L.noted L.is_listening self.now).traced.state.settings) (view_of T.wiring U.served L.noted L.is_listening self.now).traced.state.kept }
     {
         self.traced.connection().deadline()
     }
 
     /// How the connection has ended, where it has.
     pub fn ending(&self) -> Option<Ending>
-        ensures { result ≡ (view_of T.wiring U.served L.noted self.now).ending }
+        ensures { result ≡ (view_of T.wiring U.served L.noted L.is_listening self.now).ending }
     {
         self.ending
     }
 
     /// The service.
     pub fn service(&self) -> &U
-        ensures { U.served result.now ≡ (view_of T.wiring U.served L.noted self.now).service }
+        ensures { U.served result.now ≡ (view_of T.wiring U.served L.noted L.is_listening self.now).service }
     {
         &self.service
     }

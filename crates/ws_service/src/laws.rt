@@ -1,5 +1,5 @@
 //! What the steps of every run are together.
-ghost use Rattle.std.specs.Prelude.{◌≡◌, ℕ, true, List, Result};
+ghost use Rattle.std.specs.Prelude.{◌≡◌, ℕ, true, false, List, Result};
 ghost use Rattle.futures.specs.declared.task.Poll.{Poll};
 ghost use Rattle.futures.specs.declared.task.Poll.TheVariants.{Ready};
 ghost use Rattle.futures.specs.declared.task.context.Context.{Context};
@@ -12,6 +12,7 @@ ghost use Rattle.h1_traced.specs.Traced.{TracedView, TracedStands};
 ghost use Rattle.ws_service.specs.declared.error.UpgradeError.{UpgradeError};
 ghost use Rattle.ws_service.specs.View.{View, Upgrading, closes, view_begun};
 ghost use Rattle.ws_service.specs.Steps.{Step, IsStep, IsRun, read};
+ghost use Rattle.ws_service.specs.Memory.{TakesMemory};
 ghost use Rattle.ws_service.specs.Polls.{PollSays};
 ghost use Rattle.ws_service.specs.Order.{KeepsOrder, StartsWith};
 ghost use Rattle.ws_service.specs.Traces.{IsNoted, AllNoted, AreTraces, NotesTrace};
@@ -38,6 +39,12 @@ pub fn runs_are_traces()
 /// before.
 pub fn runs_note_traces()
     ensures { (v u w : View) (steps : List Step) (step : Step) (trace : List sums.Step) → TracedStands v.traced trace → AllNoted steps → IsRun v steps u → ¬ IsNoted step → IsStep u step w → NotesTrace (setting_of u.traced.state.settings) w.traced.noted trace }
+{}
+
+/// Where nobody listens, memory runs out only where it is taken: over every run, the first step in which it runs out is one of
+/// an event that takes some. It doesn't run out for a drain, the input's end, or bytes that were written.
+pub fn runs_lack_what_they_take()
+    ensures { (v u w : View) (steps : List Step) (step : Step) → v.traced.listens ≡ false → AllNoted steps → IsRun v steps u → IsStep u step w → TakesMemory u step }
 {}
 
 /// A poll is one run of steps: the moment, the drain and the turns. Memory runs out in none of them, unless the poll answered

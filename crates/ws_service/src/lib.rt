@@ -31,5 +31,5 @@ pub use h1_connection::{Frame, Message, ReceivedFrame};
 pub use item::UpgradeItem;
 pub use laws::{
     frames_go_in_order, nothing_is_read_while_it_closes, polls_are_runs, polls_end_by_their_cause,
-    runs_are_traces, runs_note_traces,
+    runs_are_traces, runs_lack_what_they_take, runs_note_traces,
 };

@@ -29,8 +29,8 @@ where
     pub(super) fn serve(&mut self, cx: &mut Context<'_>) -> DispatcherTurn
         requires open { MayBePolled S.calling self.old }
         requires running { self.old.ending ≡ None }
-        requires armed { HasNoOutput (view_of T.wiring S.served S.calling B.gives L.noted self.old) ⊎ IsArmed cx.old }
-        ensures says { ServeSays 4 (view_of T.wiring S.served S.calling B.gives L.noted self.old) (view_of T.wiring S.served S.calling B.gives L.noted self.new) result }
+        requires armed { HasNoOutput (view_of T.wiring S.served S.calling B.gives L.noted L.is_listening self.old) ⊎ IsArmed cx.old }
+        ensures says { ServeSays 4 (view_of T.wiring S.served S.calling B.gives L.noted L.is_listening self.old) (view_of T.wiring S.served S.calling B.gives L.noted L.is_listening self.new) result }
         ensures open { MayBePolled S.calling self.new }
         ensures registered { OnIdle result (IsArmed cx.new) }
         ensures kept { Keeps cx.old cx.new }
@@ -61,7 +61,7 @@ where
 
     /// Whether fewer bytes wait to be written than the settings' write buffer size.
     pub(super) fn has_room(&self) -> bool
-        ensures { result ≡ has_write_room (view_of T.wiring S.served S.calling B.gives L.noted self.now) }
+        ensures { result ≡ has_write_room (view_of T.wiring S.served S.calling B.gives L.noted L.is_listening self.now) }
     {
         0 < self.traced.connection().write_room()
     }
@@ -70,10 +70,10 @@ where
     fn respond(&mut self, cx: &mut Context<'_>) -> DispatcherTurn
         requires open { MayBePolled S.calling self.old }
         requires running { self.old.ending ≡ None }
-        requires allowed { allows_answer (view_of T.wiring S.served S.calling B.gives L.noted self.old) ≡ true }
-        requires armed { HasNoOutput (view_of T.wiring S.served S.calling B.gives L.noted self.old) ⊎ IsArmed cx.old }
+        requires allowed { allows_answer (view_of T.wiring S.served S.calling B.gives L.noted L.is_listening self.old) ≡ true }
+        requires armed { HasNoOutput (view_of T.wiring S.served S.calling B.gives L.noted L.is_listening self.old) ⊎ IsArmed cx.old }
         requires unsent { is_sending (stage_of S.calling B.gives self.old.work) ≡ false }
-        ensures says { ServeSays 4 (view_of T.wiring S.served S.calling B.gives L.noted self.old) (view_of T.wiring S.served S.calling B.gives L.noted self.new) result }
+        ensures says { ServeSays 4 (view_of T.wiring S.served S.calling B.gives L.noted L.is_listening self.old) (view_of T.wiring S.served S.calling B.gives L.noted L.is_listening self.new) result }
         ensures open { MayBePolled S.calling self.new }
         ensures registered { OnIdle result (IsArmed cx.new) }
         ensures kept { Keeps cx.old cx.new }
@@ -92,10 +92,10 @@ where
     fn admit(&mut self, cx: &mut Context<'_>) -> DispatcherTurn
         requires open { MayBePolled S.calling self.old }
         requires running { self.old.ending ≡ None }
-        requires allowed { allows_answer (view_of T.wiring S.served S.calling B.gives L.noted self.old) ≡ true }
+        requires allowed { allows_answer (view_of T.wiring S.served S.calling B.gives L.noted L.is_listening self.old) ≡ true }
         requires waits { is_waiting (stage_of S.calling B.gives self.old.work) ≡ true }
-        requires armed { HasNoOutput (view_of T.wiring S.served S.calling B.gives L.noted self.old) ⊎ IsArmed cx.old }
-        ensures says { ServeSays 4 (view_of T.wiring S.served S.calling B.gives L.noted self.old) (view_of T.wiring S.served S.calling B.gives L.noted self.new) result }
+        requires armed { HasNoOutput (view_of T.wiring S.served S.calling B.gives L.noted L.is_listening self.old) ⊎ IsArmed cx.old }
+        ensures says { ServeSays 4 (view_of T.wiring S.served S.calling B.gives L.noted L.is_listening self.old) (view_of T.wiring S.served S.calling B.gives L.noted L.is_listening self.new) result }
         ensures open { MayBePolled S.calling self.new }
         ensures registered { OnIdle result (IsArmed cx.new) }
         ensures kept { Keeps cx.old cx.new }
@@ -119,10 +119,10 @@ where
         requires open { MayBePolled S.calling self.old }
         requires running { self.old.ending ≡ None }
         requires waits { is_waiting (stage_of S.calling B.gives self.old.work) ≡ true }
-        requires room { has_write_room (view_of T.wiring S.served S.calling B.gives L.noted self.old) ≡ true }
-        requires told { allows (view_of T.wiring S.served S.calling B.gives L.noted self.old) on.send_continue ≡ true }
-        requires unchecked { is_checked (view_of T.wiring S.served S.calling B.gives L.noted self.old) ≡ false }
-        ensures says { EndSays 1 (view_of T.wiring S.served S.calling B.gives L.noted self.old) (view_of T.wiring S.served S.calling B.gives L.noted self.new) result }
+        requires room { has_write_room (view_of T.wiring S.served S.calling B.gives L.noted L.is_listening self.old) ≡ true }
+        requires told { allows (view_of T.wiring S.served S.calling B.gives L.noted L.is_listening self.old) on.send_continue ≡ true }
+        requires unchecked { is_checked (view_of T.wiring S.served S.calling B.gives L.noted L.is_listening self.old) ≡ false }
+        ensures says { EndSays 1 (view_of T.wiring S.served S.calling B.gives L.noted L.is_listening self.old) (view_of T.wiring S.served S.calling B.gives L.noted L.is_listening self.new) result }
         ensures open { MayBePolled S.calling self.new }
     {
         match self.traced.send_continue() {
@@ -139,10 +139,10 @@ where
         requires open { MayBePolled S.calling self.old }
         requires running { self.old.ending ≡ None }
         requires free { is_busy (stage_of S.calling B.gives self.old.work) ≡ false }
-        requires unanswered { allows_answer (view_of T.wiring S.served S.calling B.gives L.noted self.old) ≡ false }
-        requires allowed { allows_next (view_of T.wiring S.served S.calling B.gives L.noted self.old) ≡ true }
-        requires room { has_write_room (view_of T.wiring S.served S.calling B.gives L.noted self.old) ≡ true }
-        ensures says { ServeSays 4 (view_of T.wiring S.served S.calling B.gives L.noted self.old) (view_of T.wiring S.served S.calling B.gives L.noted self.new) result }
+        requires unanswered { allows_answer (view_of T.wiring S.served S.calling B.gives L.noted L.is_listening self.old) ≡ false }
+        requires allowed { allows_next (view_of T.wiring S.served S.calling B.gives L.noted L.is_listening self.old) ≡ true }
+        requires room { has_write_room (view_of T.wiring S.served S.calling B.gives L.noted L.is_listening self.old) ≡ true }
+        ensures says { ServeSays 4 (view_of T.wiring S.served S.calling B.gives L.noted L.is_listening self.old) (view_of T.wiring S.served S.calling B.gives L.noted L.is_listening self.new) result }
         ensures open { MayBePolled S.calling self.new }
         ensures registered { OnIdle result (IsArmed cx.new) }
         ensures kept { Keeps cx.old cx.new }
@@ -173,12 +173,12 @@ where
     fn ask(&mut self, cx: &mut Context<'_>) -> DispatcherTurn
         requires open { MayBePolled S.calling self.old }
         requires running { self.old.ending ≡ None }
-        requires allowed { allows_answer (view_of T.wiring S.served S.calling B.gives L.noted self.old) ≡ true }
+        requires allowed { allows_answer (view_of T.wiring S.served S.calling B.gives L.noted L.is_listening self.old) ≡ true }
         requires waits { is_waiting (stage_of S.calling B.gives self.old.work) ≡ true }
-        requires room { has_write_room (view_of T.wiring S.served S.calling B.gives L.noted self.old) ≡ true }
-        requires told { allows (view_of T.wiring S.served S.calling B.gives L.noted self.old) on.send_continue ≡ false }
-        requires unheld { is_held (view_of T.wiring S.served S.calling B.gives L.noted self.old) ≡ false }
-        ensures says { ServeSays 4 (view_of T.wiring S.served S.calling B.gives L.noted self.old) (view_of T.wiring S.served S.calling B.gives L.noted self.new) result }
+        requires room { has_write_room (view_of T.wiring S.served S.calling B.gives L.noted L.is_listening self.old) ≡ true }
+        requires told { allows (view_of T.wiring S.served S.calling B.gives L.noted L.is_listening self.old) on.send_continue ≡ false }
+        requires unheld { is_held (view_of T.wiring S.served S.calling B.gives L.noted L.is_listening self.old) ≡ false }
+        ensures says { ServeSays 4 (view_of T.wiring S.served S.calling B.gives L.noted L.is_listening self.old) (view_of T.wiring S.served S.calling B.gives L.noted L.is_listening self.new) result }
         ensures open { MayBePolled S.calling self.new }
         ensures registered { OnIdle result (IsArmed cx.new) }
         ensures kept { Keeps cx.old cx.new }

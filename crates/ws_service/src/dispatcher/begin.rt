@@ -19,7 +19,7 @@ where
     /// Tells the connection the moment, and that it is to end.
     pub(super) fn begin(&mut self, moment: u64) -> Result<(), NoMemory>
         requires open { MayBePolled U.calling self.old }
-        ensures says { BeginSays (view_of T.wiring U.served L.noted self.old) moment (view_of T.wiring U.served L.noted self.new) result }
+        ensures says { BeginSays (view_of T.wiring U.served L.noted L.is_listening self.old) moment (view_of T.wiring U.served L.noted L.is_listening self.new) result }
         ensures open { MayBePolled U.calling self.new }
     {
         match self.tick(moment) {
@@ -30,7 +30,7 @@ where
 
     fn tick(&mut self, moment: u64) -> Result<(), NoMemory>
         requires open { MayBePolled U.calling self.old }
-        ensures says { TickSays (view_of T.wiring U.served L.noted self.old) moment (view_of T.wiring U.served L.noted self.new) result }
+        ensures says { TickSays (view_of T.wiring U.served L.noted L.is_listening self.old) moment (view_of T.wiring U.served L.noted L.is_listening self.new) result }
         ensures open { MayBePolled U.calling self.new }
     {
         if !self.traced.connection().can_tick(moment) {
@@ -52,7 +52,7 @@ where
 
     fn tell_drain(&mut self) -> Result<(), NoMemory>
         requires open { MayBePolled U.calling self.old }
-        ensures says { DrainSays (view_of T.wiring U.served L.noted self.old) (view_of T.wiring U.served L.noted self.new) result }
+        ensures says { DrainSays (view_of T.wiring U.served L.noted L.is_listening self.old) (view_of T.wiring U.served L.noted L.is_listening self.new) result }
         ensures open { MayBePolled U.calling self.new }
     {
         if !self.is_draining {

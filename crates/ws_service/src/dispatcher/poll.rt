@@ -40,7 +40,7 @@ where
     /// been noted. From then on each poll answers `NoMemory` and does nothing.
     pub fn poll(&mut self, moment: u64, cx: &mut Context<'_>) -> Poll<Result<(), UpgradeError>>
         requires open { MayBePolled U.calling self.old }
-        ensures says { PollSays (view_of T.wiring U.served L.noted self.old) (view_of T.wiring U.served L.noted self.new) cx.new moment result }
+        ensures says { PollSays (view_of T.wiring U.served L.noted L.is_listening self.old) (view_of T.wiring U.served L.noted L.is_listening self.new) cx.new moment result }
         ensures open { MayBePolled U.calling self.new }
         ensures registered { OnPending result (IsArmed cx.new) }
         ensures kept { Keeps cx.old cx.new }
@@ -56,7 +56,7 @@ where
 
     // Whether memory ran out.
     fn is_broken(&self) -> bool
-        ensures { result ≡ is_broken (view_of T.wiring U.served L.noted self.now).ending }
+        ensures { result ≡ is_broken (view_of T.wiring U.served L.noted L.is_listening self.now).ending }
     {
         match self.ending {
             None => false,
@@ -68,7 +68,7 @@ where
 
     fn turns(&mut self, cx: &mut Context<'_>) -> Poll<Result<(), UpgradeError>>
         requires open { MayBePolled U.calling self.old }
-        ensures says { TurnsSay (view_of T.wiring U.served L.noted self.old) (view_of T.wiring U.served L.noted self.new) cx.new result }
+        ensures says { TurnsSay (view_of T.wiring U.served L.noted L.is_listening self.old) (view_of T.wiring U.served L.noted L.is_listening self.new) cx.new result }
         ensures open { MayBePolled U.calling self.new }
         ensures registered { OnPending result (IsArmed cx.new) }
         ensures kept { Keeps cx.old cx.new }

@@ -28,7 +28,7 @@ where
         requires open { MayBePolled U.calling self.old }
         requires running { self.old.ending ≡ None }
         requires armed { is_armed ≡ true → IsArmed cx.old }
-        ensures says { ReadingSays (view_of T.wiring U.served L.noted self.old) (view_of T.wiring U.served L.noted self.new) result }
+        ensures says { ReadingSays (view_of T.wiring U.served L.noted L.is_listening self.old) (view_of T.wiring U.served L.noted L.is_listening self.new) result }
         ensures open { MayBePolled U.calling self.new }
         ensures registered { OnIdle result (IsArmed cx.new) }
         ensures kept { Keeps cx.old cx.new }
@@ -48,10 +48,10 @@ where
         requires open { MayBePolled U.calling self.old }
         requires running { self.old.ending ≡ None }
         requires some { 0 < length buf.old }
-        requires fits { length buf.old ≤ room (view_of T.wiring U.served L.noted self.old) }
-        requires read { (bytes : List ℕ) → allows (view_of T.wiring U.served L.noted self.old) (on.read bytes) ≡ true }
-        requires eof { allows (view_of T.wiring U.served L.noted self.old) on.eof ≡ true }
-        ensures says { ReadingSays (view_of T.wiring U.served L.noted self.old) (view_of T.wiring U.served L.noted self.new) result }
+        requires fits { length buf.old ≤ room (view_of T.wiring U.served L.noted L.is_listening self.old) }
+        requires read { (bytes : List ℕ) → allows (view_of T.wiring U.served L.noted L.is_listening self.old) (on.read bytes) ≡ true }
+        requires eof { allows (view_of T.wiring U.served L.noted L.is_listening self.old) on.eof ≡ true }
+        ensures says { ReadingSays (view_of T.wiring U.served L.noted L.is_listening self.old) (view_of T.wiring U.served L.noted L.is_listening self.new) result }
         ensures open { MayBePolled U.calling self.new }
         ensures registered { OnIdle result (IsArmed cx.new) }
         ensures kept { Keeps cx.old cx.new }

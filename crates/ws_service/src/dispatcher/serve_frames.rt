@@ -39,9 +39,9 @@ where
     pub(super) fn serve(&mut self, is_armed: bool, cx: &mut Context<'_>) -> UpgradeTurn
         requires open { MayBePolled U.calling self.old }
         requires running { self.old.ending ≡ None }
-        requires goes_on { closes (view_of T.wiring U.served L.noted self.old) ≡ false }
+        requires goes_on { closes (view_of T.wiring U.served L.noted L.is_listening self.old) ≡ false }
         requires armed { is_armed ≡ true → IsArmed cx.old }
-        ensures says { ServeSays (view_of T.wiring U.served L.noted self.old) (view_of T.wiring U.served L.noted self.new) result }
+        ensures says { ServeSays (view_of T.wiring U.served L.noted L.is_listening self.old) (view_of T.wiring U.served L.noted L.is_listening self.new) result }
         ensures open { MayBePolled U.calling self.new }
         ensures registered { OnIdle result (IsArmed cx.new) }
         ensures kept { Keeps cx.old cx.new }
@@ -60,7 +60,7 @@ where
         requires running { self.old.ending ≡ None }
         requires unasked { stage_of self.old.work ≡ free }
         requires armed { is_armed ≡ true → IsArmed cx.old }
-        ensures says { ServeSays (view_of T.wiring U.served L.noted self.old) (view_of T.wiring U.served L.noted self.new) result }
+        ensures says { ServeSays (view_of T.wiring U.served L.noted L.is_listening self.old) (view_of T.wiring U.served L.noted L.is_listening self.new) result }
         ensures open { MayBePolled U.calling self.new }
         ensures registered { OnIdle result (IsArmed cx.new) }
         ensures kept { Keeps cx.old cx.new }
@@ -75,9 +75,9 @@ where
         requires open { MayBePolled U.calling self.old }
         requires running { self.old.ending ≡ None }
         requires unasked { stage_of self.old.work ≡ free }
-        requires allowed { allows_pull (view_of T.wiring U.served L.noted self.old) ≡ true }
+        requires allowed { allows_pull (view_of T.wiring U.served L.noted L.is_listening self.old) ≡ true }
         requires armed { is_armed ≡ true → IsArmed cx.old }
-        ensures says { ServeSays (view_of T.wiring U.served L.noted self.old) (view_of T.wiring U.served L.noted self.new) result }
+        ensures says { ServeSays (view_of T.wiring U.served L.noted L.is_listening self.old) (view_of T.wiring U.served L.noted L.is_listening self.new) result }
         ensures open { MayBePolled U.calling self.new }
         ensures registered { OnIdle result (IsArmed cx.new) }
         ensures kept { Keeps cx.old cx.new }
@@ -102,10 +102,10 @@ where
     fn ask(&mut self, is_armed: bool, cx: &mut Context<'_>) -> UpgradeTurn
         requires open { MayBePolled U.calling self.old }
         requires running { self.old.ending ≡ None }
-        requires goes_on { closes (view_of T.wiring U.served L.noted self.old) ≡ false }
+        requires goes_on { closes (view_of T.wiring U.served L.noted L.is_listening self.old) ≡ false }
         requires waits { is_waiting (stage_of self.old.work) ≡ true }
         requires armed { is_armed ≡ true → IsArmed cx.old }
-        ensures says { ServeSays (view_of T.wiring U.served L.noted self.old) (view_of T.wiring U.served L.noted self.new) result }
+        ensures says { ServeSays (view_of T.wiring U.served L.noted L.is_listening self.old) (view_of T.wiring U.served L.noted L.is_listening self.new) result }
         ensures open { MayBePolled U.calling self.new }
         ensures registered { OnIdle result (IsArmed cx.new) }
         ensures kept { Keeps cx.old cx.new }
@@ -127,10 +127,10 @@ where
     fn answer(&mut self, is_armed: bool, cx: &mut Context<'_>) -> UpgradeTurn
         requires open { MayBePolled U.calling self.old }
         requires running { self.old.ending ≡ None }
-        requires goes_on { closes (view_of T.wiring U.served L.noted self.old) ≡ false }
+        requires goes_on { closes (view_of T.wiring U.served L.noted L.is_listening self.old) ≡ false }
         requires calls { is_calling (stage_of self.old.work) ≡ true }
         requires armed { is_armed ≡ true → IsArmed cx.old }
-        ensures says { ServeSays (view_of T.wiring U.served L.noted self.old) (view_of T.wiring U.served L.noted self.new) result }
+        ensures says { ServeSays (view_of T.wiring U.served L.noted L.is_listening self.old) (view_of T.wiring U.served L.noted L.is_listening self.new) result }
         ensures open { MayBePolled U.calling self.new }
         ensures registered { OnIdle result (IsArmed cx.new) }
         ensures kept { Keeps cx.old cx.new }
@@ -157,7 +157,7 @@ where
         requires running { self.old.ending ≡ None }
         requires answered { is_sending (stage_of self.old.work) ≡ true }
         requires armed { is_armed ≡ true → IsArmed cx.old }
-        ensures says { ServeSays (view_of T.wiring U.served L.noted self.old) (view_of T.wiring U.served L.noted self.new) result }
+        ensures says { ServeSays (view_of T.wiring U.served L.noted L.is_listening self.old) (view_of T.wiring U.served L.noted L.is_listening self.new) result }
         ensures open { MayBePolled U.calling self.new }
         ensures registered { OnIdle result (IsArmed cx.new) }
         ensures kept { Keeps cx.old cx.new }
@@ -172,8 +172,8 @@ where
         requires open { MayBePolled U.calling self.old }
         requires running { self.old.ending ≡ None }
         requires answered { is_sending (stage_of self.old.work) ≡ true }
-        requires allowed { allows_send (view_of T.wiring U.served L.noted self.old) ≡ true }
-        ensures says { EndSays (view_of T.wiring U.served L.noted self.old) (view_of T.wiring U.served L.noted self.new) result }
+        requires allowed { allows_send (view_of T.wiring U.served L.noted L.is_listening self.old) ≡ true }
+        ensures says { EndSays (view_of T.wiring U.served L.noted L.is_listening self.old) (view_of T.wiring U.served L.noted L.is_listening self.new) result }
         ensures open { MayBePolled U.calling self.new }
     {
         let Work::Sending(message) = mem::replace(&mut self.work, Work::Free) else {

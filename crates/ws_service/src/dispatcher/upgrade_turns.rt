@@ -25,7 +25,7 @@ where
     #[tactic(auto, using(crate::proofs::Runs::stays_broken, crate::proofs::Runs::stays_abandoned))]
     pub(super) fn turn(&mut self, cx: &mut Context<'_>) -> UpgradeTurn
         requires open { MayBePolled U.calling self.old }
-        ensures says { TurnSays (view_of T.wiring U.served L.noted self.old) (view_of T.wiring U.served L.noted self.new) result }
+        ensures says { TurnSays (view_of T.wiring U.served L.noted L.is_listening self.old) (view_of T.wiring U.served L.noted L.is_listening self.new) result }
         ensures open { MayBePolled U.calling self.new }
         ensures registered { OnIdle result (IsArmed cx.new) }
         ensures kept { Keeps cx.old cx.new }
@@ -42,7 +42,7 @@ where
     fn shut(&mut self, end: End, cx: &mut Context<'_>) -> UpgradeTurn
         requires open { MayBePolled U.calling self.old }
         requires ended { self.old.ending ≡ Some (Closed end) }
-        ensures says { TurnSays (view_of T.wiring U.served L.noted self.old) (view_of T.wiring U.served L.noted self.new) result }
+        ensures says { TurnSays (view_of T.wiring U.served L.noted L.is_listening self.old) (view_of T.wiring U.served L.noted L.is_listening self.new) result }
         ensures open { MayBePolled U.calling self.new }
         ensures registered { OnIdle result (IsArmed cx.new) }
         ensures kept { Keeps cx.old cx.new }

@@ -29,7 +29,7 @@ where
     pub(super) fn write(&mut self, cx: &mut Context<'_>) -> UpgradeTurn
         requires open { MayBePolled U.calling self.old }
         requires running { self.old.ending ≡ None }
-        ensures says { TurnSays (view_of T.wiring U.served L.noted self.old) (view_of T.wiring U.served L.noted self.new) result }
+        ensures says { TurnSays (view_of T.wiring U.served L.noted L.is_listening self.old) (view_of T.wiring U.served L.noted L.is_listening self.new) result }
         ensures open { MayBePolled U.calling self.new }
         ensures registered { OnIdle result (IsArmed cx.new) }
         ensures kept { Keeps cx.old cx.new }
@@ -47,9 +47,9 @@ where
     fn give(&mut self, cx: &mut Context<'_>) -> UpgradeTurn
         requires open { MayBePolled U.calling self.old }
         requires running { self.old.ending ≡ None }
-        requires some { 0 < length (buffered (view_of T.wiring U.served L.noted self.old)) }
-        requires allowed { (count : ℕ) → allows (view_of T.wiring U.served L.noted self.old) (on.write count) ≡ true }
-        ensures says { TurnSays (view_of T.wiring U.served L.noted self.old) (view_of T.wiring U.served L.noted self.new) result }
+        requires some { 0 < length (buffered (view_of T.wiring U.served L.noted L.is_listening self.old)) }
+        requires allowed { (count : ℕ) → allows (view_of T.wiring U.served L.noted L.is_listening self.old) (on.write count) ≡ true }
+        ensures says { TurnSays (view_of T.wiring U.served L.noted L.is_listening self.old) (view_of T.wiring U.served L.noted L.is_listening self.new) result }
         ensures open { MayBePolled U.calling self.new }
         ensures registered { OnIdle result (IsArmed cx.new) }
         ensures kept { Keeps cx.old cx.new }
@@ -75,7 +75,7 @@ where
         requires open { MayBePolled U.calling self.old }
         requires running { self.old.ending ≡ None }
         requires armed { is_armed ≡ true → IsArmed cx.old }
-        ensures says { AfterSays (view_of T.wiring U.served L.noted self.old) (view_of T.wiring U.served L.noted self.new) result }
+        ensures says { AfterSays (view_of T.wiring U.served L.noted L.is_listening self.old) (view_of T.wiring U.served L.noted L.is_listening self.new) result }
         ensures open { MayBePolled U.calling self.new }
         ensures registered { OnIdle result (IsArmed cx.new) }
         ensures kept { Keeps cx.old cx.new }
@@ -90,9 +90,9 @@ where
     fn close(&mut self, end: End, is_armed: bool, cx: &mut Context<'_>) -> UpgradeTurn
         requires open { MayBePolled U.calling self.old }
         requires running { self.old.ending ≡ None }
-        requires closing { closing_by (setting_of (view_of T.wiring U.served L.noted self.old).traced.state.settings) (view_of T.wiring U.served L.noted self.old).traced.state.kept ≡ Some (end_of end) }
+        requires closing { closing_by (setting_of (view_of T.wiring U.served L.noted L.is_listening self.old).traced.state.settings) (view_of T.wiring U.served L.noted L.is_listening self.old).traced.state.kept ≡ Some (end_of end) }
         requires armed { is_armed ≡ true → IsArmed cx.old }
-        ensures says { AfterSays (view_of T.wiring U.served L.noted self.old) (view_of T.wiring U.served L.noted self.new) result }
+        ensures says { AfterSays (view_of T.wiring U.served L.noted L.is_listening self.old) (view_of T.wiring U.served L.noted L.is_listening self.new) result }
         ensures open { MayBePolled U.calling self.new }
         ensures registered { OnIdle result (IsArmed cx.new) }
         ensures kept { Keeps cx.old cx.new }
@@ -106,9 +106,9 @@ where
     fn tell_end(&mut self, end: End) -> UpgradeTurn
         requires open { MayBePolled U.calling self.old }
         requires running { self.old.ending ≡ None }
-        requires closing { closing_by (setting_of (view_of T.wiring U.served L.noted self.old).traced.state.settings) (view_of T.wiring U.served L.noted self.old).traced.state.kept ≡ Some (end_of end) }
-        requires allowed { allows_next (view_of T.wiring U.served L.noted self.old) ≡ true }
-        ensures says { EndSays (view_of T.wiring U.served L.noted self.old) (view_of T.wiring U.served L.noted self.new) result }
+        requires closing { closing_by (setting_of (view_of T.wiring U.served L.noted L.is_listening self.old).traced.state.settings) (view_of T.wiring U.served L.noted L.is_listening self.old).traced.state.kept ≡ Some (end_of end) }
+        requires allowed { allows_next (view_of T.wiring U.served L.noted L.is_listening self.old) ≡ true }
+        ensures says { EndSays (view_of T.wiring U.served L.noted L.is_listening self.old) (view_of T.wiring U.served L.noted L.is_listening self.new) result }
         ensures open { MayBePolled U.calling self.new }
     {
         match self.traced.next() {

@@ -11,12 +11,12 @@ pub returns-clause-served : goal.returns-clause-served
 returns-clause-served g c =
     let transport = g.W.Transport.wiring c.args.transport in
     let noted = g.L.Recorder.noted c.args.recorder in
-    let begun = c.new-dispatcher.ensures.view ∙ ap (λ (w : Worked). view_begun transport (told_service (λ (x : Unit). holds []) (serving_of w)) c.args.config noted) c.new-service.ensures in
+    let begun = c.new-dispatcher.ensures.view ∙ ap (λ (w : Worked). view_begun transport (told_service (λ (x : Unit). holds []) (serving_of w)) c.args.config noted (g.L.Recorder.is_listening c.args.recorder)) c.new-service.ensures in
     record {
-      last = view_of g.W.Transport.wiring (λ s. serving_of s.work) (λ x. unknown_call) (λ x. holds []) g.L.Recorder.noted c.poll_as_task-end.new.dispatcher;
+      last = view_of g.W.Transport.wiring (λ s. serving_of s.work) (λ x. unknown_call) (λ x. holds []) g.L.Recorder.noted g.L.Recorder.is_listening c.poll_as_task-end.new.dispatcher;
       ends =
           subst
-          (λ (v : View). Ends c.args.polls (g.K.Clock.may_give c.args.clock) v (view_of g.W.Transport.wiring (λ s. serving_of s.work) (λ x. unknown_call) (λ x. holds []) g.L.Recorder.noted c.poll_as_task-end.new.dispatcher)
+          (λ (v : View). Ends c.args.polls (g.K.Clock.may_give c.args.clock) v (view_of g.W.Transport.wiring (λ s. serving_of s.work) (λ x. unknown_call) (λ x. holds []) g.L.Recorder.noted g.L.Recorder.is_listening c.poll_as_task-end.new.dispatcher)
           c.poll_as_task-end.result)
           begun c.poll_as_task-end.ensures.ends;
       transport_is = rw c.into_parts-transport.ensures refl;
@@ -31,5 +31,5 @@ pub returns-clause-stands : goal.returns-clause-stands
 returns-clause-stands g c = λ unnoted.
     let transport = g.W.Transport.wiring c.args.transport in
     let noted = g.L.Recorder.noted c.args.recorder in
-    let begun = c.new-dispatcher.ensures.view ∙ ap (λ (w : Worked). view_begun transport (told_service (λ (x : Unit). holds []) (serving_of w)) c.args.config noted) c.new-service.ensures in
+    let begun = c.new-dispatcher.ensures.view ∙ ap (λ (w : Worked). view_begun transport (told_service (λ (x : Unit). holds []) (serving_of w)) c.args.config noted (g.L.Recorder.is_listening c.args.recorder)) c.new-service.ensures in
     subst (λ (v : View). TracedStands v.traced []) begun (c.new-dispatcher.ensures.stands unnoted)

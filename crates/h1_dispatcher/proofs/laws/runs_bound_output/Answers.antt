@@ -5,7 +5,7 @@ pub returns-clause-asked : goal.returns-clause-asked
 returns-clause-asked c = λ v w head is. asks_in_room v w head is
 
 pub returns-clause-new : goal.returns-clause-new
-returns-clause-new c = λ transport service settings. (begun_room transport service settings, begun_room_noted transport service settings)
+returns-clause-new c = λ transport service settings listens. (begun_room transport service settings listens, begun_room_noted transport service settings listens)
 
 pub returns-clause-runs : goal.returns-clause-runs
 returns-clause-runs c = λ v u w steps step all one h run is. run_grows v u w steps step all one h run is

@@ -6,7 +6,7 @@ use Rattle.ws_service.proofs.dispatcher.poll.UpgradeDispatcher+T+U+U+Call+L.turn
 -- each turn so far was progress
 abbrev pub invariant-loop-turn : goal.invariant-loop-turn
 invariant-loop-turn g l = record {
-  goes : Progress (view_of g.T.Transport.wiring g.U.Service.served g.L.Recorder.noted l.fn.self) (view_of g.T.Transport.wiring g.U.Service.served g.L.Recorder.noted l.self) l.turn;
+  goes : Progress (view_of g.T.Transport.wiring g.U.Service.served g.L.Recorder.noted g.L.Recorder.is_listening l.fn.self) (view_of g.T.Transport.wiring g.U.Service.served g.L.Recorder.noted g.L.Recorder.is_listening l.self) l.turn;
   open_call : MayBePolled g.U.Service.calling l.self;
   kept : Keeps l.fn.cx l.cx;
 }

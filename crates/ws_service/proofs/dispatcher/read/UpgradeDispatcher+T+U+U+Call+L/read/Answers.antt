@@ -5,10 +5,10 @@ use Rattle.ws_service.proofs.dispatcher.read.UpgradeDispatcher+T+U+U+Call+L.read
 
 pub returns-then-room-eq0-clause-says : goal.returns-then-room-eq0-clause-says
 returns-then-room-eq0-clause-says g c =
-    let v = view_of g.T.Transport.wiring g.U.Service.served g.L.Recorder.noted c.args.self.now in
+    let v = view_of g.T.Transport.wiring g.U.Service.served g.L.Recorder.noted g.L.Recorder.is_listening c.args.self.now in
     nothing_read v c.wait.result c.wait.ensures.idle (inr (search rules))
 
 pub returns-then-not-can_read-clause-says : goal.returns-then-not-can_read-clause-says
 returns-then-not-can_read-clause-says g c =
-    let v = view_of g.T.Transport.wiring g.U.Service.served g.L.Recorder.noted c.args.self.now in
+    let v = view_of g.T.Transport.wiring g.U.Service.served g.L.Recorder.noted g.L.Recorder.is_listening c.args.self.now in
     nothing_read v c.wait-then-not-can_read.result c.wait-then-not-can_read.ensures.idle (inl (search rules))

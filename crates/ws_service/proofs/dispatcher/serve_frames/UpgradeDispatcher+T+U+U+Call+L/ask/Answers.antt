@@ -11,9 +11,9 @@ use Rattle.ws_service.proofs.dispatcher.serve_frames.UpgradeDispatcher+T+U+U+Cal
 
 pub returns-in-Pending-clause-says : goal.returns-in-Pending-clause-says
 returns-in-Pending-clause-says g c =
-    let v = view_of g.T.Transport.wiring g.U.Service.served g.L.Recorder.noted c.args.self.now in
-    let u = view_of g.T.Transport.wiring g.U.Service.served g.L.Recorder.noted (record c.args.self.now { service = c.poll_ready.new.self }) in
-    let w = view_of g.T.Transport.wiring g.U.Service.served g.L.Recorder.noted c.read.new.self in
+    let v = view_of g.T.Transport.wiring g.U.Service.served g.L.Recorder.noted g.L.Recorder.is_listening c.args.self.now in
+    let u = view_of g.T.Transport.wiring g.U.Service.served g.L.Recorder.noted g.L.Recorder.is_listening (record c.args.self.now { service = c.poll_ready.new.self }) in
+    let w = view_of g.T.Transport.wiring g.U.Service.served g.L.Recorder.noted g.L.Recorder.is_listening c.read.new.self in
     let item = now_waiting v.stage c.requires.waits in
     pending_then v u w (ready Pending) c.read.result
     (record { running = c.requires.running; opened = c.requires.goes_on }, item, tt, c.in-Pending.ensures.says, refl) tt
@@ -21,17 +21,17 @@ returns-in-Pending-clause-says g c =
 
 pub returns-in-Ready-Err-clause-says : goal.returns-in-Ready-Err-clause-says
 returns-in-Ready-Err-clause-says g c =
-    let v = view_of g.T.Transport.wiring g.U.Service.served g.L.Recorder.noted c.args.self.now in
-    let w = view_of g.T.Transport.wiring g.U.Service.served g.L.Recorder.noted (record c.args.self.now { service = c.poll_ready.new.self }) in
+    let v = view_of g.T.Transport.wiring g.U.Service.served g.L.Recorder.noted g.L.Recorder.is_listening c.args.self.now in
+    let w = view_of g.T.Transport.wiring g.U.Service.served g.L.Recorder.noted g.L.Recorder.is_listening (record c.args.self.now { service = c.poll_ready.new.self }) in
     ends_by v w (ready (Ready (Err c.in-Ready-Err.error))) (Err (Upgrade c.in-Ready-Err.error))
     (record { running = c.requires.running; opened = c.requires.goes_on }, now_waiting v.stage c.requires.waits, tt, rw c.in-Ready-Err.field-0-is at c.in-Ready-Err.ensures.says, refl)
     (inl ([], refl, tt))
 
 pub returns-in-Waiting-clause-says : goal.returns-in-Waiting-clause-says
 returns-in-Waiting-clause-says g c =
-    let v = view_of g.T.Transport.wiring g.U.Service.served g.L.Recorder.noted c.args.self.now in
-    let u = view_of g.T.Transport.wiring g.U.Service.served g.L.Recorder.noted (record c.args.self.now { service = c.call.new.self; work = Calling c.call.result }) in
-    let w = view_of g.T.Transport.wiring g.U.Service.served g.L.Recorder.noted c.answer.new.self in
+    let v = view_of g.T.Transport.wiring g.U.Service.served g.L.Recorder.noted g.L.Recorder.is_listening c.args.self.now in
+    let u = view_of g.T.Transport.wiring g.U.Service.served g.L.Recorder.noted g.L.Recorder.is_listening (record c.args.self.now { service = c.call.new.self; work = Calling c.call.result }) in
+    let w = view_of g.T.Transport.wiring g.U.Service.served g.L.Recorder.noted g.L.Recorder.is_listening c.answer.new.self in
     step_then v u w (called c.in-Waiting.item) c.answer.result (
       record { running = c.requires.running; opened = c.requires.goes_on },
       ap (λ x. stage_of x) (sym c.replace.ensures.value ∙ c.in-Waiting.is),

@@ -6,6 +6,6 @@ use Rattle.ws_service.proofs.dispatcher.serve_frames.UpgradeDispatcher+T+U+U+Cal
 
 pub returns-then-not-can_pull_frame-clause-says : goal.returns-then-not-can_pull_frame-clause-says
 returns-then-not-can_pull_frame-clause-says g c =
-    let v = view_of g.T.Transport.wiring g.U.Service.served g.L.Recorder.noted c.args.self.now in
-    let w = view_of g.T.Transport.wiring g.U.Service.served g.L.Recorder.noted c.read.new.self in
+    let v = view_of g.T.Transport.wiring g.U.Service.served g.L.Recorder.noted g.L.Recorder.is_listening c.args.self.now in
+    let w = view_of g.T.Transport.wiring g.U.Service.served g.L.Recorder.noted g.L.Recorder.is_listening c.read.new.self in
     input_then v w c.read.result (needs_none v v.stage [] c.requires.unasked (inr (search rules))) c.read.ensures.says

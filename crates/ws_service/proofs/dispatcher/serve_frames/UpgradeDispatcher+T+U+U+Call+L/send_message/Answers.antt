@@ -11,16 +11,16 @@ step-requires g c = record { allowed = any_message _ _ _ c.requires.allowed }
 
 pub returns-in-Ok-clause-says : goal.returns-in-Ok-clause-says
 returns-in-Ok-clause-says g c =
-    let v = view_of g.T.Transport.wiring g.U.Service.served g.L.Recorder.noted c.args.self.now in
-    let w = view_of g.T.Transport.wiring g.U.Service.served g.L.Recorder.noted (record c.args.self.now { traced = c.step.new.self; work = c.replace.new.dest }) in
+    let v = view_of g.T.Transport.wiring g.U.Service.served g.L.Recorder.noted g.L.Recorder.is_listening c.args.self.now in
+    let w = view_of g.T.Transport.wiring g.U.Service.served g.L.Recorder.noted g.L.Recorder.is_listening (record c.args.self.now { traced = c.step.new.self; work = c.replace.new.dest }) in
     goes_by v w (sent c.in-Sending.message) 1
     (sent_step v w c.in-Sending.message c.in-Ok.field-0 c.requires.running (ap (λ x. stage_of x) (sym c.replace.ensures.value ∙ c.in-Sending.is)) c.requires.allowed
-    (rw c.new.ensures at c.in-Ok.ensures.stands) c.step.ensures.settings refl (ap (λ x. stage_of x) c.replace.ensures.after)) tt (omega arith)
+    (rw c.new.ensures at c.in-Ok.ensures.stands) c.step.ensures.settings c.step.ensures.listening refl (ap (λ x. stage_of x) c.replace.ensures.after)) tt (omega arith)
 
 pub returns-clause-says : goal.returns-clause-says
 returns-clause-says g c =
-    let v = view_of g.T.Transport.wiring g.U.Service.served g.L.Recorder.noted c.args.self.now in
-    let w = view_of g.T.Transport.wiring g.U.Service.served g.L.Recorder.noted (record c.args.self.now { traced = c.step.new.self; work = c.replace.new.dest; ending = Some Broken }) in
+    let v = view_of g.T.Transport.wiring g.U.Service.served g.L.Recorder.noted g.L.Recorder.is_listening c.args.self.now in
+    let w = view_of g.T.Transport.wiring g.U.Service.served g.L.Recorder.noted g.L.Recorder.is_listening (record c.args.self.now { traced = c.step.new.self; work = c.replace.new.dest; ending = Some Broken }) in
     lacks v w (unsent c.in-Sending.message) refl
     (unsent_step v w c.in-Sending.message c.requires.running (ap (λ x. stage_of x) (sym c.replace.ensures.value ∙ c.in-Sending.is)) c.requires.allowed
     (rw c.new.ensures at c.in-Err.ensures.err) refl (ap (λ x. stage_of x) c.replace.ensures.after))

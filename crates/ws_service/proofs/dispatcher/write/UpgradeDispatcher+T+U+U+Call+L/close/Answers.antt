@@ -5,11 +5,11 @@ use Rattle.ws_service.proofs.dispatcher.write.UpgradeDispatcher+T+U+U+Call+L.clo
 
 pub returns-then-can_next-clause-says : goal.returns-then-can_next-clause-says
 returns-then-can_next-clause-says g c =
-    let v = view_of g.T.Transport.wiring g.U.Service.served g.L.Recorder.noted c.args.self.now in
-    let w = view_of g.T.Transport.wiring g.U.Service.served g.L.Recorder.noted c.tell_end.new.self in
+    let v = view_of g.T.Transport.wiring g.U.Service.served g.L.Recorder.noted g.L.Recorder.is_listening c.args.self.now in
+    let w = view_of g.T.Transport.wiring g.U.Service.served g.L.Recorder.noted g.L.Recorder.is_listening c.tell_end.new.self in
     end_then v w c.tell_end.result c.tell_end.ensures.says
 
 pub returns-clause-says : goal.returns-clause-says
 returns-clause-says g c =
-    let v = view_of g.T.Transport.wiring g.U.Service.served g.L.Recorder.noted c.args.self.now in
+    let v = view_of g.T.Transport.wiring g.U.Service.served g.L.Recorder.noted g.L.Recorder.is_listening c.args.self.now in
     held_idle v c.wait.result c.wait.ensures.idle (record { stays = refl; closing = ap is_some c.requires.closing; next = search rules })

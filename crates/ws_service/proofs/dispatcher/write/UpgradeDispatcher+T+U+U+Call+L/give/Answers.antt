@@ -1,4 +1,5 @@
 use Rattle.std.proofs.Common.{Some, Ok, Err, [], refl, inl, inr, arith}
+use Rattle.std.proofs.lemmas.Bool.{false≢true}
 use Rattle.futures.specs.declared.task.Poll.TheVariants.{Ready}
 use Rattle.ws_service.specs.declared.error.UpgradeError.TheVariants.{Io}
 use Rattle.ws_service.specs.declared.dispatcher.Ending.TheVariants.{Broken}
@@ -11,16 +12,16 @@ use Rattle.ws_service.proofs.dispatcher.write.UpgradeDispatcher+T+U+U+Call+L.giv
 
 pub returns-in-Pending-clause-says : goal.returns-in-Pending-clause-says
 returns-in-Pending-clause-says g c =
-    let v = view_of g.T.Transport.wiring g.U.Service.served g.L.Recorder.noted c.args.self.now in
-    let u = view_of g.T.Transport.wiring g.U.Service.served g.L.Recorder.noted (record c.args.self.now { transport = c.poll_write.new.self }) in
-    let w = view_of g.T.Transport.wiring g.U.Service.served g.L.Recorder.noted c.go_on.new.self in
+    let v = view_of g.T.Transport.wiring g.U.Service.served g.L.Recorder.noted g.L.Recorder.is_listening c.args.self.now in
+    let u = view_of g.T.Transport.wiring g.U.Service.served g.L.Recorder.noted g.L.Recorder.is_listening (record c.args.self.now { transport = c.poll_write.new.self }) in
+    let w = view_of g.T.Transport.wiring g.U.Service.served g.L.Recorder.noted g.L.Recorder.is_listening c.go_on.new.self in
     let front = offered v _ c.requires.some (rw c.connection.ensures at c.stretch.ensures.first) (rw c.connection.ensures at c.stretch.ensures.some) in
     written_then v u w c.go_on.result c.requires.running (c.requires.running, (_, front, c.in-Pending.ensures.says), refl, refl) c.go_on.ensures.says
 
 pub returns-in-Ready-Err-clause-says : goal.returns-in-Ready-Err-clause-says
 returns-in-Ready-Err-clause-says g c =
-    let v = view_of g.T.Transport.wiring g.U.Service.served g.L.Recorder.noted c.args.self.now in
-    let w = view_of g.T.Transport.wiring g.U.Service.served g.L.Recorder.noted (record c.args.self.now { transport = c.poll_write.new.self }) in
+    let v = view_of g.T.Transport.wiring g.U.Service.served g.L.Recorder.noted g.L.Recorder.is_listening c.args.self.now in
+    let w = view_of g.T.Transport.wiring g.U.Service.served g.L.Recorder.noted g.L.Recorder.is_listening (record c.args.self.now { transport = c.poll_write.new.self }) in
     let front = offered v _ c.requires.some (rw c.connection.ensures at c.stretch.ensures.first) (rw c.connection.ensures at c.stretch.ensures.some) in
     ends_by v w (written (Ready (Err c.in-Ready-Err.field-0-0))) (Err Io)
     (c.requires.running, (_, front, rw c.in-Ready-Err.field-0-is at c.in-Ready-Err.ensures.says), refl, refl)
@@ -28,18 +29,18 @@ returns-in-Ready-Err-clause-says g c =
 
 pub returns-in-Ok-clause-says : goal.returns-in-Ok-clause-says
 returns-in-Ok-clause-says g c =
-    let v = view_of g.T.Transport.wiring g.U.Service.served g.L.Recorder.noted c.args.self.now in
-    let w = view_of g.T.Transport.wiring g.U.Service.served g.L.Recorder.noted (record c.args.self.now { transport = c.poll_write.new.self; traced = c.advance.new.self }) in
+    let v = view_of g.T.Transport.wiring g.U.Service.served g.L.Recorder.noted g.L.Recorder.is_listening c.args.self.now in
+    let w = view_of g.T.Transport.wiring g.U.Service.served g.L.Recorder.noted g.L.Recorder.is_listening (record c.args.self.now { transport = c.poll_write.new.self; traced = c.advance.new.self }) in
     let front = offered v _ c.requires.some (rw c.connection.ensures at c.stretch.ensures.first) (rw c.connection.ensures at c.stretch.ensures.some) in
     let says = rw c.in-Ready-Ok.field-0-is at c.in-Ready-Ok.ensures.says in
     goes_by v w (written (Ready (Ok c.in-Ready-Ok.count))) 1
-    (c.requires.running, (_, front, says), (bounded v _ c.in-Ready-Ok.count front says.bound, record { steps = c.in-Ok.ensures.stands; settings = c.advance.ensures.settings }), refl) tt (omega arith)
+    (c.requires.running, (_, front, says), (bounded v _ c.in-Ready-Ok.count front says.bound, record { steps = c.in-Ok.ensures.stands; settings = c.advance.ensures.settings; listens = c.advance.ensures.listening }), refl) tt (omega arith)
 
 pub returns-in-Err-clause-says : goal.returns-in-Err-clause-says
 returns-in-Err-clause-says g c =
-    let v = view_of g.T.Transport.wiring g.U.Service.served g.L.Recorder.noted c.args.self.now in
-    let w = view_of g.T.Transport.wiring g.U.Service.served g.L.Recorder.noted (record c.args.self.now { transport = c.poll_write.new.self; traced = c.advance.new.self; ending = Some Broken }) in
+    let v = view_of g.T.Transport.wiring g.U.Service.served g.L.Recorder.noted g.L.Recorder.is_listening c.args.self.now in
+    let w = view_of g.T.Transport.wiring g.U.Service.served g.L.Recorder.noted g.L.Recorder.is_listening (record c.args.self.now { transport = c.poll_write.new.self; traced = c.advance.new.self; ending = Some Broken }) in
     let front = offered v _ c.requires.some (rw c.connection.ensures at c.stretch.ensures.first) (rw c.connection.ensures at c.stretch.ensures.some) in
     lacks v w (failed_write c.in-Ready-Ok.count) refl
-    (c.requires.running, (_, front, rw c.in-Ready-Ok.field-0-is at c.in-Ready-Ok.ensures.says), c.in-Err.ensures.err, refl)
+    (c.requires.running, (_, front, rw c.in-Ready-Ok.field-0-is at c.in-Ready-Ok.ensures.says), c.in-Err.ensures.err, refl, λ unheard. false≢true (c.in-Err.ensures.no_memory_needed unheard))
     (inr (inr (inl (c.in-Ready-Ok.count, ([], refl, tt)))))

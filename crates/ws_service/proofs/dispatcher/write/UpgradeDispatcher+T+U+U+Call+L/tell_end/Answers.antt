@@ -9,15 +9,15 @@ use Rattle.ws_service.proofs.dispatcher.write.UpgradeDispatcher+T+U+U+Call+L.tel
 
 pub returns-clause-says : goal.returns-clause-says
 returns-clause-says g c =
-    let v = view_of g.T.Transport.wiring g.U.Service.served g.L.Recorder.noted c.args.self.now in
+    let v = view_of g.T.Transport.wiring g.U.Service.served g.L.Recorder.noted g.L.Recorder.is_listening c.args.self.now in
     elim c.match-next.branch [
       | in-Ok w ↦
-          (let u = view_of g.T.Transport.wiring g.U.Service.served g.L.Recorder.noted (record c.args.self.now { traced = c.next.new.self; ending = Some (Closed c.args.end) }) in
+          (let u = view_of g.T.Transport.wiring g.U.Service.served g.L.Recorder.noted g.L.Recorder.is_listening (record c.args.self.now { traced = c.next.new.self; ending = Some (Closed c.args.end) }) in
           rw (w.self-is, w.result-is)
           (goes_by v u (closed c.args.end) 1
-          (c.requires.running, c.requires.closing, c.requires.allowed, (w.in-Ok.field-0, record { steps = w.in-Ok.ensures.stands; settings = c.next.ensures.settings }), refl) tt (omega arith)))
+          (c.requires.running, c.requires.closing, c.requires.allowed, (w.in-Ok.field-0, record { steps = w.in-Ok.ensures.stands; settings = c.next.ensures.settings; listens = c.next.ensures.listening }), refl) tt (omega arith)))
       | in-Err w ↦
-          (let u = view_of g.T.Transport.wiring g.U.Service.served g.L.Recorder.noted (record c.args.self.now { traced = c.next.new.self; ending = Some Broken }) in
+          (let u = view_of g.T.Transport.wiring g.U.Service.served g.L.Recorder.noted g.L.Recorder.is_listening (record c.args.self.now { traced = c.next.new.self; ending = Some Broken }) in
           rw (w.self-is, w.result-is)
           (lacks v u (failed on.next) refl ((c.requires.running, ap is_some c.requires.closing, c.requires.allowed), w.in-Err.ensures.err, refl) (inl (on.next, tt, ([], refl, tt)))))
     ]
