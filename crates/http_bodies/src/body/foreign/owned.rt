@@ -40,7 +40,11 @@ fn share_text(text: String) -> Result<Bytes, String>
 }
 
 impl MessageBody for BytesMut {
+    ghost use Rattle.std.specs.Prelude.{Some};
+
     ghost gives = { λ bytes. holds_owned bytes.items };
+
+    ghost at_hand = { λ bytes. Some bytes.items };
 
     fn size(&self) -> BodySize {
         BodySize::Sized(self.len() as u64)
@@ -77,7 +81,11 @@ impl MessageBody for BytesMut {
 }
 
 impl MessageBody for Vec<u8> {
+    ghost use Rattle.std.specs.Prelude.{Some};
+
     ghost gives = { λ bytes. holds_owned bytes.items };
+
+    ghost at_hand = { λ bytes. Some bytes.items };
 
     fn size(&self) -> BodySize {
         BodySize::Sized(self.len() as u64)
@@ -111,7 +119,11 @@ impl MessageBody for Vec<u8> {
 }
 
 impl MessageBody for String {
+    ghost use Rattle.std.specs.Prelude.{Some};
+
     ghost gives = { λ text. holds_owned (string_bytes text) };
+
+    ghost at_hand = { λ text. Some (string_bytes text) };
 
     fn size(&self) -> BodySize {
         BodySize::Sized(self.len() as u64)
@@ -145,7 +157,11 @@ impl MessageBody for String {
 }
 
 impl MessageBody for CowSlice<'static, u8> {
+    ghost use Rattle.std.specs.Prelude.{Some};
+
     ghost gives = { λ bytes. holds_owned (cow_slice_items bytes) };
+
+    ghost at_hand = { λ bytes. Some (cow_slice_items bytes) };
 
     fn size(&self) -> BodySize {
         BodySize::Sized(self.len() as u64)
@@ -185,7 +201,11 @@ impl MessageBody for CowSlice<'static, u8> {
 }
 
 impl MessageBody for CowStr<'static> {
+    ghost use Rattle.std.specs.Prelude.{Some};
+
     ghost gives = { λ text. holds_owned (cow_str_bytes text) };
+
+    ghost at_hand = { λ text. Some (cow_str_bytes text) };
 
     fn size(&self) -> BodySize {
         BodySize::Sized(self.len() as u64)
