@@ -6,6 +6,7 @@ use Rattle.http_config.specs.Config.{Settings}
 use Rattle.http_bodies.specs.Values.{holds}
 use Rattle.http_bodies.specs.Told.{Grows}
 use Rattle.http_services.specs.Serving.{Serving}
+use Rattle.http_transport.specs.Peer.{PeerAddress}
 use Rattle.http_transport.specs.Wiring.{Wiring}
 use Rattle.model_h1.specs.Event as on
 use Rattle.model_h1.specs.Sums as sums
@@ -107,11 +108,11 @@ moved_so begun between was now before trace first last taken_so written_so recei
       (subst (λ (x : Wiring). Grows x.sent between.transport.sent (written trace)) first (subst (λ l. Grows begun.transport.sent between.transport.sent l) (sym written_so) sent_so)),
 )
 
-pub told : (was now : Wiring) (number : ℕ) (settings : Settings) (recorded later : Option (List noted.Pair)) (listens : Bool) (polls : ℕ) (may_give : ℕ → Bool) (pass : Held) (end : Result Unit ServeError)
-    → TracedStands (begun_view was number settings recorded listens).traced [] → HasServed (begun_view was number settings recorded listens) polls may_give now later pass end
+pub told : (was now : Wiring) (peer : PeerAddress) (number : ℕ) (settings : Settings) (recorded later : Option (List noted.Pair)) (listens : Bool) (polls : ℕ) (may_give : ℕ → Bool) (pass : Held) (end : Result Unit ServeError)
+    → TracedStands (begun_view was peer number settings recorded listens).traced [] → HasServed (begun_view was peer number settings recorded listens) polls may_give now later pass end
     → IsTold settings was now later pass end
-told was now number settings recorded later listens polls may_give pass end stands served =
-    let begun : View = begun_view was number settings recorded listens in
+told was now peer number settings recorded later listens polls may_give pass end stands served =
+    let begun : View = begun_view was peer number settings recorded listens in
     let work : Worked = served.work in
     let ran : Ran (HadMemory end) begun served.last = ends_ran polls may_give begun served.last end served.ends in
     let u : View = ran.between in

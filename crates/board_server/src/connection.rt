@@ -67,7 +67,7 @@ where
     R: Wait + RandomSource + AllocGlobal,
     requires is_new { pass.entries ≡ [] }
     requires some { 0 < polls }
-    ensures served { HasServed (begun_view (W.wiring transport) pass.number config (L.noted recorder) (L.is_listening recorder)) polls (K.may_give clock) (W.wiring result.transport) (L.noted result.recorder) result.pass.pass result.end }
+    ensures served { HasServed (begun_view (W.wiring transport) (W.peer transport) pass.number config (L.noted recorder) (L.is_listening recorder)) polls (K.may_give clock) (W.wiring result.transport) (L.noted result.recorder) result.pass.pass result.end }
     ensures told { (L.noted recorder ≡ None) ⊎ (L.noted recorder ≡ Some []) → IsTold config (W.wiring transport) (W.wiring result.transport) (L.noted result.recorder) result.pass.pass result.end }
 {
     poll_service(
@@ -97,12 +97,13 @@ where
     R: Wait + RandomSource + AllocGlobal,
     requires is_new { pass.entries ≡ [] }
     requires some { 0 < polls }
-    ensures served { HasServed (begun_view (W.wiring transport) pass.number config (L.noted recorder) (L.is_listening recorder)) polls (K.may_give clock) (W.wiring result.transport) (L.noted result.recorder) result.pass.pass result.end }
-    ensures stands { (L.noted recorder ≡ None) ⊎ (L.noted recorder ≡ Some []) → TracedStands (begun_view (W.wiring transport) pass.number config (L.noted recorder) (L.is_listening recorder)).traced [] }
+    ensures served { HasServed (begun_view (W.wiring transport) (W.peer transport) pass.number config (L.noted recorder) (L.is_listening recorder)) polls (K.may_give clock) (W.wiring result.transport) (L.noted result.recorder) result.pass.pass result.end }
+    ensures stands { (L.noted recorder ≡ None) ⊎ (L.noted recorder ≡ Some []) → TracedStands (begun_view (W.wiring transport) (W.peer transport) pass.number config (L.noted recorder) (L.is_listening recorder)).traced [] }
 {
     let alloc = rt.alloc();
     let service = BoardService::new(rt, alloc, shared, gate, conn, pass);
-    let mut dispatcher = Dispatcher::new(alloc, transport, service, config, recorder);
+    let peer = transport.peer_addr();
+    let mut dispatcher = Dispatcher::new(alloc, transport, service, config, peer, recorder);
     let end = poll_as_task(rt, &mut dispatcher, clock, polls);
     let (transport, service, recorder) = dispatcher.into_parts();
     Served {

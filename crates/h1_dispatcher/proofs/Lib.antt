@@ -24,3 +24,4 @@ pub mod Once
 pub mod NoHeads
 pub mod Stretches
 pub mod Takes
+pub mod Peers

@@ -60,7 +60,7 @@ polled v w took more answer running allowed calls says takes bound same =
 
 pub asked_next : (v w : View) (head : NextHead) → v.ending ≡ None → is_busy v.stage ≡ false → allows_next v ≡ true → has_write_room v ≡ true → TracedSteps v.traced on.next (SaysNext head) w.traced
     → w.traced.state.settings ≡ v.traced.state.settings → w.traced.listens ≡ v.traced.listens → w ≡ record v { traced = w.traced; queue = w.queue; stage = w.stage; ending = w.ending; holding = w.holding; checking = w.checking }
-    → w.queue ≡ queue_at head v.queue → w.stage ≡ stage_at (request_at head) → w.ending ≡ ending_told head → w.holding ≡ holding_at head v → w.checking ≡ checking_at head v → IsStep v (next head) w
+    → w.queue ≡ queue_at head v.queue → w.stage ≡ stage_at (request_at v.peer head) → w.ending ≡ ending_told head → w.holding ≡ holding_at head v → w.checking ≡ checking_at head v → IsStep v (next v.peer head) w
 asked_next v w head running idle allowed some steps settings listens same fresh stage ends holds checks = (
   running,
   now_free v.stage idle,
@@ -68,9 +68,10 @@ asked_next v w head running idle allowed some steps settings listens same fresh 
   record { steps = steps; settings = settings; listens = listens },
   same ∙ ap (λ x. record v { traced = w.traced; queue = x; stage = w.stage; ending = w.ending; holding = w.holding; checking = w.checking }) fresh
       ∙ ap (λ x. record v { traced = w.traced; queue = queue_at head v.queue; stage = x; ending = w.ending; holding = w.holding; checking = w.checking }) stage
-      ∙ ap (λ x. record v { traced = w.traced; queue = queue_at head v.queue; stage = stage_at (request_at head); ending = x; holding = w.holding; checking = w.checking }) ends
-      ∙ ap (λ x. record v { traced = w.traced; queue = queue_at head v.queue; stage = stage_at (request_at head); ending = ending_told head; holding = x; checking = w.checking }) holds
-      ∙ ap (λ x. record v { traced = w.traced; queue = queue_at head v.queue; stage = stage_at (request_at head); ending = ending_told head; holding = holding_at head v; checking = x }) checks,
+      ∙ ap (λ x. record v { traced = w.traced; queue = queue_at head v.queue; stage = stage_at (request_at v.peer head); ending = x; holding = w.holding; checking = w.checking }) ends
+      ∙ ap (λ x. record v { traced = w.traced; queue = queue_at head v.queue; stage = stage_at (request_at v.peer head); ending = ending_told head; holding = x; checking = w.checking }) holds
+      ∙ ap (λ x. record v { traced = w.traced; queue = queue_at head v.queue; stage = stage_at (request_at v.peer head); ending = ending_told head; holding = holding_at head v; checking = x }) checks,
+  refl,
 )
 
 -- whether a piece is allowed doesn't depend on it, and where one is, the body may end or fail

@@ -10,6 +10,7 @@ use Rattle.http_bodies.specs.declared.body.fault.BodyFault.TheVariants.{Body, No
 use Rattle.http_bodies.proofs.Histories.{grown, grown-none}
 use Rattle.http_config.specs.Config.{Settings}
 use Rattle.http_services.specs.Serving.{Serving}
+use Rattle.http_transport.specs.Peer.{PeerAddress}
 use Rattle.http_transport.specs.Wiring.{Wiring, ReadSays, WriteSays, moved}
 use Rattle.h1_payload.specs.Rests.{SaysPulled}
 use Rattle.h1_payload.specs.declared.pulled.Pulled.{Pulled}
@@ -156,18 +157,18 @@ no_request_then (expiries.Expired end) = refl
 no_request_then expiries.Abandoned = refl
 
 -- the request that waits is that of the head
-waits_by : (head : NextHead) (out : on.Outcome) → SaysNext head out → AreCame (heads_of (request_at head)) (of_request out)
-waits_by (next_head.Head item) out says = subst (λ o. AreCame (heads_of (request_at (next_head.Head item))) (of_request o)) (sym says.2) ((says.0, refl, (item, says.1, refl)), tt)
-waits_by (next_head.Fault fault) out says = no_request out (ap of_request says)
-waits_by next_head.Pending out says = no_request out (ap of_request says)
-waits_by (next_head.Closed end) out says = no_request out (ap of_request says)
+waits_by : (peer : PeerAddress) (head : NextHead) (out : on.Outcome) → SaysNext head out → AreCame (heads_of (request_at peer head)) (of_request out)
+waits_by peer (next_head.Head item) out says = subst (λ o. AreCame (heads_of (request_at peer (next_head.Head item))) (of_request o)) (sym says.2) ((says.0, refl, (item, says.1, refl)), tt)
+waits_by peer (next_head.Fault fault) out says = no_request out (ap of_request says)
+waits_by peer next_head.Pending out says = no_request out (ap of_request says)
+waits_by peer (next_head.Closed end) out says = no_request out (ap of_request says)
 
-asked : (v w : View) (head : NextHead) → w.transport ≡ v.transport → Goes v.traced on.next (SaysNext head) w.traced → By v [] (heads_of (request_at head)) w
-asked v w head transport goes =
-    went v w on.next (heads_of (request_at head)) (SaysNext head) goes (λ out says machine. record {
+asked : (v w : View) (peer : PeerAddress) (head : NextHead) → w.transport ≡ v.transport → Goes v.traced on.next (SaysNext head) w.traced → By v [] (heads_of (request_at peer head)) w
+asked v w peer head transport goes =
+    went v w on.next (heads_of (request_at peer head)) (SaysNext head) goes (λ out says machine. record {
       received = same_grows _ _ (ap (λ (t : Wiring). t.received) transport);
       sent = subst (λ l. Grows v.transport.sent w.transport.sent l) (sym (no_text head out says)) (same_grows _ _ (ap (λ (t : Wiring). t.sent) transport));
-      requests = waits_by head out says;
+      requests = waits_by peer head out says;
     })
 
 -- what came of a body
@@ -272,7 +273,7 @@ step_follows v w drained noted is = done v w on.drain (ap (λ (x : View). x.tran
 step_follows v w (wrote answer) noted is = gave v w answer is.2 is.3
 step_follows v w (read came answer) noted is = took v w came is.2.0 answer is.2.2 is.2.3 is.2.4 is.3
 step_follows v w (shut answer) noted is = still v w (ap (λ (x : View). x.traced) is.2) (same_grows _ _ is.1.received) (same_grows _ _ is.1.sent)
-step_follows v w (next head) noted is = asked v w head (ap (λ (x : View). x.transport) is.4) is.3
+step_follows v w (next peer head) noted is = asked v w peer head (ap (λ (x : View). x.transport) is.4) is.3
 step_follows v w (closed end) noted is = told_end v w (end_of end) is.3.0 (ap (λ (x : View). x.transport) is.4) is.1 is.3.1
 step_follows v w continued noted is = done v w on.send_continue (ap (λ (x : View). x.transport) is.3) refl is.2
 step_follows v w (ready request answer) noted is = transport_same v w (ap (λ (x : View). x.traced) is.3) (ap (λ (x : View). x.transport) is.3)
@@ -319,8 +320,8 @@ run_follows v w (d ∷ steps) noted is =
 
 -- ---- before the first step
 
-pub begun_marked : (transport : Wiring) (service : Serving Asking Answer Answer) (settings : Settings) (noted : Option (List Pair)) (listens : Bool) → IsMarked (view_begun transport service settings noted listens).traced.state []
-begun_marked transport service settings noted listens = fresh_marked settings
+pub begun_marked : (transport : Wiring) (service : Serving Asking Answer Answer) (settings : Settings) (peer : PeerAddress) (noted : Option (List Pair)) (listens : Bool) → IsMarked (view_begun transport service settings peer noted listens).traced.state []
+begun_marked transport service settings peer noted listens = fresh_marked settings
 
-pub begun_counted : (transport : Wiring) (service : Serving Asking Answer Answer) (settings : Settings) (noted : Option (List Pair)) (listens : Bool) → IsCounted (view_begun transport service settings noted listens).traced.state []
-begun_counted transport service settings noted listens = fresh_counted settings
+pub begun_counted : (transport : Wiring) (service : Serving Asking Answer Answer) (settings : Settings) (peer : PeerAddress) (noted : Option (List Pair)) (listens : Bool) → IsCounted (view_begun transport service settings peer noted listens).traced.state []
+begun_counted transport service settings peer noted listens = fresh_counted settings

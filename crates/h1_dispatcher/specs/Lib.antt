@@ -12,3 +12,4 @@ pub mod Feeds
 pub mod Bounds
 pub mod Causes
 pub mod Memory
+pub mod Peers

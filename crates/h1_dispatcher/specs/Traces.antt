@@ -22,7 +22,7 @@ use Rattle.model_h1.specs.Sums as sums
 use Rattle.model_h1.specs.Sums.{taken, written}
 use Rattle.h1_traced.specs.Traced.{SaysNoted, TracedStands}
 use Rattle.h1_dispatcher.specs.View.{View, Asking}
-use Rattle.h1_dispatcher.specs.Steps.{Step, request_at, next, pulled, replied, sent, failed, failed_write, failed_read, failed_fed, failed_sent}
+use Rattle.h1_dispatcher.specs.Steps.{Step, asking_of, request_at, next, pulled, replied, sent, failed, failed_write, failed_read, failed_fed, failed_sent}
 
 -- memory didn't run out in this step
 abbrev pub IsNoted : Step → Type 0
@@ -97,7 +97,7 @@ pieces_of (pieces.Broken fault) = came_piece (pieces.Broken fault) ∷ []
 pieces_of pieces.Pending = []
 
 abbrev pub step_came : Step → List Came
-step_came (next head) = heads_of (request_at head)
+step_came (next peer head) = heads_of (request_at peer head)
 step_came (pulled given) = pieces_of given
 step_came step = []
 
@@ -105,9 +105,9 @@ abbrev pub came : List Step → List Came
 came [] = []
 came (d ∷ steps) = step_came d ++ came steps
 
--- the request is that of this head, the piece is this one
+-- the request is that of this head, beside the address that it has; the piece is this one
 abbrev pub HasHead : Asking → Head → Type 0
-HasHead asking h = (item : HeadItem) × SaysHead item h × (asking ≡ record { head = item.head; payload = None; own = tt })
+HasHead asking h = (item : HeadItem) × SaysHead item h × (asking ≡ asking_of asking.head.peer_addr item.head)
 
 abbrev pub IsCame : Came → on.Outcome → Type 0
 IsCame (came_request asking) out = (h : Head) × (out ≡ on.head h) × HasHead asking h

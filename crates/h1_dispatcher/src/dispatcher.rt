@@ -17,6 +17,7 @@ use http_services::h1::Payload;
 use http_transport::Transport;
 use http_types::{Request, Response, ServiceConfig};
 use std::alloc::Global;
+use std::net::SocketAddr;
 
 mod answer;
 mod begin;
@@ -108,7 +109,7 @@ impl<C, B: MessageBody> Work<C, B> {
 /// A service over a transport, by one connection of HTTP/1: each request goes to the service, and its answer is written.
 ///
 /// The parameters are the transport, the service and its call, the body of its answers, and who notes the steps of the
-/// connection. A piece of an answer's body is asked for once there is room for it. What comes of a request's body is fed to
+/// connection. Each request has the address of the peer. A piece of an answer's body is asked for once there is room for it. What comes of a request's body is fed to
 /// a queue that is lent to the service's call, as long as that wants more; what is left of the body is dropped when the
 /// request is answered.
 #[derive(Drop)]
@@ -116,6 +117,7 @@ pub struct Dispatcher<T, S, C, L, B = ()> {
     alloc: Global,
     traced: Traced<L>,
     transport: T,
+    peer: Option<SocketAddr>,
     service: S,
     queue: Payload,
     work: Work<C, B>,
@@ -135,15 +137,18 @@ where
     B: MessageBody,
     L: Recorder,
 {
-    /// A dispatcher of a connection to which nothing has come. It takes no memory.
+    /// A dispatcher of a connection to which nothing has come. Each request that the service is given has the address of this
+    /// peer, or none where it isn't known. It takes no memory.
     pub fn new(
         alloc: Global,
         transport: T,
         service: S,
         config: ServiceConfig,
+        peer: Option<SocketAddr>,
         recorder: L,
     ) -> Dispatcher<T, S, S::Call, L, B>
-        ensures view { view_of T.wiring S.served S.calling B.gives L.noted L.is_listening result ≡ view_begun (T.wiring transport) (told_service B.gives (S.served service)) config (L.noted recorder) (L.is_listening recorder) }
+        ensures view { view_of T.wiring S.served S.calling B.gives L.noted L.is_listening result ≡ view_begun (T.wiring transport) (told_service B.gives (S.served service)) config peer (L.noted recorder) (L.is_listening recorder) }
+        ensures transport { (parts_of result).0 ≡ transport }
         ensures stands { (L.noted recorder ≡ None) ⊎ (L.noted recorder ≡ Some []) → TracedStands (view_of T.wiring S.served S.calling B.gives L.noted L.is_listening result).traced [] }
         ensures open { MayBePolled S.calling result }
     {
@@ -151,6 +156,7 @@ where
             alloc,
             traced: Traced::new(alloc, config, recorder),
             transport,
+            peer,
             service,
             queue: Payload::create(alloc, true),
             work: Work::Free,
@@ -189,6 +195,13 @@ where
             → IsAhead (setting_of (view_of T.wiring S.served S.calling B.gives L.noted L.is_listening self.now).traced.state.settings) trace result }
     {
         self.traced.connection().ahead()
+    }
+
+    /// The address of the peer, where it is known.
+    pub fn peer_addr(&self) -> Option<SocketAddr>
+        ensures { result ≡ (view_of T.wiring S.served S.calling B.gives L.noted L.is_listening self.now).peer }
+    {
+        self.peer
     }
 
     /// The service.

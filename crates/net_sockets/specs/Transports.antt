@@ -2,6 +2,7 @@
 use Rattle.std.specs.Prelude.{◌≡◌, ◌<◌, ◌≤◌, ◌⊎◌, ℕ, Bool, true, false, None, List, length}
 use Rattle.futures.specs.declared.task.Poll.{Poll}
 use Rattle.futures.specs.declared.task.Poll.TheVariants.{Ready, Pending}
+use Rattle.http_transport.specs.Peer.{PeerAddress}
 use Rattle.http_transport.specs.Wiring.{Wiring}
 use Rattle.net_sockets.specs.declared.mio_transport.MioTransport.{MioTransport}
 use Rattle.net_sockets.specs.declared.mio_watch.MioWatch.{MioWatch}
@@ -20,6 +21,10 @@ mio_wiring w =
       flush_waits = 0;
       shut_waits = w.shuts;
     }
+
+-- who is on the other side, as it was told when the socket was accepted
+abbrev pub mio_peer : {R : Type 0} → MioTransport R → PeerAddress
+mio_peer w = w.peer
 
 abbrev pub mio_watching : {R : Type 0} → MioWatch R → Watching
 mio_watching w = record { faults = w.faults; given = w.given }

@@ -2,7 +2,7 @@
 ghost use Rattle.std.specs.Prelude.{◌≡◌, ◌≤◌, ◌<◌, true, false, length};
 ghost use Rattle.futures.specs.Poll.{OnPending};
 ghost use Rattle.futures.specs.Task.{IsArmed, Keeps};
-ghost use Rattle.net_sockets.specs.Transports.{mio_wiring, is_pending, Grew};
+ghost use Rattle.net_sockets.specs.Transports.{mio_wiring, mio_peer, is_pending, Grew};
 ghost use Rattle.http_transport.specs.Opening.{IsFresh};
 ghost use Rattle.http_transport.specs.Wiring.{ReadSays, WriteSays};
 
@@ -14,7 +14,7 @@ use http_config::Failed;
 use http_transport::Transport;
 use mio::net::TcpStream;
 use std::io::{Read, Write};
-use std::net::Shutdown;
+use std::net::{Shutdown, SocketAddr};
 use std::time;
 
 /// From so many bytes on a write isn't put off.
@@ -40,6 +40,7 @@ pub const ENOUGH: usize = 4096;
 pub struct MioTransport<R> {
     rt: R,
     stream: TcpStream,
+    peer: Option<SocketAddr>,
     linger: Linger,
     drain: Option<Drain>,
     events: Source,
@@ -60,16 +61,24 @@ pub struct MioTransport<R> {
 }
 
 impl<R: time::Clock> MioTransport<R> {
-    /// A transport over an accepted socket that doesn't wait, of which this tells whether it may be read, and whose shutdown has
-    /// these bounds.
-    pub(crate) fn new(rt: R, stream: TcpStream, input: Input, linger: Linger) -> MioTransport<R>
+    /// A transport over an accepted socket that doesn't wait, with the address of its peer, of which this tells whether it may
+    /// be read, and whose shutdown has these bounds.
+    pub(crate) fn new(
+        rt: R,
+        stream: TcpStream,
+        peer: Option<SocketAddr>,
+        input: Input,
+        linger: Linger,
+    ) -> MioTransport<R>
         ensures fresh { IsFresh (mio_wiring result) }
+        ensures peer { mio_peer result ≡ peer }
         ensures waits { result.waits ≡ false }
         ensures offered { result.offered ≡ 0 }
     {
         MioTransport {
             rt,
             stream,
+            peer,
             linger,
             drain: None,
             events: Source::new(),
@@ -102,6 +111,12 @@ impl<R: time::Clock> MioTransport<R> {
 
 impl<R: time::Clock + Drop> Transport for MioTransport<R> {
     ghost wiring = { mio_wiring };
+
+    ghost peer = { mio_peer };
+
+    fn peer_addr(&self) -> Option<SocketAddr> {
+        self.peer
+    }
 
     fn poll_read(&mut self, buf: &mut [u8], cx: &mut Context<'_>) -> Poll<Result<usize, Failed>>
         ensures says { ReadSays (mio_wiring self.old) (mio_wiring self.new) result buf.new }

@@ -15,7 +15,7 @@ use net_loop::{Happening, Watch};
 use std::alloc::{AllocError, AllocGlobal, Global};
 use std::collections::VecDeque;
 use std::io::{self, ErrorKind};
-use std::net::Net;
+use std::net::{Net, SocketAddr};
 use std::time::{self, Duration};
 
 /// The token of the listener.
@@ -122,17 +122,18 @@ where
         match next_stream(&self.listener) {
             Next::Later => Ok(None),
             Next::Failed => self.fail(),
-            Next::Stream(stream) => self.admit(stream, number),
+            Next::Stream(stream, peer) => self.admit(stream, peer, number),
         }
     }
 }
 
 impl<R: time::Clock + Copy> MioWatch<R> {
-    /// A transport over a new connection, whose readiness is told by this number. One of which it can't be told is lost, and one for
-    /// which there is no memory.
+    /// A transport over a new connection from this address, whose readiness is told by this number. One of which it can't be told
+    /// is lost, and one for which there is no memory.
     fn admit(
         &mut self,
         mut stream: TcpStream,
+        peer: SocketAddr,
         number: usize,
     ) -> Result<Option<MioTransport<R>>, Failed>
         ensures { Enters mio_wiring (mio_watching self.old) (mio_watching self.new) result }
@@ -146,7 +147,13 @@ impl<R: time::Clock + Copy> MioWatch<R> {
             return self.fail();
         }
         self.given = self.given.saturating_add(1);
-        Ok(Some(MioTransport::new(self.rt, stream, input, self.linger)))
+        Ok(Some(MioTransport::new(
+            self.rt,
+            stream,
+            Some(peer),
+            input,
+            self.linger,
+        )))
     }
 
     /// A failure, which is counted.
@@ -186,7 +193,7 @@ fn put_input(
 /// What a listener has.
 #[derive(Drop)]
 enum Next {
-    Stream(TcpStream),
+    Stream(TcpStream, SocketAddr),
 
     /// None is there.
     Later,
@@ -199,7 +206,7 @@ enum Next {
 fn next_stream(listener: &TcpListener) -> Next {
     for _ in 0..GONE {
         match listener.accept() {
-            Ok((stream, _)) => return Next::Stream(stream),
+            Ok((stream, peer)) => return Next::Stream(stream, peer),
             Err(error) => match error.kind() {
                 ErrorKind::WouldBlock => return Next::Later,
                 ErrorKind::ConnectionAborted

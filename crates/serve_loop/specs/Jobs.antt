@@ -6,31 +6,43 @@ use Rattle.http_config.specs.Config.{Settings}
 use Rattle.http_types.specs.declared.error.DispatchError.{DispatchError}
 use Rattle.http_services.specs.Serving.{Serving}
 use Rattle.http_transport.specs.Opening.{IsFresh}
+use Rattle.http_transport.specs.Peer.{PeerAddress}
 use Rattle.http_transport.specs.Wiring.{Wiring}
 use Rattle.h1_dispatcher.specs.Acts.{Act, polled, asked, ActsSay, AreOneRun}
+use Rattle.h1_dispatcher.specs.Order.{calls}
+use Rattle.h1_dispatcher.specs.Peers.{AreFrom}
 use Rattle.h1_dispatcher.specs.Polls.{PollSays}
+use Rattle.h1_dispatcher.specs.Steps.{Step, IsRun}
 use Rattle.h1_dispatcher.specs.View.{View, Asking, Answer, view_begun, with_drain}
 use Rattle.net_loop.specs.LoopRuns as jobs
 
--- a new dispatcher over a fresh transport
-pub record IsBegun (v : View) : Type 0 where
+-- a new dispatcher over a fresh transport, which told this address
+pub record IsBegun (v : View) (peer : PeerAddress) : Type 0 where
   pub transport : Wiring
   pub fresh : IsFresh transport
   pub service : Serving Asking Answer Answer
   pub settings : Settings
-  pub is : v ≡ view_begun transport service settings None false
+  pub is : v ≡ view_begun transport service settings peer None false
 
 -- Polls, and drains between them, have brought it there from such a one, and they are one run of steps.
 pub record HasServed (v : View) : Type 0 where
   pub first : View
-  pub new : IsBegun first
+  pub peer : PeerAddress
+  pub new : IsBegun first peer
   pub acts : List Act
   pub says : ActsSay first acts v
   pub run : AreOneRun first acts v
 
+-- Steps have brought it from there to here, and all requests with which the service was called in them have this address.
+pub record TellsPeerOf (peer : PeerAddress) (v w : View) : Type 0 where
+  pub steps : List Step
+  pub run : IsRun v steps w
+  pub called : AreFrom peer (calls steps)
+
 module _ {J : Type 0} (view : J → View) where
-  abbrev pub IsNew : J → Type 0
-  IsNew job = IsBegun (view job)
+  -- a new dispatcher, with the address that its transport tells
+  abbrev pub IsNew : (J → PeerAddress) → J → Type 0
+  IsNew peer job = IsBegun (view job) (peer job)
 
   -- a poll of the dispatcher
   abbrev pub Polls : J → ℕ → Context → Poll (Result Unit DispatchError) → J → Type 0

@@ -2,9 +2,9 @@
 ghost use Rattle.std.specs.Prelude.{None, false, ℕ, Result};
 ghost use Rattle.http_types.specs.declared.error.DispatchError.{DispatchError};
 ghost use Rattle.net_loop.specs.LoopRuns.{Lives, EndsBy};
-ghost use Rattle.h1_dispatcher.specs.View.{view_of, View, MayBePolled};
+ghost use Rattle.h1_dispatcher.specs.View.{view_of, parts_of, View, MayBePolled};
 ghost use Rattle.h1_dispatcher.specs.Causes.{HasCause};
-ghost use Rattle.serve_loop.specs.Jobs.{IsNew, Polls, Drains, HasServed};
+ghost use Rattle.serve_loop.specs.Jobs.{IsNew, Polls, Drains, HasServed, TellsPeerOf};
 ghost use Rattle.serve_loop.specs.declared.served.Served.{Served as Job};
 
 use http_bodies::MessageBody;
@@ -21,7 +21,20 @@ where
     S: Service<Request<(), ()>, Response = Response<B>, Error = Response<B>, Lent = Payload>,
     B: MessageBody,
     ensures { let view = λ (j : Job T S S.Call B). view_of T.wiring S.served S.calling B.gives (λ _. None) (λ _. false) j.dispatcher in
-        (job : Job T S S.Call B) → Lives (Polls view) (Drains view) (IsNew view) (λ j. MayBePolled S.calling j.dispatcher) job → HasServed (view job) }
+        let peer = λ (j : Job T S S.Call B). T.peer (parts_of j.dispatcher).0 in
+        (job : Job T S S.Call B) → Lives (Polls view) (Drains view) (IsNew view peer) (λ j. MayBePolled S.calling j.dispatcher) job → HasServed (view job) }
+{}
+
+/// All requests with which the service of a job that lives was called have the address that its transport told when it came.
+pub fn requests_have_the_peer<T, S, B>()
+where
+    T: Transport,
+    S: Service<Request<(), ()>, Response = Response<B>, Error = Response<B>, Lent = Payload>,
+    B: MessageBody,
+    ensures { let view = λ (j : Job T S S.Call B). view_of T.wiring S.served S.calling B.gives (λ _. None) (λ _. false) j.dispatcher in
+        let peer = λ (j : Job T S S.Call B). T.peer (parts_of j.dispatcher).0 in
+        (job : Job T S S.Call B) → Lives (Polls view) (Drains view) (IsNew view peer) (λ j. MayBePolled S.calling j.dispatcher) job
+        → (first : Job T S S.Call B) × IsNew view peer first × TellsPeerOf (peer first) (view first) (view job) }
 {}
 
 /// A job that has ended did so for one of the causes of `h1_dispatcher`.

@@ -21,7 +21,7 @@ mod maker;
 mod run;
 mod served;
 
-pub use laws::{ends_have_causes, jobs_are_served};
+pub use laws::{ends_have_causes, jobs_are_served, requests_have_the_peer};
 pub use maker::{Maker, Services};
 pub use run::{RunError, run_many};
 pub use served::Served;

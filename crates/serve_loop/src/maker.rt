@@ -1,4 +1,10 @@
 //! A job for each connection.
+ghost use Rattle.std.specs.Prelude.{None, false};
+ghost use Rattle.http_transport.specs.Opening.{IsFresh};
+ghost use Rattle.h1_dispatcher.specs.View.{view_of, parts_of, MayBePolled};
+ghost use Rattle.serve_loop.specs.Jobs.{IsNew};
+ghost use Rattle.serve_loop.specs.declared.served.Served.{Served as Job};
+
 use crate::served::Served;
 use h1_dispatcher::Dispatcher;
 use h1_traced::NoRecord;
@@ -16,7 +22,7 @@ pub trait Services<S>: Drop {
     fn service(&mut self) -> S;
 }
 
-/// Makes a job of each connection: a service over it, with these settings.
+/// Makes a job of each connection: a service over it, with these settings. Each request has the address that the transport tells.
 #[derive(Drop)]
 pub struct Maker<F> {
     alloc: Global,
@@ -43,9 +49,31 @@ where
     B: MessageBody,
 {
     fn job(&mut self, connection: T) -> Served<T, S, S::Call, B> {
-        let service = self.services.service();
-        Served {
-            dispatcher: Dispatcher::new(self.alloc, connection, service, self.config, NoRecord),
-        }
+        begin(
+            self.alloc,
+            connection,
+            self.services.service(),
+            self.config,
+        )
     }
+}
+
+/// A job of a fresh connection, with this service. Each request has the address that the connection tells.
+fn begin<T, S, B>(
+    alloc: Global,
+    connection: T,
+    service: S,
+    config: ServiceConfig,
+) -> Served<T, S, S::Call, B>
+where
+    T: Transport,
+    S: Service<Request<(), ()>, Response = Response<B>, Error = Response<B>, Lent = Payload>,
+    B: MessageBody,
+    requires { IsFresh (T.wiring connection) }
+    ensures begun { IsNew (λ (j : Job T S S.Call B). view_of T.wiring S.served S.calling B.gives (λ _. None) (λ _. false) j.dispatcher) (λ (j : Job T S S.Call B). T.peer (parts_of j.dispatcher).0) result }
+    ensures open { MayBePolled S.calling result.dispatcher }
+{
+    let peer = connection.peer_addr();
+    let dispatcher = Dispatcher::new(alloc, connection, service, config, peer, NoRecord);
+    Served { dispatcher }
 }

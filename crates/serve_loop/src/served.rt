@@ -1,6 +1,6 @@
 //! A service over a transport as a job.
 ghost use Rattle.std.specs.Prelude.{None, false};
-ghost use Rattle.h1_dispatcher.specs.View.{view_of, MayBePolled};
+ghost use Rattle.h1_dispatcher.specs.View.{view_of, parts_of, MayBePolled};
 ghost use Rattle.serve_loop.specs.Jobs.{IsNew, Polls, Drains};
 
 use futures::task::{Context, Poll};
@@ -27,7 +27,7 @@ where
 {
     type Output = Result<(), DispatchError>;
 
-    ghost begun = { IsNew (λ j. view_of T.wiring S.served S.calling B.gives (λ _. None) (λ _. false) j.dispatcher) };
+    ghost begun = { IsNew (λ j. view_of T.wiring S.served S.calling B.gives (λ _. None) (λ _. false) j.dispatcher) (λ j. T.peer (parts_of j.dispatcher).0) };
 
     ghost can_poll = { λ j. MayBePolled S.calling j.dispatcher };
 

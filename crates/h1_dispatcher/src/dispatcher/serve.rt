@@ -3,12 +3,12 @@ ghost use Rattle.std.specs.Prelude.{◌≡◌, ◌⊎◌, None, true, false};
 ghost use Rattle.futures.specs.Task.{IsArmed, Keeps};
 ghost use Rattle.model_h1.specs.Event as on;
 ghost use Rattle.h1_dispatcher.specs.View.{view_of, stage_of, is_busy, is_waiting, is_sending, MayBePolled, HasNoOutput, allows, allows_next, has_write_room, allows_answer, is_checked, is_held};
-ghost use Rattle.h1_dispatcher.specs.Steps.{is_bodyless};
+ghost use Rattle.h1_dispatcher.specs.Steps.{is_bodyless, asking_of};
 ghost use Rattle.h1_dispatcher.specs.Polls.{OnIdle, ServeSays, EndSays};
 
 use crate::dispatcher::{Dispatcher, DispatcherTurn, Ending, Work};
 use futures::task::{Context, Poll};
-use h1_connection::{BodyKind, NextHead};
+use h1_connection::{BodyKind, NextHead, RequestHead};
 use h1_traced::Recorder;
 use http_bodies::MessageBody;
 use http_services::Service;
@@ -16,6 +16,7 @@ use http_services::h1::Payload;
 use http_transport::Transport;
 use http_types::{DispatchError, Request, Response};
 use std::mem;
+use std::net::SocketAddr;
 
 impl<T, S, L, B> Dispatcher<T, S, S::Call, L, B>
 where
@@ -151,7 +152,7 @@ where
             Ok(NextHead::Head(item)) => {
                 let has_ended = is_bodyless(item.body);
                 self.queue = Payload::create(self.alloc, has_ended);
-                self.work = Work::Waiting(Request::new(item.head, ()));
+                self.work = Work::Waiting(request_from(item.head, self.peer));
                 self.is_holding = self.upgrades;
                 self.is_checking = self.expects;
                 DispatcherTurn::Counted
@@ -198,6 +199,15 @@ where
             }
         }
     }
+}
+
+/// The request of this head, from this address.
+fn request_from(head: RequestHead, peer: Option<SocketAddr>) -> Request<(), ()>
+    ensures { result ≡ asking_of peer head }
+{
+    let mut head = head;
+    head.peer_addr = peer;
+    Request::new(head, ())
 }
 
 /// Whether no body follows the head.

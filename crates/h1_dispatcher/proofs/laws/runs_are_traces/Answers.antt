@@ -5,7 +5,7 @@ pub returns-clause-runs : goal.returns-clause-runs
 returns-clause-runs c = λ v w steps noted is. run_follows v w steps noted is
 
 pub returns-clause-marks : goal.returns-clause-marks
-returns-clause-marks c = λ transport service settings noted listens. begun_marked transport service settings noted listens
+returns-clause-marks c = λ transport service settings peer noted listens. begun_marked transport service settings peer noted listens
 
 pub returns-clause-ahead : goal.returns-clause-ahead
-returns-clause-ahead c = λ transport service settings noted listens. begun_counted transport service settings noted listens
+returns-clause-ahead c = λ transport service settings peer noted listens. begun_counted transport service settings peer noted listens
