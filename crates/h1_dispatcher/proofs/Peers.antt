@@ -130,8 +130,8 @@ step_tells peer v w (refused limit error) from waits is = stays peer v w from wa
 -- ---- a run
 
 from_on : (peer : PeerAddress) (xs ys : List Asking) → AreFrom peer xs → AreFrom peer ys → AreFrom peer (xs ++ ys)
-from_on peer [] ys first then = then
-from_on peer (x ∷ xs) ys first then = (first.0, from_on peer xs ys first.1 then)
+from_on peer [] ys first more = more
+from_on peer (x ∷ xs) ys first more = (first.0, from_on peer xs ys first.1 more)
 
 tells_from : (peer : PeerAddress) (v w : View) (steps : List Step) → v.peer ≡ peer → AreFrom peer (waits_in v.stage) → IsRun v steps w → Told peer (requests steps) (calls steps) w
 tells_from peer v w [] from waits is = stays peer v w from waits (ap (λ (x : View). x.peer) is) (ap (λ (x : View). x.stage) is)
