@@ -157,7 +157,9 @@ impl MessageBody for String {
 }
 
 impl MessageBody for CowSlice<'static, u8> {
-    ghost use Rattle.std.specs.Prelude.{Some};
+    ghost use Rattle.std.specs.Prelude.{◌⊎◌, [], true, Some, None, OnErr};
+    ghost use Rattle.std.specs.Cow.{IsOwnedSlice};
+    ghost use Rattle.http_bodies.specs.Whole.{AreAll, whole};
 
     ghost gives = { λ bytes. holds_owned (cow_slice_items bytes) };
 
@@ -189,7 +191,14 @@ impl MessageBody for CowSlice<'static, u8> {
         }
     }
 
-    fn try_into_bytes(self, _alloc: Global) -> Result<Bytes, CowSlice<'static, u8>> {
+    fn try_into_bytes(self, _alloc: Global) -> Result<Bytes, CowSlice<'static, u8>>
+        ensures given { IfOk result (λ bytes. Some (cow_slice_items self) ≡ Some bytes) }
+        ensures all { IfOk result (λ bytes. AreAll (whole [] (holds_owned (cow_slice_items self)).coming) bytes) }
+        ensures same { IfErr result (λ body. holds_owned (cow_slice_items body) ≡ holds_owned (cow_slice_items self)) }
+        ensures same_hand { IfErr result (λ body. Some (cow_slice_items body) ≡ Some (cow_slice_items self)) }
+        ensures owned { OnErr result (IsOwnedSlice self) }
+        ensures cause { OnErr result ((Some (cow_slice_items self) ≡ None) ⊎ ((holds_owned (cow_slice_items self)).takes_memory ≡ true)) }
+    {
         match self {
             CowSlice::Borrowed(bytes) => Ok(Bytes::from_static(bytes)),
             CowSlice::Owned(vec) => match share_vec(vec) {
@@ -201,7 +210,9 @@ impl MessageBody for CowSlice<'static, u8> {
 }
 
 impl MessageBody for CowStr<'static> {
-    ghost use Rattle.std.specs.Prelude.{Some};
+    ghost use Rattle.std.specs.Prelude.{◌⊎◌, [], true, Some, None, OnErr};
+    ghost use Rattle.std.specs.Cow.{IsOwnedStr};
+    ghost use Rattle.http_bodies.specs.Whole.{AreAll, whole};
 
     ghost gives = { λ text. holds_owned (cow_str_bytes text) };
 
@@ -233,7 +244,14 @@ impl MessageBody for CowStr<'static> {
         }
     }
 
-    fn try_into_bytes(self, _alloc: Global) -> Result<Bytes, CowStr<'static>> {
+    fn try_into_bytes(self, _alloc: Global) -> Result<Bytes, CowStr<'static>>
+        ensures given { IfOk result (λ bytes. Some (cow_str_bytes self) ≡ Some bytes) }
+        ensures all { IfOk result (λ bytes. AreAll (whole [] (holds_owned (cow_str_bytes self)).coming) bytes) }
+        ensures same { IfErr result (λ body. holds_owned (cow_str_bytes body) ≡ holds_owned (cow_str_bytes self)) }
+        ensures same_hand { IfErr result (λ body. Some (cow_str_bytes body) ≡ Some (cow_str_bytes self)) }
+        ensures owned { OnErr result (IsOwnedStr self) }
+        ensures cause { OnErr result ((Some (cow_str_bytes self) ≡ None) ⊎ ((holds_owned (cow_str_bytes self)).takes_memory ≡ true)) }
+    {
         match self {
             CowStr::Borrowed(text) => Ok(Bytes::from_static(text.as_bytes())),
             CowStr::Owned(text) => match share_text(text) {
