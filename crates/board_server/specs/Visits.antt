@@ -24,7 +24,7 @@ pub record WasServed (settings : Settings) (polls : ℕ) (may_give : ℕ → Boo
   pub recorded : Option (List Pair)
   pub listens : Bool
   pub served : HasServed (begun_view was peer number settings recorded listens) polls may_give now noted pass end
-  pub told : IsTold settings was now noted pass end
+  pub told : IsTold settings was now peer noted pass end
 
 -- a count after so many more
 abbrev pub counted_on : ℕ → ℕ → ℕ

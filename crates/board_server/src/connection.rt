@@ -68,7 +68,7 @@ where
     requires is_new { pass.entries ≡ [] }
     requires some { 0 < polls }
     ensures served { HasServed (begun_view (W.wiring transport) (W.peer transport) pass.number config (L.noted recorder) (L.is_listening recorder)) polls (K.may_give clock) (W.wiring result.transport) (L.noted result.recorder) result.pass.pass result.end }
-    ensures told { (L.noted recorder ≡ None) ⊎ (L.noted recorder ≡ Some []) → IsTold config (W.wiring transport) (W.wiring result.transport) (L.noted result.recorder) result.pass.pass result.end }
+    ensures told { (L.noted recorder ≡ None) ⊎ (L.noted recorder ≡ Some []) → IsTold config (W.wiring transport) (W.wiring result.transport) (W.peer transport) (L.noted result.recorder) result.pass.pass result.end }
 {
     poll_service(
         rt, config, transport, clock, shared, pass, gate, conn, polls, recorder,

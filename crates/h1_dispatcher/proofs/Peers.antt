@@ -129,7 +129,7 @@ step_tells peer v w (refused limit error) from waits is = stays peer v w from wa
 
 -- ---- a run
 
-from_on : (peer : PeerAddress) (xs ys : List Asking) → AreFrom peer xs → AreFrom peer ys → AreFrom peer (xs ++ ys)
+pub from_on : (peer : PeerAddress) (xs ys : List Asking) → AreFrom peer xs → AreFrom peer ys → AreFrom peer (xs ++ ys)
 from_on peer [] ys first more = more
 from_on peer (x ∷ xs) ys first more = (first.0, from_on peer xs ys first.1 more)
 
