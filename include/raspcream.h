@@ -128,7 +128,7 @@ typedef enum {
 /* The numbers of rc_state. */
 typedef struct {
     uint32_t can;       /* what may come next: RC_CAN_ bits */
-    uint32_t waiting;   /* of a server: heads that were read ahead, 16 at most; of a client: requests without an answer */
+    uint32_t waiting;   /* of a server: heads that stand ahead, 16 at most; of a client: requests without an answer */
     uint64_t buffered;  /* how many bytes wait to be written */
     uint64_t write_room; /* while it is above 0 another piece of a body may be handed in */
     uint64_t held;      /* how many bytes came and were not passed */

@@ -1,5 +1,5 @@
 //! A dispatcher, and what it keeps.
-ghost use Rattle.std.specs.Prelude.{◌≡◌, ◌≤◌, ◌⊎◌, None, Some, []};
+ghost use Rattle.std.specs.Prelude.{◌≡◌, ◌≤◌, ◌⊎◌, None, Some, [], IfOk, IsOk};
 ghost use Rattle.model_state.specs.Deadline.{deadline_by};
 ghost use Rattle.h1_connection.specs.EventMeaning.{setting_of};
 ghost use Rattle.h1_traced.specs.Traced.{TracedStands};
@@ -12,7 +12,7 @@ use http_bodies::MessageBody;
 use http_services::Service;
 use http_services::h1::Payload;
 use http_transport::Transport;
-use http_types::{Request, Response, ServiceConfig};
+use http_types::{NoMemory, Request, Response, ServiceConfig};
 use std::alloc::Global;
 
 mod answer;
@@ -177,11 +177,12 @@ where
         self.traced.connection().deadline()
     }
 
-    /// How many heads were read ahead of the request that was handed out last: at most 16. They count among the bytes that
-    /// are held.
-    pub fn ahead(&self) -> usize
-        ensures value { result ≡ (view_of T.wiring S.served S.calling B.gives L.noted self.now).traced.state.ahead }
-        ensures most { result ≤ 16 }
+    /// How many heads stand ahead of the request that was handed out last: at most 16. They count among the bytes that are
+    /// held. None of them was read yet, so that it takes memory where there is one.
+    pub fn ahead(&self) -> Result<usize, NoMemory>
+        ensures value { IfOk result (λ count. count ≡ (view_of T.wiring S.served S.calling B.gives L.noted self.now).traced.state.ahead) }
+        ensures most { IfOk result (λ count. count ≤ 16) }
+        ensures no_memory_needed { (view_of T.wiring S.served S.calling B.gives L.noted self.now).traced.state.ahead ≡ 0 → IsOk result }
     {
         self.traced.connection().ahead()
     }
