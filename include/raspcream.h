@@ -312,7 +312,7 @@ static inline rc_code rc_send(rc_conn *c, unsigned opcode, unsigned close_code, 
 
 /* ---- questions, which change nothing */
 
-/* What may come next, and the numbers of the connection: RC_STATE. */
+/* What may come next, and the numbers of the connection: RC_STATE. A server's side reads the heads that stand ahead for it. */
 static inline rc_code rc_state(rc_conn *c, rc_event *e) { return rc_call_(c, 17, 0, NULL, 0, e); }
 
 #ifdef __cplusplus

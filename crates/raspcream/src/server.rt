@@ -345,7 +345,7 @@ impl Server {
         Ok(())
     }
 
-    /// What may come next, why it ends, and its numbers.
+    /// What may come next, why it ends, and its numbers. The heads that stand ahead are read for it, which may want memory.
     pub fn state(&self, out: &mut Reply) -> Result<(), Failure> {
         let it = &self.connection;
         let Ok(waiting) = it.ahead() else {
