@@ -1,12 +1,9 @@
 -- A head that was parsed and cut off where no byte was searched.
 use Rattle.std.proofs.Math.Seq.{take-append_seam}
-use Rattle.std.proofs.lemmas.Bool.{false≢true}
 use Rattle.std.proofs.lemmas.Slice.{between_is}
-use Rattle.std.proofs.Common.{◌≡◌, ◌≢◌, ℕ, false, true, List, [], ◌++◌, length, take, Some, inl, inr, refl, sym, ap, ◌∙◌, subst}
+use Rattle.std.proofs.Common.{◌≡◌, ℕ, List, [], ◌++◌, length, take, Some, inl, inr, refl, sym, ap, ◌∙◌, subst}
 use Rattle.std.specs.Prelude.{slice_range, ◌⊎◌}
 use Rattle.model_h1.specs.HeadPiece.{IsHeadPiece}
-use Rattle.h1_decoder.specs.declared.decoder.FrontHead.{FrontHead}
-use Rattle.h1_decoder.specs.declared.decoder.FrontHead.TheVariants.{Missing, Read, Left}
 use Rattle.h1_decoder.specs.declared.scan.HeadScan.{HeadScan}
 use Rattle.h1_decoder.specs.declared.scan.HeadScan.TheVariants.{Piece}
 use Rattle.h1_connection.specs.Scan.{scan_of}
@@ -35,12 +32,6 @@ found_head front rest bytes all here =
     sym (between_is bytes 0 (length front) ∙ ap (take (length front)) (sym all) ∙ take-append_seam front rest) in
     subst (λ (p : HeadScan). IsHeadIn (due_in bytes) (Some p) (Some front)) (sym (found_piece bytes (length front) here))
     (here, ap (λ (l : List ℕ). Some l) cut)
-
--- where one is there, and none may be left, it was read
-pub read_at : (found : FrontHead) → found ≢ Missing → (found ≡ Left → false ≡ true) → found ≡ Read
-read_at Missing there left = absurd (there refl)
-read_at Read there left = refl
-read_at Left there left = absurd (false≢true (left refl))
 
 -- ---- what is kept behind it
 

@@ -28,7 +28,7 @@ use crate::connection::filling::{make_room, read_behind};
 use crate::connection::reading::Frames;
 use bytes::{Bytes, BytesMut};
 use h1_decoder::{
-    FrontHead, HeadItem, HeadRoom, HeadScan, HeadScanner, cut_head_into, read_head_into, scan_head,
+    HeadItem, HeadRoom, HeadScan, HeadScanner, cut_head_into, read_head_into, scan_head,
 };
 use h1_payload::{Pulled, Rest};
 use http_types::{NoMemory, ParseError, Source};
@@ -398,17 +398,15 @@ fn read_due(
     ensures whole { OnErr result (IsWhole (due_in bytes.old.items)) }
     ensures err { OnErr result (item.new ≡ without_headers item.old) }
 {
-    match cut_head_into(alloc, item, room, bytes, head_bytes, false) {
-        Ok(found) => match found {
-            FrontHead::Missing => {
-                *search = searched(HeadScanner::new(), bytes.as_slice());
-                read_found(alloc, item, room, head_bytes, bytes, search)
-            }
-            _ => {
-                note_cut(head_bytes, search);
-                Ok(true)
-            }
-        },
+    match cut_head_into(alloc, item, room, bytes, head_bytes) {
+        Ok(true) => {
+            note_cut(head_bytes, search);
+            Ok(true)
+        }
+        Ok(false) => {
+            *search = searched(HeadScanner::new(), bytes.as_slice());
+            read_found(alloc, item, room, head_bytes, bytes, search)
+        }
         Err(error) => {
             note_cut(head_bytes, search);
             Err(error)
