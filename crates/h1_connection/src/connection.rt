@@ -398,12 +398,13 @@ impl Connection {
         self.parts.fail_answer(&self.config)
     }
 
-    /// The bytes that a socket may be given next: the first of those that wait to be written, and none only where none
-    /// waits. `advance` says how many of them were written.
+    /// The bytes that a socket may be given next: the first of those that wait to be written, as many as lie together, and
+    /// no fewer than `front` gives. They are none only where none waits. `advance` says how many of them were written.
     pub fn stretch(&self) -> &[u8]
         ensures first { (rest : List ℕ) × (result.now ++ rest ≡ self.now.kept.buffered) }
         ensures fits { length result.now ≤ length self.now.kept.buffered }
         ensures some { length result.now ≡ 0 → length self.now.kept.buffered ≡ 0 }
+        ensures segment { length (first_segment self.now.marks self.now.kept.buffered) ≤ length result.now }
     {
         self.parts.output.stretch()
     }
