@@ -154,9 +154,8 @@ impl Connection {
         self.parts.input.bytes_from(start)
     }
 
-    /// How many heads stand ahead of the one that was handed out last: at most 16. They are handed out by the next calls,
-    /// and count among the bytes that are held. None of them was read yet, so that each is read here, into memory of its
-    /// own: `NoMemory` comes where there is too little, and never where none stands ahead.
+    /// How many heads stand ahead of the one that was handed out last, at most 16, among the bytes that are held. Each is read
+    /// for it, into memory of its own: so `NoMemory` may come, but not where none stands ahead.
     pub fn ahead(&self) -> Result<usize, NoMemory>
         ensures value { IfOk result (λ count. count ≡ self.now.ahead) }
         ensures most { IfOk result (λ count. count ≤ 16) }
