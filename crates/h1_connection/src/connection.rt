@@ -142,9 +142,8 @@ impl Connection {
         self.parts.input.len()
     }
 
-    /// The bytes of the input that are held, from place `start` on, as many as lie together: who goes on behind the last of
-    /// them sees all. They lie together while something is left to do for the last request: so what came behind a request
-    /// that hands the connection over, by an upgrade or CONNECT, is one piece.
+    /// The bytes of the input that are held, from place `start` on, as many as lie together: who goes on behind them sees all.
+    /// They lie together while something is left to do for the last request, as behind an upgrade or CONNECT.
     pub fn held_bytes(&self, start: usize) -> &[u8]
         ensures first { (rest : List ℕ) × (result.now ++ rest ≡ drop start self.now.kept.unread) }
         ensures some { start < length self.now.kept.unread → 0 < length result.now }
