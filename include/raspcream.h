@@ -128,7 +128,7 @@ typedef enum {
 /* The numbers of rc_state. */
 typedef struct {
     uint32_t can;       /* what may come next: RC_CAN_ bits */
-    uint32_t waiting;   /* of a server: heads that were read ahead, 16 at most; of a client: requests without an answer */
+    uint32_t waiting;   /* of a server: heads that stand ahead, 16 at most; of a client: requests without an answer */
     uint64_t buffered;  /* how many bytes wait to be written */
     uint64_t write_room; /* while it is above 0 another piece of a body may be handed in */
     uint64_t held;      /* how many bytes came and were not passed */
@@ -312,7 +312,7 @@ static inline rc_code rc_send(rc_conn *c, unsigned opcode, unsigned close_code, 
 
 /* ---- questions, which change nothing */
 
-/* What may come next, and the numbers of the connection: RC_STATE. */
+/* What may come next, and the numbers of the connection: RC_STATE. A server's side reads the heads that stand ahead for it. */
 static inline rc_code rc_state(rc_conn *c, rc_event *e) { return rc_call_(c, 17, 0, NULL, 0, e); }
 
 #ifdef __cplusplus

@@ -240,7 +240,7 @@ static bool client(rc_event *e) {
     return true;
 }
 
-/* Requests that were read ahead don't lie together with what came behind them. */
+/* Requests that stand ahead are held, and counted. */
 static bool held(rc_event *e) {
     rc_conn *c;
     text *all = calloc(1, sizeof *all);

@@ -1,5 +1,5 @@
 //! A dispatcher, and what it keeps.
-ghost use Rattle.std.specs.Prelude.{◌≡◌, ◌≤◌, ◌⊎◌, None, Some, List, []};
+ghost use Rattle.std.specs.Prelude.{◌≡◌, ◌≤◌, ◌⊎◌, None, Some, List, [], IfOk, IsOk};
 ghost use Rattle.model_h1.specs.Sums as sums;
 ghost use Rattle.model_state.specs.Ahead.{IsAhead};
 ghost use Rattle.model_state.specs.Deadline.{deadline_by};
@@ -15,7 +15,7 @@ use http_bodies::MessageBody;
 use http_services::Service;
 use http_services::h1::Payload;
 use http_transport::Transport;
-use http_types::{Request, Response, ServiceConfig};
+use http_types::{NoMemory, Request, Response, ServiceConfig};
 use std::alloc::Global;
 use std::net::SocketAddr;
 
@@ -186,13 +186,14 @@ where
         self.traced.connection().deadline()
     }
 
-    /// How many heads were read ahead of the request that was handed out last: at most 16. They count among the bytes that
-    /// are held.
-    pub fn ahead(&self) -> usize
-        ensures value { result ≡ (view_of T.wiring S.served S.calling B.gives L.noted L.is_listening self.now).traced.state.ahead }
-        ensures most { result ≤ 16 }
-        ensures traced { (trace : List sums.Step) → IsCounted (view_of T.wiring S.served S.calling B.gives L.noted L.is_listening self.now).traced.state trace
-            → IsAhead (setting_of (view_of T.wiring S.served S.calling B.gives L.noted L.is_listening self.now).traced.state.settings) trace result }
+    /// How many heads stand ahead of the request that was handed out last: at most 16. They count among the bytes that are
+    /// held. None of them was read yet, so that it takes memory where there is one.
+    pub fn ahead(&self) -> Result<usize, NoMemory>
+        ensures value { IfOk result (λ count. count ≡ (view_of T.wiring S.served S.calling B.gives L.noted L.is_listening self.now).traced.state.ahead) }
+        ensures most { IfOk result (λ count. count ≤ 16) }
+        ensures traced { IfOk result (λ count. (trace : List sums.Step) → IsCounted (view_of T.wiring S.served S.calling B.gives L.noted L.is_listening self.now).traced.state trace
+            → IsAhead (setting_of (view_of T.wiring S.served S.calling B.gives L.noted L.is_listening self.now).traced.state.settings) trace count) }
+        ensures no_memory_needed { (view_of T.wiring S.served S.calling B.gives L.noted L.is_listening self.now).traced.state.ahead ≡ 0 → IsOk result }
     {
         self.traced.connection().ahead()
     }

@@ -35,7 +35,7 @@ pub struct Numbers {
     /// What may come next, a bit for each call.
     pub can: u32,
 
-    /// How many heads were read ahead, or how many requests wait for their answers.
+    /// How many heads stand ahead, or how many requests wait for their answers.
     pub waiting: u32,
 
     /// How many bytes wait to be written, and how many more there is room for.

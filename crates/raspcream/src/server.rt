@@ -345,9 +345,12 @@ impl Server {
         Ok(())
     }
 
-    /// What may come next, why it ends, and its numbers.
+    /// What may come next, why it ends, and its numbers. The heads that stand ahead are read for it, which may want memory.
     pub fn state(&self, out: &mut Reply) -> Result<(), Failure> {
         let it = &self.connection;
+        let Ok(waiting) = it.ahead() else {
+            return Err(Failure::NoMemory);
+        };
         out.kind = STATE;
         out.reason = match it.closing() {
             Some(end) => end_number(end),
@@ -355,7 +358,7 @@ impl Server {
         };
         out.state = Numbers {
             can: calls_of(it),
-            waiting: it.ahead() as u32,
+            waiting: waiting as u32,
             buffered: it.buffered() as u64,
             write_room: it.write_room() as u64,
             held: it.held() as u64,

@@ -7,5 +7,5 @@ use Rattle.h1_connection.proofs.connection.input.read_behind_blank_lines.Goals a
 
 pub returns-clause-fault : goal.returns-clause-fault
 returns-clause-fault c =
-    subst (λ (head : List ℕ). IfErr c.read_lone_head_into.result (λ e. UnlessNoMemory e (IsReading head (faulty (fault_of e)))))
-    (c.in-Ok.ensures.ok ∙ ap (λ (n : ℕ). slice_range c.args.bytes.now c.args.start n) c.len.ensures.value) c.read_lone_head_into.ensures.fault
+    subst (λ (head : List ℕ). IfErr c.read_head_into.result (λ e. UnlessNoMemory e (IsReading head (faulty (fault_of e)))))
+    (c.in-Ok.ensures.ok ∙ ap (λ (n : ℕ). slice_range c.args.bytes.now c.args.start n) c.len.ensures.value) c.read_head_into.ensures.fault

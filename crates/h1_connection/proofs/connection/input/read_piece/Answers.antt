@@ -8,5 +8,5 @@ use Rattle.h1_connection.proofs.connection.input.read_piece.Goals as goal
 
 pub returns-clause-fault : goal.returns-clause-fault
 returns-clause-fault c =
-    subst (λ (head : List ℕ). IfErr c.read_lone_head_into.result (λ e. UnlessNoMemory e (IsReading head (faulty (fault_of e)))))
-    (from_start c.args.bytes.now c.args.start c.if-start-gt0.false) c.read_lone_head_into.ensures.fault
+    subst (λ (head : List ℕ). IfErr c.read_head_into.result (λ e. UnlessNoMemory e (IsReading head (faulty (fault_of e)))))
+    (from_start c.args.bytes.now c.args.start c.if-start-gt0.false) c.read_head_into.ensures.fault
