@@ -2,6 +2,7 @@ pub mod Runs
 pub mod Waits
 pub mod Serve
 pub mod Send
+pub mod First
 pub mod Turns
 pub mod Order
 pub mod ReadsAll

@@ -1,5 +1,5 @@
 -- What a poll of a dispatcher answers.
-use Rattle.std.specs.Prelude.{◌≡◌, ◌≤◌, ◌⊎◌, ◌++◌, ◌∷◌, ℕ, Bool, true, false, Option, Some, None, IsSome, List, [], length, ⊤, Result, Ok, Err}
+use Rattle.std.specs.Prelude.{◌≡◌, ◌≤◌, ◌+◌, ◌*◌, ◌⊎◌, ◌++◌, ◌∷◌, ℕ, Bool, true, false, Option, Some, None, IsSome, List, [], length, ⊤, Result, Ok, Err}
 use Rattle.std.specs.List.{AllByRecursion}
 use Rattle.futures.specs.declared.task.Poll.{Poll}
 use Rattle.futures.specs.declared.task.Poll.TheVariants.{Ready, Pending}
@@ -12,7 +12,7 @@ use Rattle.http_transport.specs.declared.framed.error.FramedError.{FramedError}
 use Rattle.http_transport.specs.declared.framed.error.FramedError.TheVariants as framed
 use Rattle.ws_frames.specs.declared.error.ProtocolError.{ProtocolError}
 use Rattle.ws_frames.specs.declared.error.ProtocolError.TheVariants as protocol
-use Rattle.ws_dispatcher.specs.View.{View, IsSent}
+use Rattle.ws_dispatcher.specs.View.{View, IsSent, IsSettled}
 use Rattle.ws_dispatcher.specs.Steps.{Step, Reading, IsRun, read, ready, called, answered, wrote, unwritten, closed, failed, flushed, told}
 use Rattle.ws_dispatcher.specs.declared.error.DispatcherError.{DispatcherError}
 use Rattle.ws_dispatcher.specs.declared.error.DispatcherError.TheVariants.{Service, Encoder, Decoder}
@@ -64,6 +64,64 @@ AllContinue steps = AllByRecursion Continues steps
 abbrev pub EndsWith : {Q I E : Type 0} → List (Step Q I E) → List (Step Q I E) → Type 0
 EndsWith {Q} {I} {E} steps last = (before : List (Step Q I E)) × (steps ≡ before ++ last) × AllContinue before
 
+-- ---- progress: a step by which something moved, or that gave an answer
+
+abbrev pub moves : {A : Type 0} → Poll A → ℕ
+moves (Ready x) = 1
+moves Pending = 0
+
+-- a flush that is pending moved something where the transport took some bytes
+abbrev pub gives : Poll (Result Unit Failed) → List ℕ → ℕ
+gives (Ready x) gave = 1
+gives Pending [] = 0
+gives Pending (b ∷ gave) = 1
+
+abbrev pub counts : {Q I E : Type 0} → Step Q I E → ℕ
+counts (read came answer) = moves answer
+counts (ready answer) = moves answer
+counts (called item) = 1
+counts (answered answer) = moves answer
+counts (wrote message text) = 1
+counts (unwritten message error) = 0
+counts closed = 1
+counts (failed error) = 1
+counts (flushed gave answer) = gives answer gave
+counts (told error) = 0
+
+abbrev pub progress : {Q I E : Type 0} → List (Step Q I E) → ℕ
+progress [] = 0
+progress (step ∷ steps) = counts step + progress steps
+
+-- a poll has few steps: no more than 128, and of those that aren't progress no more than of those that are, and two
+pub record AreFew {Q I E : Type 0} (steps : List (Step Q I E)) : Type 0 where
+  pub most : length steps ≤ 2 * 64
+  pub busy : length steps ≤ 2 * progress steps + 2
+
+-- ---- what was written before goes out first
+
+-- something was taken from the queue
+abbrev pub IsTaking : {Q I E : Type 0} → Step Q I E → Type 0
+IsTaking (read came answer) = ⊥
+IsTaking (ready answer) = ⊥
+IsTaking (called item) = ⊥
+IsTaking (answered answer) = ⊥
+IsTaking (wrote message text) = ⊤
+IsTaking (unwritten message error) = ⊥
+IsTaking closed = ⊤
+IsTaking (failed error) = ⊤
+IsTaking (flushed gave answer) = ⊥
+IsTaking (told error) = ⊥
+
+-- All was sent before these steps; or they only take what is queued; or, but for that, a flush is the first of them.
+abbrev pub SendsFirst : {U Q I E : Type 0} → View U Q I E → List (Step Q I E) → Type 0
+SendsFirst {U} {Q} {I} {E} v steps =
+    IsSent v
+    ⊎ (AllByRecursion IsTaking steps
+    ⊎ ((taken : List (Step Q I E)) × (gave : List ℕ) × (answer : Poll (Result Unit Failed)) × (rest : List (Step Q I E))
+    × (steps ≡ taken ++ flushed gave answer ∷ rest) × AllByRecursion IsTaking taken))
+
+-- ---- waiting
+
 -- what stays of it that the task asked for another poll
 abbrev pub AskedAgain : Context → Type 0
 AskedAgain cx = (source : ℕ) → Hears cx source
@@ -93,7 +151,7 @@ pub record IsStuckOpen {U Q I E : Type 0} (v w : View U Q I E) (cx : Context) (s
   pub need : List (Step Q I E)
   pub last : EndsWith steps (flush ++ need)
   pub writing : ((flush ≡ []) × IsSent w) ⊎ ((gave : List ℕ) × (flush ≡ flushed gave Pending ∷ []) × FlushWaits v w cx gave)
-  pub queue : (w.queue ≡ []) ⊎ (8192 ≤ length w.unsent)
+  pub queue : IsSettled w
   pub needs : NeedsOf w.calling w.waiting w.ended v w cx need
 
 -- a Close was taken, or an error is to be reported
@@ -141,18 +199,18 @@ Ended {U} {Q} {I} {E} v w steps (Err (Encoder e)) =
 Ended {U} {Q} {I} {E} v w steps (Err (Decoder e)) =
     (came : List ℕ) × (cause : FramedError ProtocolError) × EndsWith steps (read came (Ready (Some (Err cause))) ∷ []) × (e ≡ read_error cause)
 
--- what a turn answers
+-- what a turn answers, of at most two steps
 abbrev pub TurnAnswers : {U Q I E : Type 0} → View U Q I E → View U Q I E → Context → List (Step Q I E) → Turn E → Type 0
-TurnAnswers v w cx steps Counted = AllContinue steps × (1 ≤ length steps)
-TurnAnswers v w cx steps Idle = AllContinue steps × IsStuck v w cx steps
-TurnAnswers v w cx steps (Over result) = Ended v w steps result
+TurnAnswers v w cx steps Counted = AllContinue steps × (1 ≤ progress steps) × (length steps ≤ 2) × SendsFirst v steps
+TurnAnswers v w cx steps Idle = AllContinue steps × IsStuck v w cx steps × (length steps ≤ 2)
+TurnAnswers v w cx steps (Over result) = Ended v w steps result × (length steps ≤ 2)
 
--- the same of a turn that leaves the writing as it is
+-- the same of a turn that leaves the writing as it is, of at most one step
 abbrev pub ServeAnswers : {U Q I E : Type 0} → View U Q I E → View U Q I E → Context → List (Step Q I E) → Turn E → Type 0
-ServeAnswers v w cx steps Counted = AllContinue steps × (1 ≤ length steps)
+ServeAnswers v w cx steps Counted = AllContinue steps × (1 ≤ progress steps) × (length steps ≤ 1)
 ServeAnswers v w cx steps Idle = AllContinue steps × NeedsOf w.calling w.waiting w.ended v w cx steps × (w.queue ≡ v.queue) × (w.unsent ≡ v.unsent)
-    × (w.flushing ≡ v.flushing)
-ServeAnswers v w cx steps (Over result) = Ended v w steps result
+    × (w.flushing ≡ v.flushing) × (length steps ≤ 1)
+ServeAnswers v w cx steps (Over result) = Ended v w steps result × (length steps ≤ 1)
 
 -- this holds where nothing more can be done
 abbrev pub OnIdle : {E : Type 0} → Turn E → Type 0 → Type 0
@@ -160,14 +218,12 @@ OnIdle Counted P = ⊤
 OnIdle Idle P = P
 OnIdle (Over result) P = ⊤
 
--- nothing more can be buffered
-abbrev pub IsSettled : {U Q I E : Type 0} → View U Q I E → Type 0
-IsSettled w = (w.queue ≡ []) ⊎ (8192 ≤ length w.unsent)
-
--- what a poll answers
+-- What a poll answers. It has few steps. It is pending where nothing more can be done, or after 64 steps that were progress: then
+-- the task is woken, and what waited to be sent was given to the transport first.
 abbrev pub PollAnswers : {U Q I E : Type 0} → View U Q I E → View U Q I E → Context → List (Step Q I E) → Poll (Result Unit (DispatcherError E)) → Type 0
-PollAnswers v w cx steps (Ready result) = Ended v w steps result
-PollAnswers v w cx steps Pending = AllContinue steps × (IsStuck v w cx steps ⊎ ((64 ≤ length steps) × (cx.is_woken ≡ true)))
+PollAnswers v w cx steps (Ready result) = Ended v w steps result × AreFew steps
+PollAnswers v w cx steps Pending =
+    AllContinue steps × AreFew steps × (IsStuck v w cx steps ⊎ ((64 ≤ progress steps) × (cx.is_woken ≡ true) × SendsFirst v steps))
 
 module _ {U Q I E R : Type 0} (reads : U → List ℕ → R → Type 0) (given : Q → R → R) (nothing : R)
     (breaks : ProtocolError → R → Type 0) (lacks : ProtocolError → Type 0) (seen : U → List ℕ → Type 0)
@@ -184,7 +240,7 @@ module _ {U Q I E R : Type 0} (reads : U → List ℕ → R → Type 0) (given :
   -- the last turn is one, too
   abbrev pub EndSays : View U Q I E → View U Q I E → Result Unit (DispatcherError E) → Type 0
   EndSays v w result =
-      (steps : List (Step Q I E)) × IsRun reads given nothing breaks lacks seen leaves writes unwritten_so v steps w × Ended v w steps result
+      (steps : List (Step Q I E)) × IsRun reads given nothing breaks lacks seen leaves writes unwritten_so v steps w × Ended v w steps result × (length steps ≤ 2)
 
   -- a poll is a run of steps
   abbrev pub PollSays : View U Q I E → View U Q I E → Context → Poll (Result Unit (DispatcherError E)) → Type 0

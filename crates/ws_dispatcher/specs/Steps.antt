@@ -1,5 +1,5 @@
 -- The steps of a dispatcher.
-use Rattle.std.specs.Prelude.{◌≡◌, ℕ, Bool, true, false, Option, Some, None, List, [], ◌∷◌, ◌++◌, ⊤, Result, Ok, Err}
+use Rattle.std.specs.Prelude.{◌≡◌, ◌<◌, ℕ, Bool, true, false, Option, Some, None, is_some, List, [], ◌∷◌, ◌++◌, length, ⊤, Result, Ok, Err}
 use Rattle.futures.specs.declared.task.Poll.{Poll}
 use Rattle.futures.specs.declared.task.Poll.TheVariants.{Ready, Pending}
 use Rattle.http_config.specs.declared.Failed.{Failed}
@@ -8,7 +8,7 @@ use Rattle.http_transport.specs.Flushes.{Gave}
 use Rattle.http_transport.specs.Items.{Items}
 use Rattle.http_transport.specs.declared.framed.error.FramedError.{FramedError}
 use Rattle.ws_frames.specs.declared.error.ProtocolError.{ProtocolError}
-use Rattle.ws_dispatcher.specs.View.{View}
+use Rattle.ws_dispatcher.specs.View.{View, HasToSend, IsSettled}
 use Rattle.ws_dispatcher.specs.declared.inner.queue.Message.{Message}
 use Rattle.ws_dispatcher.specs.declared.inner.queue.Message.TheVariants.{Item, Close}
 
@@ -101,31 +101,38 @@ pub record Unwritten {U I E : Type 0} (refuses : E → U → I → Type 0) (lack
 module _ {U Q I E R : Type 0} (reads : U → List ℕ → R → Type 0) (given : Q → R → R) (nothing : R)
     (breaks : ProtocolError → R → Type 0) (lacks : ProtocolError → Type 0) (seen : U → List ℕ → Type 0)
     (leaves : ProtocolError → U → List ℕ → U → List ℕ → Type 0) (writes : U → I → List ℕ → U → Type 0) (unwritten_so : ProtocolError → U → I → U → Type 0) where
-  -- What a step takes, and what it leaves: all but what is named stays.
+  -- What a step takes, and what it leaves: all but what is named stays. The service is asked, its call polled and the input read
+  -- only where nothing more can be buffered; the queue is taken from only while fewer than 8192 bytes wait to be sent; and the
+  -- transport is given bytes, or flushed, only where something is to be sent.
   abbrev pub IsStep : View U Q I E → Step Q I E → View U Q I E → Type 0
   IsStep v (read came answer) w =
       IsOpen v × (v.waiting ≡ None) × (v.calling ≡ false) × (v.ended ≡ false)
       × ((woken : Bool) × Items reads given nothing breaks lacks seen leaves v.transport w.transport woken v.codec v.unread came w.codec w.unread answer)
       × (w ≡ record v { transport = w.transport; codec = w.codec; unread = w.unread; waiting = item_read answer; ended = end_read answer })
+      × IsSettled v
   IsStep v (ready answer) w =
       IsOpen v × (v.calling ≡ false) × ReadySays v.service w.service answer
-      × (w ≡ record v { service = w.service; failing = error_of_ready answer }) × TakesNone answer
+      × (w ≡ record v { service = w.service; failing = error_of_ready answer }) × TakesNone answer × (is_some v.waiting ≡ true) × IsSettled v
   IsStep v (called item) w =
       IsOpen v × (v.waiting ≡ Some item) × (v.calling ≡ false) × Begins v.service w.service item
-      × (w ≡ record v { service = w.service; waiting = None; calling = true })
+      × (w ≡ record v { service = w.service; waiting = None; calling = true }) × IsSettled v
   IsStep v (answered answer) w =
       IsOpen v × (v.calling ≡ true) × AnswerSays v.service w.service answer
       × (w ≡ record v { service = w.service; calling = still_called answer; queue = v.queue ++ answer_queued answer; failing = error_of_answer answer })
+      × IsSettled v
   IsStep v (wrote message text) w =
       IsOpen v × (v.queue ≡ Ok (Item message) ∷ w.queue) × writes v.codec message text w.codec
-      × (w ≡ record v { codec = w.codec; unsent = v.unsent ++ text; queue = w.queue })
+      × (w ≡ record v { codec = w.codec; unsent = v.unsent ++ text; queue = w.queue }) × (length v.unsent < 8192)
   IsStep v (unwritten message error) w =
       IsOpen v × (v.queue ≡ Ok (Item message) ∷ w.queue) × (w ≡ record v { codec = w.codec; queue = w.queue })
-      × unwritten_so error v.codec message w.codec
-  IsStep v closed w = IsOpen v × (v.queue ≡ Ok Close ∷ w.queue) × (w ≡ record v { queue = w.queue; closing = true })
-  IsStep v (failed error) w = IsOpen v × (v.queue ≡ Err error ∷ w.queue) × (w ≡ record v { queue = w.queue; failing = Some error })
+      × unwritten_so error v.codec message w.codec × (length v.unsent < 8192)
+  IsStep v closed w =
+      IsOpen v × (v.queue ≡ Ok Close ∷ w.queue) × (w ≡ record v { queue = w.queue; closing = true }) × (length v.unsent < 8192)
+  IsStep v (failed error) w =
+      IsOpen v × (v.queue ≡ Err error ∷ w.queue) × (w ≡ record v { queue = w.queue; failing = Some error }) × (length v.unsent < 8192)
   IsStep v (flushed gave answer) w =
       ((woken : Bool) × Gave v.transport w.transport woken v.unsent gave w.unsent answer) × (w ≡ record v { transport = w.transport; unsent = w.unsent; flushing = is_unflushed answer })
+      × HasToSend v
   IsStep v (told error) w = (v.failing ≡ Some error) × (w ≡ record v { failing = None })
 
   -- one step after another

@@ -1,5 +1,5 @@
 -- What a dispatcher keeps, and what is known of what it stands on.
-use Rattle.std.specs.Prelude.{◌≡◌, Bool, true, false, ℕ, Option, Some, None, is_some, List, [], ◌∷◌, ◌++◌, Result}
+use Rattle.std.specs.Prelude.{◌≡◌, ◌<◌, ◌≤◌, ◌⊎◌, Bool, true, false, ℕ, Option, Some, None, is_some, List, [], ◌∷◌, ◌++◌, length, Result}
 use Rattle.http_services.specs.Serving.{Serving}
 use Rattle.http_transport.specs.Parts.{Parts}
 use Rattle.http_transport.specs.Wiring.{Wiring}
@@ -76,6 +76,14 @@ view_begun wiring framed service queue =
 pub record IsSent {U Q I E : Type 0} (v : View U Q I E) : Type 0 where
   pub unsent : v.unsent ≡ []
   pub flushed : v.flushing ≡ false
+
+-- something is to be sent: bytes are buffered, or the last flush isn't done
+abbrev pub HasToSend : {U Q I E : Type 0} → View U Q I E → Type 0
+HasToSend v = (0 < length v.unsent) ⊎ (v.flushing ≡ true)
+
+-- nothing more can be buffered: nothing is queued, or 8192 bytes or more wait to be sent
+abbrev pub IsSettled : {U Q I E : Type 0} → View U Q I E → Type 0
+IsSettled v = (v.queue ≡ []) ⊎ (8192 ≤ length v.unsent)
 
 -- the view with this at the end of the queue
 abbrev pub with_queued : {U Q I E : Type 0} → Result (Message I) E → View U Q I E → View U Q I E

@@ -1,5 +1,5 @@
 -- Each result of a poll has its cause, and a poll is one run.
-use Rattle.std.proofs.Common.{◌≡◌, ◌≤◌, ◌⊎◌, ℕ, true, false, Option, Some, None, List, [], ◌∷◌, ◌++◌, Result, Ok, Err, inl, inr, refl, sym, ap, ◌∙◌, subst, arith}
+use Rattle.std.proofs.Common.{◌≡◌, ◌≤◌, ◌*◌, ◌⊎◌, ℕ, true, false, Option, Some, None, List, [], ◌∷◌, ◌++◌, Result, Ok, Err, inl, inr, refl, sym, ap, ◌∙◌, subst, arith}
 use Rattle.std.specs.Prelude.{⊤}
 use Rattle.futures.specs.declared.task.Poll.{Poll}
 use Rattle.futures.specs.declared.task.Poll.TheVariants.{Ready, Pending}
@@ -15,7 +15,7 @@ use Rattle.ws_service.specs.declared.error.UpgradeError.TheVariants as error
 use Rattle.ws_service.specs.declared.dispatcher.Ending.{Ending}
 use Rattle.ws_service.specs.declared.dispatcher.Ending.TheVariants.{Closed, Abandoned, Broken}
 use Rattle.ws_service.specs.View.{View, Upgrading, is_broken, closes}
-use Rattle.ws_service.specs.Steps.{Step, IsStep, IsRun, ticked, drained, written, read, shut, closed, ready, called, answered, pulled, sent, failed, unsent, failed_write, failed_read, asked_to_drain}
+use Rattle.ws_service.specs.Steps.{Step, IsStep, IsRun, ticked, drained, written, read, told_end, shut, closed, ready, called, answered, pulled, sent, failed, unsent, failed_write, failed_read, asked_to_drain}
 use Rattle.ws_service.specs.Traces.{IsNoted, AllNoted}
 use Rattle.ws_service.specs.Polls.{Continues, AllContinue, EndsWith, FailsTransport, FailsService, Ended, Progress, IsReadIdle, ReadsNothing, IsIdle, IsHeld, Writes, IsStuck, Ticks, Drains, IsBegun, BeginFails, TurnsSay, PollRuns, PollSays}
 use Rattle.ws_service.specs.Causes.{HasCause, IsOneRun}
@@ -50,6 +50,7 @@ step_counts v w (ticked moment expiry) is = stays v w (ap (λ (x : View). x.tran
 step_counts v w drained is = stays v w (ap (λ (x : View). x.transport) is.1) (ap (λ (x : View). x.service) is.1)
 step_counts v w (written answer) is = transport_counts v w (caused v.transport.faults w.transport.faults answer is.1.2.faults) (ap (λ (x : View). x.service) is.3)
 step_counts v w (read came answer) is = transport_counts v w (caused v.transport.faults w.transport.faults answer is.2.4.faults) (ap (λ (x : View). x.service) is.4)
+step_counts v w told_end is = stays v w (ap (λ (x : View). x.transport) is.5) (ap (λ (x : View). x.service) is.5)
 step_counts v w (shut answer) is = transport_counts v w (caused v.transport.faults w.transport.faults answer is.1.faults) (ap (λ (x : View). x.service) is.2)
 step_counts v w (closed end) is = stays v w (ap (λ (x : View). x.transport) is.4) (ap (λ (x : View). x.service) is.4)
 step_counts v w (ready answer) is = service_counts v w (caused v.service.faults w.service.faults answer is.3.cause) (ap (λ (x : View). x.transport) is.4)
@@ -62,7 +63,7 @@ step_counts v w (sent message) is = stays v w (ap (λ (x : View). x.transport) i
 step_counts v w (failed event) is = stays v w (ap (λ (x : View). x.transport) is.2) (ap (λ (x : View). x.service) is.2)
 step_counts v w (unsent message) is = stays v w (ap (λ (x : View). x.transport) is.4) (ap (λ (x : View). x.service) is.4)
 step_counts v w (failed_write count) is = transport_counts v w is.1.2.faults (ap (λ (x : View). x.service) is.3)
-step_counts v w (failed_read came event) is = transport_counts v w is.2.5.faults (ap (λ (x : View). x.service) is.4)
+step_counts v w (failed_read came) is = transport_counts v w is.2.5.faults (ap (λ (x : View). x.service) is.4)
 step_counts v w asked_to_drain is = stays v w (ap (λ (x : View). x.transport) is) (ap (λ (x : View). x.service) is)
 
 more_counts : (v u w : View) → Counts v u → Counts u w → Counts v w
@@ -116,6 +117,7 @@ ended_has v u w steps (Err error.Io) before run is = transport_has v u w steps b
 ended_has v u w steps (Err (error.Upgrade e)) before run is = service_has v u w e steps before run is
 ended_has v u w steps (Err error.DisconnectTimeout) before run is = is.1
 ended_has v u w steps (Err error.NoMemory) before run is = is.0
+ended_has v u w steps (Err error.NotUpgraded) before run is = (is.1, is.2)
 
 -- ---- a poll
 
@@ -123,7 +125,7 @@ noted_on : (s t : List Step) → AllNoted s → AllNoted t → AllNoted (s ++ t)
 noted_on [] t first then = then
 noted_on (d ∷ s) t first then = (first.0, noted_on s t first.1 then)
 
-begun_run : (v w : View) (moment : ℕ) → IsBegun v moment w → (steps : List Step) × IsRun v steps w × AllNoted steps
+pub begun_run : (v w : View) (moment : ℕ) → IsBegun v moment w → (steps : List Step) × IsRun v steps w × AllNoted steps
 begun_run v w moment is = drains (ticks is.ticks) is.drains
   where
     ticks : Ticks v moment is.between → (steps : List Step) × IsRun v steps is.between × AllNoted steps
@@ -165,6 +167,7 @@ goes_noted (ticked moment expiry) goes = tt
 goes_noted drained goes = tt
 goes_noted (written answer) goes = tt
 goes_noted (read came answer) goes = tt
+goes_noted told_end goes = tt
 goes_noted (shut answer) goes = tt
 goes_noted (closed end) goes = tt
 goes_noted (ready answer) goes = tt
@@ -175,10 +178,10 @@ goes_noted (sent message) goes = tt
 goes_noted (failed event) goes = absurd goes
 goes_noted (unsent message) goes = absurd goes
 goes_noted (failed_write count) goes = absurd goes
-goes_noted (failed_read came event) goes = absurd goes
+goes_noted (failed_read came) goes = absurd goes
 goes_noted asked_to_drain goes = tt
 
-go_noted : (steps : List Step) → AllContinue steps → AllNoted steps
+pub go_noted : (steps : List Step) → AllContinue steps → AllNoted steps
 go_noted [] all = tt
 go_noted (d ∷ steps) all = (goes_noted d all.0, go_noted steps all.1)
 
@@ -202,7 +205,7 @@ read_noted v w is = record { steps = is.reading; run = is.reads; all = by is.rea
     by reading (inl so) = subst (λ l. AllNoted l) (sym so) (tt, tt)
     by reading (inr so) = subst (λ l. AllNoted l) (sym so.0) tt
 
-idle_noted : (v w : View) → IsIdle v w → Noted v w
+idle_noted : (v w : View) → IsIdle 3 v w → Noted v w
 idle_noted v w is = noted_then v is.between w (record { steps = is.served; run = is.serves; all = go_noted is.served is.go_on }) (read_noted is.between w is.input)
 
 stuck_noted : (v w : View) → IsStuck v w → Noted v w
@@ -212,13 +215,13 @@ stuck_noted v w (inl is) = noted_then v is.after w (record { steps = is.writing;
     by writing (inl so) = subst (λ l. AllNoted l) (sym so) (tt, tt)
     by writing (inr so) = subst (λ l. AllNoted l) (sym so.0) tt
 
-    after : IsHeld is.after w ⊎ ((closes is.after ≡ false) × IsIdle is.after w) → Noted is.after w
+    after : IsHeld is.after w ⊎ ((closes is.after ≡ false) × IsIdle 3 is.after w) → Noted is.after w
     after (inl held) = none_noted is.after w held.stays
     after (inr idle) = idle_noted is.after w idle.1
 stuck_noted v w (inr is) = record { steps = shut Pending ∷ []; run = is.shuts; all = (tt, tt) }
 
-goes_noted_run : (v w : View) (n : ℕ) → Progress v w n → Noted v w
-goes_noted_run v w n is = record { steps = is.steps; run = is.run; all = go_noted is.steps is.go_on }
+goes_noted_run : (v w : View) (n most : ℕ) → Progress v w n most → Noted v w
+goes_noted_run v w n most is = record { steps = is.steps; run = is.run; all = go_noted is.steps is.go_on }
 
 -- it ended, and memory ran out only where it answered so
 last_noted : (steps : List Step) (d : Step) → IsNoted d → EndsWith steps d → AllNoted steps
@@ -239,6 +242,7 @@ ended_noted w steps (Err error.Io) is = inr (transport_noted steps is)
 ended_noted w steps (Err (error.Upgrade e)) is = inr (service_noted e steps is)
 ended_noted w steps (Err error.DisconnectTimeout) is = inr (go_noted steps is.0)
 ended_noted w steps (Err error.NoMemory) is = inl refl
+ended_noted w steps (Err error.NotUpgraded) is = inr (go_noted steps is.0)
 
 -- what was noted before stays so
 after_noted : (s t : List Step) (result : Poll (Result Unit UpgradeError)) → AllNoted s → (result ≡ Ready (Err error.NoMemory)) ⊎ AllNoted t
@@ -256,8 +260,8 @@ turns_ran v u w cx (Ready result) a is = record {
   noted = after_noted a.steps is.steps (Ready result) a.all (ended_noted w is.steps result is.ended);
 }
 turns_ran v u w cx Pending a (inl waits) =
-    ran v u w Pending a (noted_then u waits.last w (goes_noted_run u waits.last waits.turns waits.goes) (stuck_noted waits.last w waits.stuck))
-turns_ran v u w cx Pending a (inr spent) = ran v u w Pending a (goes_noted_run u w 64 spent.goes)
+    ran v u w Pending a (noted_then u waits.last w (goes_noted_run u waits.last waits.turns (4 * waits.turns) waits.goes) (stuck_noted waits.last w waits.stuck))
+turns_ran v u w cx Pending a (inr spent) = ran v u w Pending a (goes_noted_run u w 64 (4 * 64) spent.goes)
 
 fails_ran : (v w : View) (moment : ℕ) (result : Poll (Result Unit UpgradeError)) → result ≡ Ready (Err error.NoMemory) → BeginFails v moment w → IsOneRun v w result
 fails_ran v w moment result lacks (inl is) = record { steps = failed (on.tick moment) ∷ []; run = one v w (failed (on.tick moment)) is; noted = inl lacks }

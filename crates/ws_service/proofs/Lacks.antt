@@ -7,7 +7,7 @@ use Rattle.h1_connection.specs.EventMeaning.{setting_of}
 use Rattle.h1_connection.specs.Steps.{Pair}
 use Rattle.h1_traced.specs.Traced.{SaysNoted, TracedStands}
 use Rattle.ws_service.specs.View.{View}
-use Rattle.ws_service.specs.Steps.{Step, IsStep, IsRun, ticked, drained, written, read, shut, closed, ready, called, answered, pulled, sent, failed, unsent, failed_write, failed_read, asked_to_drain}
+use Rattle.ws_service.specs.Steps.{Step, IsStep, IsRun, ticked, drained, written, read, told_end, shut, closed, ready, called, answered, pulled, sent, failed, unsent, failed_write, failed_read, asked_to_drain}
 use Rattle.ws_service.specs.Traces.{IsNoted, AllNoted, NotesTrace}
 use Rattle.ws_service.proofs.Traces.{run_follows}
 
@@ -16,11 +16,12 @@ lacks_note : (v w : View) (d : Step) → ¬ IsNoted d → IsStep v d w → Grows
 lacks_note v w (failed event) lacks is = is.1.noted
 lacks_note v w (unsent message) lacks is = is.3.noted
 lacks_note v w (failed_write count) lacks is = is.2.noted
-lacks_note v w (failed_read came event) lacks is = is.3.noted
+lacks_note v w (failed_read came) lacks is = is.3.noted
 lacks_note v w (ticked moment expiry) lacks is = absurd (lacks tt)
 lacks_note v w drained lacks is = absurd (lacks tt)
 lacks_note v w (written answer) lacks is = absurd (lacks tt)
 lacks_note v w (read came answer) lacks is = absurd (lacks tt)
+lacks_note v w told_end lacks is = absurd (lacks tt)
 lacks_note v w (shut answer) lacks is = absurd (lacks tt)
 lacks_note v w (closed end) lacks is = absurd (lacks tt)
 lacks_note v w (ready answer) lacks is = absurd (lacks tt)

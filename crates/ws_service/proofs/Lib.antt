@@ -7,4 +7,5 @@ pub mod Traces
 pub mod Lacks
 pub mod Causes
 pub mod Closes
-pub mod Takes
+pub mod Ends
+pub mod Stays

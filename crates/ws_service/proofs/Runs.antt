@@ -1,10 +1,10 @@
 -- Runs of steps one after the other, and how they end.
-use Rattle.std.proofs.Common.{◌≡◌, ◌≤◌, ◌+◌, ℕ, List, [], ◌∷◌, ◌++◌, Some, Result, Ok, Err, inl, inr, refl, ap, subst, arith}
+use Rattle.std.proofs.Common.{◌≡◌, ◌≤◌, ◌+◌, ℕ, List, [], ◌∷◌, ◌++◌, Some, None, Result, Ok, Err, inl, inr, refl, ap, subst, arith, length-append}
 use Rattle.http_types.specs.declared.error.Error.{Error}
 use Rattle.ws_service.specs.declared.error.UpgradeError.{UpgradeError}
 use Rattle.ws_service.specs.declared.error.UpgradeError.TheVariants as error
 use Rattle.ws_service.specs.declared.dispatcher.Ending.TheVariants.{Abandoned, Broken}
-use Rattle.ws_service.specs.View.{View}
+use Rattle.ws_service.specs.View.{View, IsForeign}
 use Rattle.ws_service.specs.Steps.{Step, IsStep, IsRun}
 use Rattle.ws_service.specs.Polls.{Continues, AllContinue, EndsWith, FailsTransport, FailsService, LacksMemory, Ended, counts, progress, Progress, Ends}
 
@@ -43,7 +43,7 @@ memory_on : (d : Step) (s : List Step) → Continues d → LacksMemory s → Lac
 memory_on d s goes (inl is) = inl (is.0, is.1, ends_on d _ s goes is.2)
 memory_on d s goes (inr (inl is)) = inr (inl (is.0, ends_on d _ s goes is.1))
 memory_on d s goes (inr (inr (inl is))) = inr (inr (inl (is.0, ends_on d _ s goes is.1)))
-memory_on d s goes (inr (inr (inr is))) = inr (inr (inr (is.0, is.1, ends_on d _ s goes is.2)))
+memory_on d s goes (inr (inr (inr is))) = inr (inr (inr (is.0, ends_on d _ s goes is.1)))
 
 ended_on : (w : View) (d : Step) (s : List Step) (result : Result Unit UpgradeError) → Continues d → Ended w s result → Ended w (d ∷ s) result
 ended_on w d s (Ok x) goes is = (ends_on d _ s goes is.0, is.1)
@@ -52,6 +52,7 @@ ended_on w d s (Err (error.Upgrade e)) goes is = service_on e d s goes is
 ended_on w d s (Err error.DisconnectTimeout) goes is = ((goes, is.0), is.1)
 ended_on w d s (Err error.NoMemory) goes (broken, inl out) = (broken, inl (memory_on d s goes out))
 ended_on w d s (Err error.NoMemory) goes (broken, inr all) = (broken, inr (goes, all))
+ended_on w d s (Err error.NotUpgraded) goes is = ((goes, is.0), is.1, is.2)
 
 ended_all : (w : View) (s t : List Step) (result : Result Unit UpgradeError) → AllContinue s → Ended w t result → Ended w (s ++ t) result
 ended_all w [] t result goes is = is
@@ -59,38 +60,52 @@ ended_all w (d ∷ s) t result goes is = ended_on w d (s ++ t) result goes.0 (en
 
 -- ---- by one step, and by more
 
-pub goes_by : (v w : View) (d : Step) (n : ℕ) → IsStep v d w → Continues d → n ≤ counts d → Progress v w n
-goes_by v w d n is goes enough = record { steps = d ∷ []; run = one v w d is; go_on = (goes, tt); enough = omega (arith, enough) }
+pub goes_by : (most : ℕ) → 1 ≤ most → (v w : View) (d : Step) (n : ℕ) → IsStep v d w → Continues d → n ≤ counts d → Progress v w n most
+goes_by most fits v w d n is goes enough =
+    record { steps = d ∷ []; run = one v w d is; go_on = (goes, tt); enough = omega (arith, enough); few = omega (arith, fits) }
 
-pub goes_none : (v : View) → Progress v v 0
-goes_none v = record { steps = []; run = refl; go_on = tt; enough = omega arith }
+pub goes_none : (v : View) (most : ℕ) → Progress v v 0 most
+goes_none v most = record { steps = []; run = refl; go_on = tt; enough = omega arith; few = omega arith }
 
-pub goes_after : (v u w : View) (m n : ℕ) → Progress v u m → Progress u w n → Progress v w (m + n)
-goes_after v u w m n a b = record {
+pub goes_after : (v u w : View) (m n k : ℕ) → k ≤ m + n → (x y most : ℕ) → x + y ≤ most → Progress v u m x → Progress u w n y → Progress v w k most
+goes_after v u w m n k enough x y most fits a b = record {
   steps = a.steps ++ b.steps;
   run = run_on v u w a.steps b.steps a.run b.run;
   go_on = all_on a.steps b.steps a.go_on b.go_on;
-  enough = omega (arith, progress_on a.steps b.steps, a.enough, b.enough);
+  enough = omega (arith, progress_on a.steps b.steps, a.enough, b.enough, enough);
+  few = omega (arith, length-append a.steps b.steps, a.few, b.few, fits);
 }
 
 -- it ends in this step
-pub ends_by : (v w : View) (d : Step) (result : Result Unit UpgradeError) → IsStep v d w → Ended w (d ∷ []) result → Ends v w result
-ends_by v w d result is ended = record { steps = d ∷ []; run = one v w d is; ended = ended }
+pub ends_by : (most : ℕ) → 1 ≤ most → (v w : View) (d : Step) (result : Result Unit UpgradeError) → IsStep v d w → Ended w (d ∷ []) result → Ends v w most result
+ends_by most fits v w d result is ended = record { steps = d ∷ []; run = one v w d is; ended = ended; few = omega (arith, fits) }
 
-pub ends_after : (v u w : View) (m : ℕ) (result : Result Unit UpgradeError) → Progress v u m → Ends u w result → Ends v w result
-ends_after v u w m result a b = record {
+pub ends_after : (v u w : View) (m : ℕ) (result : Result Unit UpgradeError) (x y most : ℕ) → x + y ≤ most → Progress v u m x → Ends u w y result → Ends v w most result
+ends_after v u w m result x y most fits a b = record {
   steps = a.steps ++ b.steps;
   run = run_on v u w a.steps b.steps a.run b.run;
   ended = ended_all w a.steps b.steps result a.go_on b.ended;
+  few = omega (arith, length-append a.steps b.steps, a.few, b.few, fits);
 }
 
+-- no more steps than so many are no more than that many
+pub more_goes : (v w : View) (n x most : ℕ) → x ≤ most → Progress v w n x → Progress v w n most
+more_goes v w n x most fits g = record { steps = g.steps; run = g.run; go_on = g.go_on; enough = g.enough; few = omega (arith, g.few, fits) }
+
+pub more_ends : (v w : View) (result : Result Unit UpgradeError) (x most : ℕ) → x ≤ most → Ends v w x result → Ends v w most result
+more_ends v w result x most fits e = record { steps = e.steps; run = e.run; ended = e.ended; few = omega (arith, e.few, fits) }
+
 -- memory ran out in this step
-pub lacks : (v w : View) (d : Step) → w.ending ≡ Some Broken → IsStep v d w → LacksMemory (d ∷ []) → Ends v w (Err error.NoMemory)
-lacks v w d broken is out = ends_by v w d (Err error.NoMemory) is (broken, inl out)
+pub lacks : (most : ℕ) → 1 ≤ most → (v w : View) (d : Step) → w.ending ≡ Some Broken → IsStep v d w → LacksMemory (d ∷ []) → Ends v w most (Err error.NoMemory)
+lacks most fits v w d broken is out = ends_by most fits v w d (Err error.NoMemory) is (broken, inl out)
 
 -- and where it ran out before, or the peer took too long
-pub stays_broken : (v : View) → v.ending ≡ Some Broken → Ends v v (Err error.NoMemory)
-stays_broken v broken = record { steps = []; run = refl; ended = (broken, inr tt) }
+pub stays_broken : (v : View) → v.ending ≡ Some Broken → Ends v v 4 (Err error.NoMemory)
+stays_broken v broken = record { steps = []; run = refl; ended = (broken, inr tt); few = omega arith }
 
-pub stays_abandoned : (v : View) → v.ending ≡ Some Abandoned → Ends v v (Err error.DisconnectTimeout)
-stays_abandoned v abandoned = record { steps = []; run = refl; ended = (tt, abandoned) }
+pub stays_abandoned : (v : View) → v.ending ≡ Some Abandoned → Ends v v 4 (Err error.DisconnectTimeout)
+stays_abandoned v abandoned = record { steps = []; run = refl; ended = (tt, abandoned); few = omega arith }
+
+-- and where the connection wasn't upgraded
+pub stays_foreign : (v : View) → v.ending ≡ None → IsForeign v → Ends v v 3 (Err error.NotUpgraded)
+stays_foreign v running foreign = record { steps = []; run = refl; ended = (tt, running, foreign); few = omega arith }

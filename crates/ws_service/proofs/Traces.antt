@@ -37,7 +37,7 @@ use Rattle.h1_connection.specs.declared.event.Outcome.TheVariants as out
 use Rattle.h1_traced.specs.Traced.{TracedView, TracedStands}
 use Rattle.ws_service.specs.declared.item.UpgradeItem.{UpgradeItem}
 use Rattle.ws_service.specs.View.{View, buffered, room}
-use Rattle.ws_service.specs.Steps.{Step, Goes, IsFront, Wrote, Took, IsStep, IsRun, given_of, ticked, drained, written as wrote, read, shut, closed, ready, called, answered, pulled, sent, failed, unsent, failed_write, failed_read, asked_to_drain}
+use Rattle.ws_service.specs.Steps.{Step, Goes, IsFront, Wrote, Took, FindsNone, IsStep, IsRun, given_of, ticked, drained, written as wrote, read, told_end, shut, closed, ready, called, answered, pulled, sent, failed, unsent, failed_write, failed_read, asked_to_drain}
 use Rattle.ws_service.specs.Order.{frames_given, step_frames, step_sent, frames, sends}
 use Rattle.ws_service.specs.Traces.{IsNoted, AllNoted, of_frame, frames_in, of_message, messages_in, Follows, AreTraces}
 
@@ -249,11 +249,7 @@ short n buf m fits = omega (arith, length-take n buf, fits)
 took : (v w : View) (came buf : List ℕ) (answer : Poll (Result ℕ Failed)) → length buf ≤ room v → came ≡ moved answer buf → ReadSays v.transport w.transport answer buf
     → Took v.traced w.traced came answer → By v [] [] w
 took v w came buf (Ready (Ok n)) fits are says (inl end) =
-    went v w on.eof [] (Is on.done) end.1 (λ out is machine. record {
-      received = subst (λ m. Grows v.transport.received w.transport.received (take m buf)) end.0 says.received;
-      sent_so = subst (λ l. Grows v.transport.sent w.transport.sent l) (sym (ap step_written is)) (same_grows _ _ says.sent);
-      came_so = ap of_frame is;
-    })
+    still v w end.1 (subst (λ m. Grows v.transport.received w.transport.received (take m buf)) end.0 says.received) (same_grows _ _ says.sent)
 took v w came buf (Ready (Ok n)) fits are says (inr some) =
     went v w (on.read came) [] (Is (on.took some.1.0)) some.1.1 (λ out is machine.
     let all = took_all (setting_of v.traced.state.settings) v.traced.state.kept w.traced.state.kept came out
@@ -266,13 +262,39 @@ took v w came buf (Ready (Ok n)) fits are says (inr some) =
 took v w came buf (Ready (Err e)) fits are says same = still v w same says.received (same_grows _ _ says.sent)
 took v w came buf Pending fits are says same = still v w same says.received (same_grows _ _ says.sent)
 
-step_follows : (v w : View) (d : Step) → IsNoted d → IsStep v d w → By v (step_frames d) (map message_says (step_sent d)) w
+follows_on : (v u w : View) (came_first came_then : List UpgradeItem) (gone_first gone_then : List said.Message) → By v came_first gone_first u → By u came_then gone_then w
+    → By v (came_first ++ came_then) (gone_first ++ gone_then) w
+follows_on v u w came_first came_then gone_first gone_then a b = λ trace stands.
+    let x = a trace stands in
+    let y = b (x.more ++ trace) x.stands in
+    record {
+      more = y.more ++ x.more;
+      stands = subst (λ (l : List sums.Step). TracedStands w.traced l) (sym (append_assoc y.more x.more trace)) y.stands;
+      received = subst (λ l. Grows v.transport.received w.transport.received l) (sym (more_sum taken (λ s. step_taken s.event s.outcome) none_taken step_taken_more y.more x.more))
+          (grown (taken x.more) (taken y.more) _ _ _ x.received y.received);
+      sent_so = subst (λ l. Grows v.transport.sent w.transport.sent l) (sym (more_sum written (λ s. step_written s.outcome) none_written step_written_more y.more x.more))
+          (grown (written x.more) (written y.more) _ _ _ x.sent_so y.sent_so);
+      came_so = more_sum frames_in (λ s. of_frame s.outcome) refl (λ s b. refl) y.more x.more ∙ ap (λ l. l ++ frames_in y.more) x.came_so ∙ ap (λ l. came_first ++ l) y.came_so;
+      gone_so = more_sum messages_in (λ s. of_message s.event) refl (λ s b. refl) y.more x.more ∙ ap (λ l. l ++ messages_in y.more) x.gone_so ∙ ap (λ l. gone_first ++ l) y.gone_so;
+    }
+
+-- no frame was there, and then the end of the input was told
+tells : (v u w : View) → FindsNone v u → frame_allowed (setting_of v.traced.state.settings) v.traced.state.kept ≡ true → Goes u.traced on.eof (Is on.done) w.traced
+    → w ≡ record v { traced = w.traced } → By v [] [] w
+tells v u w finds allowed goes same =
+    follows_on v u w [] [] [] []
+    (went v u on.pull [] (SaysOutcome out.Pending) finds.asked (λ o says machine. quiet v u on.pull [] o (ap (λ (x : View). x.transport) finds.same) refl
+    (frame_writes (setting_of v.traced.state.settings) v.traced.state.kept u.traced.state.kept o allowed machine) (ap of_frame says)))
+    (done u w on.eof (ap (λ (x : View). x.transport) same ∙ sym (ap (λ (x : View). x.transport) finds.same)) refl goes)
+
+pub step_follows : (v w : View) (d : Step) → IsNoted d → IsStep v d w → By v (step_frames d) (map message_says (step_sent d)) w
 step_follows v w (ticked moment expiry) noted is =
     went v w (on.tick moment) [] (Is (expiry_of expiry)) is.0 (λ out says machine. quiet v w (on.tick moment) [] out (ap (λ (x : View). x.transport) is.1) refl
     (ap step_written says ∙ expiry_writes expiry) (ap of_frame says ∙ expiry_frames expiry))
 step_follows v w drained noted is = done v w on.drain (ap (λ (x : View). x.transport) is.1) refl is.0
 step_follows v w (wrote answer) noted is = gave v w is.1.0 answer is.1.1 is.1.2 is.2
 step_follows v w (read came answer) noted is = took v w came is.2.0 answer is.2.2 is.2.3 is.2.4 is.3
+step_follows v w told_end noted is = tells v is.4.0 w is.4.1 is.3 is.4.3 is.5
 step_follows v w (shut answer) noted is = still v w (ap (λ (x : View). x.traced) is.2) (same_grows _ _ is.1.received) (same_grows _ _ is.1.sent)
 step_follows v w (closed end) noted is =
     went v w on.next [] (SaysNext is.3.0) is.3.1 (λ out says machine. quiet v w on.next [] out (ap (λ (x : View). x.transport) is.4) refl (next_writes is.3.0 out says) (next_frames is.3.0 out says))
@@ -290,24 +312,8 @@ step_follows v w (sent message) noted is =
 step_follows v w (failed event) noted is = absurd noted
 step_follows v w (unsent message) noted is = absurd noted
 step_follows v w (failed_write count) noted is = absurd noted
-step_follows v w (failed_read came event) noted is = absurd noted
+step_follows v w (failed_read came) noted is = absurd noted
 step_follows v w asked_to_drain noted is = transport_same v w (ap (λ (x : View). x.traced) is) (ap (λ (x : View). x.transport) is)
-
-follows_on : (v u w : View) (came_first came_then : List UpgradeItem) (gone_first gone_then : List said.Message) → By v came_first gone_first u → By u came_then gone_then w
-    → By v (came_first ++ came_then) (gone_first ++ gone_then) w
-follows_on v u w came_first came_then gone_first gone_then a b = λ trace stands.
-    let x = a trace stands in
-    let y = b (x.more ++ trace) x.stands in
-    record {
-      more = y.more ++ x.more;
-      stands = subst (λ (l : List sums.Step). TracedStands w.traced l) (sym (append_assoc y.more x.more trace)) y.stands;
-      received = subst (λ l. Grows v.transport.received w.transport.received l) (sym (more_sum taken (λ s. step_taken s.event s.outcome) none_taken step_taken_more y.more x.more))
-          (grown (taken x.more) (taken y.more) _ _ _ x.received y.received);
-      sent_so = subst (λ l. Grows v.transport.sent w.transport.sent l) (sym (more_sum written (λ s. step_written s.outcome) none_written step_written_more y.more x.more))
-          (grown (written x.more) (written y.more) _ _ _ x.sent_so y.sent_so);
-      came_so = more_sum frames_in (λ s. of_frame s.outcome) refl (λ s b. refl) y.more x.more ∙ ap (λ l. l ++ frames_in y.more) x.came_so ∙ ap (λ l. came_first ++ l) y.came_so;
-      gone_so = more_sum messages_in (λ s. of_message s.event) refl (λ s b. refl) y.more x.more ∙ ap (λ l. l ++ messages_in y.more) x.gone_so ∙ ap (λ l. gone_first ++ l) y.gone_so;
-    }
 
 pub run_follows : (v w : View) (steps : List Step) → AllNoted steps → IsRun v steps w → AreTraces v steps w
 run_follows v w [] noted is = transport_same v w (ap (λ (x : View). x.traced) is) (ap (λ (x : View). x.transport) is)

@@ -4,4 +4,4 @@ pub mod Polls
 pub mod Order
 pub mod Traces
 pub mod Causes
-pub mod Memory
+pub mod Stays

@@ -1,5 +1,5 @@
 -- What the steps of a run keep in order.
-use Rattle.std.specs.Prelude.{◌≡◌, List, [], ◌∷◌, ◌++◌, Result, Ok, Err}
+use Rattle.std.specs.Prelude.{◌≡◌, ◌+◌, ℕ, length, List, [], ◌∷◌, ◌++◌, Result, Ok, Err}
 use Rattle.futures.specs.declared.task.Poll.{Poll}
 use Rattle.futures.specs.declared.task.Poll.TheVariants.{Ready, Pending}
 use Rattle.http_types.specs.declared.error.Error.{Error}
@@ -26,6 +26,13 @@ unsent_in free = []
 unsent_in (waiting item) = []
 unsent_in calling = []
 unsent_in (sending message) = message ∷ []
+
+-- how many calls are in progress
+abbrev pub calls_in : Stage → ℕ
+calls_in free = 0
+calls_in (waiting item) = 0
+calls_in calling = 1
+calls_in (sending message) = 0
 
 -- the frames that came
 abbrev pub frames_given : Given → List UpgradeItem
@@ -82,10 +89,11 @@ abbrev pub sends : List Step → List Message
 sends steps = all_of step_sent steps
 
 -- The service is called with the frames that came, in order and once each, after what waited before; the last one may wait.
--- What is sent are the messages that it answered, in order and once each; the last one may wait. What the service tells of its
--- calls and answers grows by those of the steps.
+-- Each call has one answer, but for the one that is in progress. What is sent are the messages that it answered, in order and once
+-- each; the last one may wait. What the service tells of its calls and answers grows by those of the steps.
 pub record KeepsOrder (v : View) (steps : List Step) (w : View) : Type 0 where
   pub waits : waits_in v.stage ++ frames steps ≡ calls steps ++ waits_in w.stage
+  pub each : calls_in v.stage + length (calls steps) ≡ length (answers steps) + calls_in w.stage
   pub sent_so : unsent_in v.stage ++ messages steps ≡ sends steps ++ unsent_in w.stage
   pub called_so : Grows v.service.called w.service.called (calls steps)
   pub answered_so : Grows v.service.answered w.service.answered (answers steps)
@@ -94,3 +102,10 @@ pub record KeepsOrder (v : View) (steps : List Step) (w : View) : Type 0 where
 pub record StartsWith (request : RequestParts Unit Unit) (steps : List Step) (w : View) : Type 0 where
   pub waits : items.Open request ∷ frames steps ≡ calls steps ++ waits_in w.stage
   pub sent_so : messages steps ≡ sends steps ++ unsent_in w.stage
+
+-- Nothing is left: the service was called with the request and with every frame that came, each call has its answer, and every message
+-- among the answers was sent.
+pub record AllAnswered (request : RequestParts Unit Unit) (steps : List Step) : Type 0 where
+  pub called_so : items.Open request ∷ frames steps ≡ calls steps
+  pub each : length (calls steps) ≡ length (answers steps)
+  pub sent_so : messages steps ≡ sends steps

@@ -1,5 +1,5 @@
 -- What a poll answers.
-use Rattle.std.specs.Prelude.{◌≡◌, ◌≤◌, ◌<◌, ◌+◌, ◌⊎◌, ◌++◌, ◌∷◌, ℕ, true, false, Some, None, List, [], ⊤, Result, Ok, Err}
+use Rattle.std.specs.Prelude.{◌≡◌, ◌≤◌, ◌<◌, ◌+◌, ◌*◌, ◌⊎◌, ◌++◌, ◌∷◌, ℕ, true, false, Some, None, List, [], length, ⊤, Result, Ok, Err}
 use Rattle.std.specs.List.{AllByRecursion}
 use Rattle.futures.specs.declared.task.Poll.{Poll}
 use Rattle.futures.specs.declared.task.Poll.TheVariants.{Ready, Pending}
@@ -8,6 +8,7 @@ use Rattle.http_config.specs.declared.Failed.{Failed}
 use Rattle.http_types.specs.declared.error.Error.{Error}
 use Rattle.ws_frames.specs.declared.message.Message.{Message}
 use Rattle.model_h1.specs.Event as on
+use Rattle.h1_connection.specs.State.{Is}
 use Rattle.h1_connection.specs.declared.connection.ticks.Expiry.{Expiry}
 use Rattle.h1_connection.specs.declared.event.End.{End}
 use Rattle.ws_service.specs.declared.error.UpgradeError.{UpgradeError}
@@ -17,8 +18,8 @@ use Rattle.ws_service.specs.declared.dispatcher.UpgradeTurn.{UpgradeTurn}
 use Rattle.ws_service.specs.declared.dispatcher.UpgradeTurn.TheVariants.{Counted, Idle, Over}
 use Rattle.ws_service.specs.declared.dispatcher.serve_frames.Given.{Given}
 use Rattle.ws_service.specs.declared.dispatcher.serve_frames.Given.TheVariants.{Frame, Nothing, Other}
-use Rattle.ws_service.specs.View.{View, Stage, free, waiting, calling, sending, is_broken, closes, allows, allows_next, allows_pull, allows_send, HasNoOutput, HasNoInput}
-use Rattle.ws_service.specs.Steps.{Step, IsStep, IsRun, ticked, drained, written, read, shut, closed, ready, called, answered, pulled, sent, failed, unsent, failed_write, failed_read, asked_to_drain}
+use Rattle.ws_service.specs.View.{View, Stage, free, waiting, calling, sending, is_broken, closes, allows, allows_next, allows_send, HasNoOutput, HasNoInput, IsForeign}
+use Rattle.ws_service.specs.Steps.{Step, Goes, IsStep, IsRun, ticked, drained, written, read, told_end, shut, closed, ready, called, answered, pulled, sent, failed, unsent, failed_write, failed_read, asked_to_drain}
 
 -- ---- how steps end
 
@@ -38,6 +39,7 @@ Continues (ticked moment expiry) = ⊥
 Continues drained = ⊥
 Continues (written answer) = HasNotFailed answer
 Continues (read came answer) = HasNotFailed answer
+Continues told_end = ⊤
 Continues (shut answer) = IsPending answer
 Continues (closed end) = ⊤
 Continues (ready answer) = HasNotFailed answer
@@ -48,7 +50,7 @@ Continues (sent message) = ⊤
 Continues (failed event) = ⊥
 Continues (unsent message) = ⊥
 Continues (failed_write count) = ⊥
-Continues (failed_read came event) = ⊥
+Continues (failed_read came) = ⊥
 Continues asked_to_drain = ⊥
 
 abbrev pub AllContinue : List Step → Type 0
@@ -79,7 +81,7 @@ abbrev pub LacksMemory : List Step → Type 0
 LacksMemory steps =
     ((event : on.Event) × IsOfTurn event × EndsWith steps (failed event))
     ⊎ (((message : Message) × EndsWith steps (unsent message))
-    ⊎ (((count : ℕ) × EndsWith steps (failed_write count)) ⊎ ((came : List ℕ) × (event : on.Event) × EndsWith steps (failed_read came event))))
+    ⊎ (((count : ℕ) × EndsWith steps (failed_write count)) ⊎ ((came : List ℕ) × EndsWith steps (failed_read came))))
 
 -- Why a poll ended: each result has its cause.
 abbrev pub Ended : View → List Step → Result Unit UpgradeError → Type 0
@@ -88,8 +90,9 @@ Ended w steps (Err error.Io) = FailsTransport steps
 Ended w steps (Err (error.Upgrade e)) = FailsService e steps
 Ended w steps (Err error.DisconnectTimeout) = AllContinue steps × (w.ending ≡ Some Abandoned)
 Ended w steps (Err error.NoMemory) = (w.ending ≡ Some Broken) × (LacksMemory steps ⊎ AllContinue steps)
+Ended w steps (Err error.NotUpgraded) = AllContinue steps × (w.ending ≡ None) × IsForeign w
 
--- ---- progress: an event that was noted, and whose outcome isn't that nothing came
+-- ---- progress: an event that was noted, and whose outcome isn't that nothing came; or the transport showed the end of the input
 
 abbrev pub moves : Poll (Result ℕ Failed) → ℕ
 moves (Ready x) = 1
@@ -103,6 +106,7 @@ brings Other = 1
 abbrev pub counts : Step → ℕ
 counts (written answer) = moves answer
 counts (read came answer) = moves answer
+counts told_end = 1
 counts (closed end) = 1
 counts (pulled given) = brings given
 counts (sent message) = 1
@@ -118,15 +122,15 @@ progress (step ∷ steps) = counts step + progress steps
 abbrev pub IsLast : Step → List Step → Type 0
 IsLast d steps = (before : List Step) × (steps ≡ before ++ d ∷ [])
 
--- what is needed: no whole frame was there, or none may be asked for; the service was pending, or its call was; there is no
--- room for its answer, until more is written
+-- what is needed: no whole frame was there, and no end of the input is to be told; the service was pending, or its call was; there
+-- is no room for its answer, until more is written
 abbrev pub Needs : View → Stage → List Step → Type 0
-Needs w free served = IsLast (pulled Nothing) served ⊎ (allows_pull w ≡ false)
+Needs w free served = IsLast (pulled Nothing) served × ((w.input_ended ≡ false) ⊎ (allows w on.eof ≡ false))
 Needs w (waiting item) served = IsLast (ready Pending) served
 Needs w calling served = IsLast (answered Pending) served
 Needs w (sending message) served = allows_send w ≡ false
 
--- the transport had no bytes, or none may be read
+-- the transport had no bytes, or none may be read, or none come any more
 abbrev pub ReadsNothing : View → List Step → Type 0
 ReadsNothing v reading = (reading ≡ read [] Pending ∷ []) ⊎ ((reading ≡ []) × HasNoInput v)
 
@@ -139,21 +143,23 @@ pub record IsReadIdle (v w : View) : Type 0 where
   pub reads : IsRun v reading w
   pub no_input : ReadsNothing v reading
 
--- Nothing more can be done for the service and the input of a connection that goes on: what it needs was tried, and then the
--- input.
-pub record IsIdle (v w : View) : Type 0 where
+-- Nothing more can be done for the service and the input of a connection that goes on: what it needs was tried, in at most so many
+-- steps, and then the input.
+pub record IsIdle (most : ℕ) (v w : View) : Type 0 where
   pub served : List Step
   pub between : View
   pub serves : IsRun v served between
   pub go_on : AllContinue served
   pub needs : Needs between between.stage served
+  pub few : length served ≤ most
   pub input : IsReadIdle between w
 
--- the connection closes, and can't tell its end: what is left waits to be written
+-- the connection closes, and can't tell its end: what is left waits to be written, and may be
 pub record IsHeld (v w : View) : Type 0 where
   pub stays : w ≡ v
   pub closing : closes v ≡ true
   pub next : allows_next v ≡ false
+  pub may_write : allows v (on.write 0) ≡ true
 
 -- nothing more can be done while the connection goes on: its writing waits, and then all else
 pub record IsStuckRunning (v w : View) : Type 0 where
@@ -162,7 +168,7 @@ pub record IsStuckRunning (v w : View) : Type 0 where
   pub after : View
   pub writes : IsRun v writing after
   pub no_output : Writes v writing
-  pub waits : IsHeld after w ⊎ ((closes after ≡ false) × IsIdle after w)
+  pub waits : IsHeld after w ⊎ ((closes after ≡ false) × IsIdle 3 after w)
 
 -- the connection has ended, and the transport isn't shut down yet
 pub record IsStuckShutting (v w : View) : Type 0 where
@@ -175,47 +181,73 @@ IsStuck v w = IsStuckRunning v w ⊎ IsStuckShutting v w
 
 -- ---- turns
 
--- after some steps, of which so many are progress, it goes on
-pub record Progress (v w : View) (n : ℕ) : Type 0 where
+-- after some steps, no more than so many, of which n are progress, it goes on
+pub record Progress (v w : View) (n most : ℕ) : Type 0 where
   pub steps : List Step
   pub run : IsRun v steps w
   pub go_on : AllContinue steps
   pub enough : n ≤ progress steps
+  pub few : length steps ≤ most
 
--- after some steps it ends
-pub record Ends (v w : View) (result : Result Unit UpgradeError) : Type 0 where
+-- after some steps, no more than so many, it ends
+pub record Ends (v w : View) (most : ℕ) (result : Result Unit UpgradeError) : Type 0 where
   pub steps : List Step
   pub run : IsRun v steps w
   pub ended : Ended w steps result
+  pub few : length steps ≤ most
 
+-- the transport was given what waits to be written in the first of these steps, or nothing waits that may be written
+abbrev pub WritesFirst : View → List Step → Type 0
+WritesFirst v steps = HasNoOutput v ⊎ ((answer : Poll (Result ℕ Failed)) × (rest : List Step) × (steps ≡ written answer ∷ rest))
+
+-- a turn, of at most four steps: the transport took nothing, a call was begun and answered, and its answer sent
 abbrev pub TurnSays : View → View → UpgradeTurn → Type 0
-TurnSays v w Counted = Progress v w 1
+TurnSays v w Counted = (goes : Progress v w 1 4) × WritesFirst v goes.steps
 TurnSays v w Idle = IsStuck v w
-TurnSays v w (Over result) = Ends v w result
+TurnSays v w (Over result) = Ends v w 4 result
 
 -- after the writing
 abbrev pub AfterSays : View → View → UpgradeTurn → Type 0
-AfterSays v w Counted = Progress v w 1
-AfterSays v w Idle = IsHeld v w ⊎ ((closes v ≡ false) × IsIdle v w)
-AfterSays v w (Over result) = Ends v w result
+AfterSays v w Counted = Progress v w 1 3
+AfterSays v w Idle = IsHeld v w ⊎ ((closes v ≡ false) × IsIdle 3 v w)
+AfterSays v w (Over result) = Ends v w 3 result
 
--- where the connection doesn't close
-abbrev pub ServeSays : View → View → UpgradeTurn → Type 0
-ServeSays v w Counted = Progress v w 1
-ServeSays v w Idle = IsIdle v w
-ServeSays v w (Over result) = Ends v w result
+-- where the connection doesn't close, in at most so many steps
+abbrev pub ServeSays : ℕ → View → View → UpgradeTurn → Type 0
+ServeSays most v w Counted = Progress v w 1 most
+ServeSays most v w Idle = IsIdle most v w
+ServeSays most v w (Over result) = Ends v w most result
 
 -- where the input is read
 abbrev pub ReadingSays : View → View → UpgradeTurn → Type 0
-ReadingSays v w Counted = Progress v w 1
+ReadingSays v w Counted = Progress v w 1 1
 ReadingSays v w Idle = IsReadIdle v w
-ReadingSays v w (Over result) = Ends v w result
+ReadingSays v w (Over result) = Ends v w 1 result
+
+-- the end of the input was told
+pub record TellsEnd (v w : View) : Type 0 where
+  pub ended : v.input_ended ≡ true
+  pub allowed : allows v on.eof ≡ true
+  pub told : Goes v.traced on.eof (Is on.done) w.traced
+  pub same : w ≡ record v { traced = w.traced }
+
+-- where its end is to be told
+abbrev pub TellSays : View → View → UpgradeTurn → Type 0
+TellSays v w Counted = TellsEnd v w
+TellSays v w Idle = ⊥
+TellSays v w (Over result) = Ends v w 1 result
+
+-- where no frame is left: the input is read, or its end is told
+abbrev pub RestSays : View → View → UpgradeTurn → Type 0
+RestSays v w Counted = Progress v w 1 1 ⊎ TellsEnd v w
+RestSays v w Idle = IsReadIdle v w × ((v.input_ended ≡ false) ⊎ (allows v on.eof ≡ false))
+RestSays v w (Over result) = Ends v w 1 result
 
 -- where an event comes in any case
 abbrev pub EndSays : View → View → UpgradeTurn → Type 0
-EndSays v w Counted = Progress v w 1
+EndSays v w Counted = Progress v w 1 1
 EndSays v w Idle = ⊥
-EndSays v w (Over result) = Ends v w result
+EndSays v w (Over result) = Ends v w 1 result
 
 -- this holds where nothing more can be done
 abbrev pub OnIdle : UpgradeTurn → Type 0 → Type 0
@@ -260,20 +292,22 @@ abbrev pub BeginSays : {A E : Type 0} → View → ℕ → View → Result A E �
 BeginSays v moment w (Ok x) = IsBegun v moment w
 BeginSays v moment w (Err e) = BeginFails v moment w
 
--- the turns are pending where nothing more can be done, or where 64 events were noted and the task is woken
+-- The turns of a poll are at most 64, of at most four steps each. They are pending where nothing more can be done, or where 64 steps
+-- were progress, and then the task is woken; what waited to be written was given to the transport first.
 pub record IsSpent (v w : View) (cx : Context) : Type 0 where
-  pub goes : Progress v w 64
+  pub goes : Progress v w 64 (4 * 64)
+  pub first : WritesFirst v goes.steps
   pub woken : cx.is_woken ≡ true
 
 pub record Waits (v w : View) : Type 0 where
   pub turns : ℕ
   pub fewer : turns < 64
   pub last : View
-  pub goes : Progress v last turns
+  pub goes : Progress v last turns (4 * turns)
   pub stuck : IsStuck last w
 
 abbrev pub TurnsSay : View → View → Context → Poll (Result Unit UpgradeError) → Type 0
-TurnsSay v w cx (Ready result) = Ends v w result
+TurnsSay v w cx (Ready result) = Ends v w (4 * 64) result
 TurnsSay v w cx Pending = Waits v w ⊎ IsSpent v w cx
 
 -- memory ran out before the turns, or they came

@@ -1,5 +1,5 @@
 -- The steps of a dispatcher of an upgraded connection.
-use Rattle.std.specs.Prelude.{◌≡◌, ◌≤◌, ◌<◌, ◌⊎◌, ℕ, true, false, Option, Some, None, List, [], ◌∷◌, ◌++◌, length, take, ⊤, Result, Ok, Err}
+use Rattle.std.specs.Prelude.{◌≡◌, ◌≤◌, ◌<◌, ◌⊎◌, ℕ, zero, suc, Bool, true, false, Option, Some, None, List, [], ◌∷◌, ◌++◌, length, take, ⊤, Result, Ok, Err}
 use Rattle.futures.specs.declared.task.Poll.{Poll}
 use Rattle.futures.specs.declared.task.Poll.TheVariants.{Ready, Pending}
 use Rattle.http_config.specs.declared.Failed.{Failed}
@@ -12,7 +12,7 @@ use Rattle.model_state.specs.Local.{closing_by}
 use Rattle.model_h1.specs.Event as on
 use Rattle.h1_connection.specs.Heads.{SaysNext}
 use Rattle.h1_connection.specs.EventMeaning.{setting_of, end_of, SaysOutcome}
-use Rattle.h1_connection.specs.State.{Is}
+use Rattle.h1_connection.specs.State.{Is, TakesNoMemory}
 use Rattle.h1_connection.specs.Ticks.{expiry_of}
 use Rattle.h1_connection.specs.declared.connection.heads.NextHead.{NextHead}
 use Rattle.h1_connection.specs.declared.connection.ticks.Expiry.{Expiry}
@@ -30,7 +30,7 @@ use Rattle.ws_service.specs.declared.dispatcher.serve_frames.Given.TheVariants.{
 use Rattle.ws_service.specs.View.{View, Upgrading, Stage, free, waiting, calling, sending, with_drain, closes, allows, allows_next, allows_pull, buffered, room}
 
 -- A step. A moment came; the drain came; the transport was given what waits to be written; it was asked for bytes, and these came;
--- it was shut down; the connection closes, and told its end; the service was asked whether it takes a call, and takes none; it
+-- no frame was left, and the connection was told that the input has ended; the transport was shut down; the connection closes, and told its end; the service was asked whether it takes a call, and takes none; it
 -- takes one, and was called with this; its call was polled; the next frame was asked for; an answer was sent. Or memory ran
 -- out: for an event; for a message that was to be sent; for that of bytes which the transport took, or gave. Or it was asked to
 -- drain, which no poll does.
@@ -39,6 +39,7 @@ pub data Step : Type 0 where
   drained : Step
   written : (answer : Poll (Result ℕ Failed)) → Step
   read : (came : List ℕ) → (answer : Poll (Result ℕ Failed)) → Step
+  told_end : Step
   shut : (answer : Poll (Result Unit Failed)) → Step
   closed : (end : End) → Step
   ready : (answer : Poll (Result Unit Error)) → Step
@@ -49,16 +50,15 @@ pub data Step : Type 0 where
   failed : (event : on.Event) → Step
   unsent : (message : Message) → Step
   failed_write : (count : ℕ) → Step
-  failed_read : (came : List ℕ) → (event : on.Event) → Step
+  failed_read : (came : List ℕ) → Step
   asked_to_drain : Step
 
 -- ---- of the connection
 
--- the event came to the connection, was noted, and had such an outcome; its settings stay, and so does whether somebody listens
+-- the event came to the connection, was noted, and had such an outcome; its settings stay
 pub record Goes (old : TracedView) (event : on.Event) (Says : on.Outcome → Type 0) (new : TracedView) : Type 0 where
   pub steps : TracedSteps old event Says new
   pub settings : new.state.settings ≡ old.state.settings
-  pub listens : new.listens ≡ old.listens
 
 -- how it has ended after a tick
 abbrev pub ending_at : Expiry → Option Ending → Option Ending
@@ -79,16 +79,19 @@ Wrote old new (Ready (Ok n)) =
 Wrote old new (Ready (Err e)) = new ≡ old
 Wrote old new Pending = new ≡ old
 
--- bytes that came were read; of none, the input has ended
+-- bytes that came were read; that none come is told later
 abbrev pub Took : TracedView → TracedView → List ℕ → Poll (Result ℕ Failed) → Type 0
 Took old new came (Ready (Ok n)) =
-    ((n ≡ 0) × Goes old on.eof (Is on.done) new) ⊎ ((0 < n) × ((count : ℕ) × Goes old (on.read came) (Is (on.took count)) new))
+    ((n ≡ 0) × (new ≡ old)) ⊎ ((0 < n) × ((count : ℕ) × Goes old (on.read came) (Is (on.took count)) new))
 Took old new came (Ready (Err e)) = new ≡ old
 Took old new came Pending = new ≡ old
 
--- and so where they couldn't be noted
-abbrev pub IsOfRead : ℕ → List ℕ → on.Event → Type 0
-IsOfRead count came event = ((count ≡ 0) × (event ≡ on.eof)) ⊎ ((0 < count) × (event ≡ on.read came))
+-- a read of no byte shows the end of the input
+abbrev pub shows_end : Poll (Result ℕ Failed) → Bool
+shows_end (Ready (Ok zero)) = true
+shows_end (Ready (Ok (suc n))) = false
+shows_end (Ready (Err e)) = false
+shows_end Pending = false
 
 -- ---- of the service
 
@@ -140,15 +143,25 @@ pub record GoesOn (v : View) : Type 0 where
   pub running : v.ending ≡ None
   pub opened : closes v ≡ false
 
+-- the next frame was asked for, and none was there
+pub record FindsNone (v u : View) : Type 0 where
+  pub asked : Goes v.traced on.pull (SaysOutcome out.Pending) u.traced
+  pub same : u ≡ record v { traced = u.traced }
+
 -- ---- all
 
--- memory ran out for one of these, where it is allowed: the moment, the drain where it was asked for, the end of a connection
--- that closes, or the next frame
+-- memory may be wanted for this event: by who notes it, or by the connection
+abbrev pub WantsMemory : View → on.Event → Type 0
+WantsMemory v event = (v.listening ≡ true) ⊎ ¬ (TakesNoMemory v.traced.state event)
+
+-- Memory ran out for one of these, where it is allowed and may be wanted: the moment, the drain where it was asked for, the end of a
+-- connection that closes, the next frame, or the end of the input.
 abbrev pub MayFail : View → on.Event → Type 0
-MayFail v (on.tick moment) = allows v (on.tick moment) ≡ true
-MayFail v on.drain = (v.draining ≡ true) × (allows v on.drain ≡ true)
-MayFail v on.next = (v.ending ≡ None) × (closes v ≡ true) × (allows_next v ≡ true)
-MayFail v on.pull = (v.ending ≡ None) × (v.stage ≡ free) × (allows_pull v ≡ true)
+MayFail v (on.tick moment) = (allows v (on.tick moment) ≡ true) × WantsMemory v (on.tick moment)
+MayFail v on.drain = (v.draining ≡ true) × (allows v on.drain ≡ true) × (v.listening ≡ true)
+MayFail v on.next = (v.ending ≡ None) × (closes v ≡ true) × (allows_next v ≡ true) × (v.listening ≡ true)
+MayFail v on.pull = (v.ending ≡ None) × (v.stage ≡ free) × (allows_pull v ≡ true) × WantsMemory v on.pull
+MayFail v on.eof = (v.ending ≡ None) × (v.stage ≡ free) × (v.input_ended ≡ true) × (allows v on.eof ≡ true) × (v.listening ≡ true)
 MayFail v event = ⊥
 
 -- What a step takes, and what it leaves: all but what is named stays.
@@ -162,7 +175,12 @@ IsStep v (written answer) w =
 IsStep v (read came answer) w =
     (v.ending ≡ None) × (allows v on.eof ≡ true)
     × ((buf : List ℕ) × (0 < length buf) × (length buf ≤ room v) × (came ≡ moved answer buf) × ReadSays v.transport w.transport answer buf)
-    × Took v.traced w.traced came answer × (w ≡ record v { traced = w.traced; transport = w.transport })
+    × Took v.traced w.traced came answer
+    × (w ≡ record v { traced = w.traced; transport = w.transport; input_ended = shows_end answer }) × (v.input_ended ≡ false)
+IsStep v told_end w =
+    (v.ending ≡ None) × (v.stage ≡ free) × (v.input_ended ≡ true) × (allows_pull v ≡ true)
+    × ((between : View) × FindsNone v between × (allows between on.eof ≡ true) × Goes between.traced on.eof (Is on.done) w.traced)
+    × (w ≡ record v { traced = w.traced })
 IsStep v (shut answer) w =
     ((end : End) × (v.ending ≡ Some (Closed end))) × ShutSays v.transport w.transport answer × (w ≡ record v { transport = w.transport })
 IsStep v (closed end) w =
@@ -189,18 +207,17 @@ IsStep v (failed event) w = MayFail v event × TracedFails v.traced event w.trac
 IsStep v (unsent message) w =
     (v.ending ≡ None) × (v.stage ≡ sending message) × (allows v (on.send (message_says message)) ≡ true)
     × TracedFails v.traced (on.send (message_says message)) w.traced
-    × (w ≡ record v { traced = w.traced; stage = free; ending = Some Broken })
+    × (w ≡ record v { traced = w.traced; stage = free; ending = Some Broken }) × WantsMemory v (on.send (message_says message))
 IsStep v (failed_write count) w =
     (v.ending ≡ None) × ((front : List ℕ) × IsFront v front × WriteSays {E = Failed} v.transport w.transport (Ready (Ok count)) front)
     × TracedFails v.traced (on.write count) w.traced
-    × (w ≡ record v { traced = w.traced; transport = w.transport; ending = Some Broken })
-    × ¬ (v.traced.listens ≡ false)
-IsStep v (failed_read came event) w =
+    × (w ≡ record v { traced = w.traced; transport = w.transport; ending = Some Broken }) × (v.listening ≡ true)
+IsStep v (failed_read came) w =
     (v.ending ≡ None) × (allows v on.eof ≡ true)
     × ((buf : List ℕ) × (count : ℕ) × (0 < length buf) × (length buf ≤ room v) × (came ≡ take count buf)
-    × ReadSays {E = Failed} v.transport w.transport (Ready (Ok count)) buf × IsOfRead count came event)
-    × TracedFails v.traced event w.traced
-    × (w ≡ record v { traced = w.traced; transport = w.transport; ending = Some Broken })
+    × ReadSays {E = Failed} v.transport w.transport (Ready (Ok count)) buf × (0 < count))
+    × TracedFails v.traced (on.read came) w.traced
+    × (w ≡ record v { traced = w.traced; transport = w.transport; ending = Some Broken }) × (v.input_ended ≡ false)
 IsStep v asked_to_drain w = w ≡ with_drain v
 
 -- one step after another

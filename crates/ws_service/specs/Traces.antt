@@ -23,7 +23,7 @@ abbrev pub IsNoted : Step → Type 0
 IsNoted (failed event) = ⊥
 IsNoted (unsent message) = ⊥
 IsNoted (failed_write count) = ⊥
-IsNoted (failed_read came event) = ⊥
+IsNoted (failed_read came) = ⊥
 IsNoted step = ⊤
 
 abbrev pub AllNoted : List Step → Type 0

@@ -5,6 +5,7 @@ use Rattle.http_types.specs.declared.error.Error.{Error}
 use Rattle.http_services.specs.Serving.{Serving, Calling}
 use Rattle.http_transport.specs.Wiring.{Wiring}
 use Rattle.ws_frames.specs.declared.message.Message.{Message}
+use Rattle.model_state.specs.Kept.{is_upgraded}
 use Rattle.model_state.specs.Local.{closing_by, allowed_by}
 use Rattle.model_h1.specs.Event as on
 use Rattle.model_h1.specs.Frame as said
@@ -49,31 +50,44 @@ stage_of (Waiting item) = waiting item
 stage_of (Called call) = calling
 stage_of (Sending message) = sending message
 
--- The connection with the steps that were noted; the transport; the service, and how far it is; how the connection has ended; and
--- that it is to be drained.
+-- The connection with the steps that were noted, and whether who notes them listens; the transport; the service, and how far it is;
+-- how the connection has ended; that it is to be drained; and that the transport has shown the end of the input.
 pub record View : Type 0 where
   pub traced : TracedView
+  pub listening : Bool
   pub transport : Wiring
   pub service : Upgrading
   pub stage : Stage
   pub ending : Option Ending
   pub draining : Bool
+  pub input_ended : Bool
 
 abbrev pub view_of : {T U C L : Type 0} → (T → Wiring) → (U → Upgrading) → (L → Option (List Pair)) → (L → Bool) → UpgradeDispatcher T U C L → View
-view_of wiring served noted listening d =
+view_of wiring served noted is_listening d =
     record {
-      traced = traced_of noted listening d.traced;
+      traced = traced_of noted is_listening d.traced;
+      listening = is_listening d.traced.recorder;
       transport = wiring d.transport;
       service = served d.service;
       stage = stage_of d.work;
       ending = d.ending;
       draining = d.is_draining;
+      input_ended = d.is_input_ended;
     }
 
 -- a new one, which has this request to give to the service
-abbrev pub view_begun : RequestParts Unit Unit → TracedView → Wiring → Upgrading → View
-view_begun request traced transport service =
-    record { traced = traced; transport = transport; service = service; stage = waiting (items.Open request); ending = None; draining = false }
+abbrev pub view_begun : RequestParts Unit Unit → TracedView → Bool → Wiring → Upgrading → View
+view_begun request traced listening transport service =
+    record {
+      traced = traced;
+      listening = listening;
+      transport = transport;
+      service = service;
+      stage = waiting (items.Open request);
+      ending = None;
+      draining = false;
+      input_ended = false;
+    }
 
 -- the same, to be drained
 abbrev pub with_drain : View → View
@@ -134,6 +148,10 @@ room v = v.traced.state.settings.h1_hold_size - length v.traced.state.kept.unrea
 abbrev pub HasNoOutput : View → Type 0
 HasNoOutput v = (length (buffered v) ≡ 0) ⊎ (allows v (on.write 0) ≡ false)
 
--- no byte may be read, or none held
+-- no byte may be read, or none held, or none comes any more
 abbrev pub HasNoInput : View → Type 0
-HasNoInput v = (allows v on.eof ≡ false) ⊎ (room v ≡ 0)
+HasNoInput v = (allows v on.eof ≡ false) ⊎ ((room v ≡ 0) ⊎ (v.input_ended ≡ true))
+
+-- the connection doesn't speak WebSocket, or nothing is allowed any more
+abbrev pub IsForeign : View → Type 0
+IsForeign v = (is_upgraded v.traced.state.kept ≡ false) ⊎ (v.traced.state.kept.is_over ≡ true)

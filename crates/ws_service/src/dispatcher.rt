@@ -63,6 +63,7 @@ pub struct UpgradeDispatcher<T, U, C, L> {
     work: Work<C>,
     ending: Option<Ending>,
     is_draining: bool,
+    is_input_ended: bool,
 }
 
 impl<T, U, L> UpgradeDispatcher<T, U, U::Call, L>
@@ -73,13 +74,14 @@ where
 {
     /// Takes over a connection of which the upgrade that this request asked for was accepted. The answer that says so may
     /// wait to be written still, and so may bytes that came behind the request wait to be read as frames. It takes no memory.
+    /// Over a connection that wasn't upgraded, or has ended, each poll fails with `NotUpgraded`.
     pub fn new(
         request: Request<(), ()>,
         traced: Traced<L>,
         transport: T,
         service: U,
     ) -> UpgradeDispatcher<T, U, U::Call, L>
-        ensures view { view_of T.wiring U.served L.noted L.is_listening result ≡ view_begun request (traced_of L.noted L.is_listening traced) (T.wiring transport) (U.served service) }
+        ensures view { view_of T.wiring U.served L.noted L.is_listening result ≡ view_begun request (traced_of L.noted L.is_listening traced) (L.is_listening traced.recorder) (T.wiring transport) (U.served service) }
         ensures open { MayBePolled U.calling result }
     {
         UpgradeDispatcher {
@@ -89,11 +91,12 @@ where
             work: Work::Waiting(UpgradeItem::Open(request)),
             ending: None,
             is_draining: false,
+            is_input_ended: false,
         }
     }
 
-    /// Has the connection end: an upgraded one drains at once. The next poll tells it so, unless it closes by then. What the
-    /// service has said is written before, and what it hasn't said is not waited for.
+    /// Has the connection end: an upgraded one drains at once. The next poll tells it so, unless it closes by then. The answers
+    /// that were sent are written before. One that waits for room is given up, and so is one that the service hasn't given yet.
     pub fn drain(&mut self)
         ensures view { view_of T.wiring U.served L.noted L.is_listening self.new ≡ with_drain (view_of T.wiring U.served L.noted L.is_listening self.old) }
         ensures open { MayBePolled U.calling self.old → MayBePolled U.calling self.new }

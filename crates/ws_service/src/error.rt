@@ -17,6 +17,10 @@ pub enum UpgradeError {
     #[error("the end of the connection took too long")]
     DisconnectTimeout,
 
+    /// The connection doesn't speak WebSocket, or had ended before it was handed over.
+    #[error("the connection was not upgraded")]
+    NotUpgraded,
+
     /// There was no memory.
     #[error("no memory is left")]
     NoMemory,

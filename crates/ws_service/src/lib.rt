@@ -30,6 +30,6 @@ pub use error::UpgradeError;
 pub use h1_connection::{Frame, Message, ReceivedFrame};
 pub use item::UpgradeItem;
 pub use laws::{
-    frames_go_in_order, nothing_is_read_while_it_closes, polls_are_runs, polls_end_by_their_cause,
-    runs_are_traces, runs_lack_what_they_take, runs_note_traces,
+    an_upgraded_connection_stays_so, frames_go_in_order, nothing_is_read_while_it_closes, polls_are_runs, polls_end_by_their_cause,
+    runs_are_traces, runs_note_traces, the_end_is_told_behind_all_frames,
 };

@@ -1,9 +1,9 @@
 //! The service is asked, and its input is read.
 ghost use Rattle.std.specs.Prelude.{◌≡◌, ◌⊎◌, true, false, is_some};
 ghost use Rattle.futures.specs.Task.{IsArmed, Keeps};
-ghost use Rattle.ws_dispatcher.specs.View.{view_of, IsSent};
+ghost use Rattle.ws_dispatcher.specs.View.{view_of, IsSent, IsSettled};
 ghost use Rattle.ws_dispatcher.specs.Steps.{IsOpen, Unwritten};
-ghost use Rattle.ws_dispatcher.specs.Polls.{MayBePolled, IsSettled, OnIdle, ServeSays, read_error};
+ghost use Rattle.ws_dispatcher.specs.Polls.{MayBePolled, OnIdle, ServeSays, read_error};
 
 use super::dispatcher::{Dispatcher, End, Turn};
 use super::queue::Message;
@@ -52,6 +52,7 @@ where
         requires open { MayBePolled S.calling self.old }
         requires is_open { IsOpen (view_of T.wiring S.served self.old) }
         requires calling { is_some self.old.call ≡ true }
+        requires settled { IsSettled (view_of T.wiring S.served self.old) }
         ensures says { ServeSays U.reads U.given U.nothing U.breaks U.Decoder.lacks U.seen U.Decoder.leaves U.writes (Unwritten U.refuses U.Encoder.lacks U.Encoder.leaves) (view_of T.wiring S.served self.old) (view_of T.wiring S.served self.new) cx.new result }
         ensures open { MayBePolled S.calling self.new }
         ensures registered { OnIdle result (IsArmed cx.new) }
@@ -85,13 +86,14 @@ where
         requires is_open { IsOpen (view_of T.wiring S.served self.old) }
         requires calling { is_some self.old.call ≡ false }
         requires waiting { is_some self.old.waiting ≡ true }
+        requires settled { IsSettled (view_of T.wiring S.served self.old) }
         ensures says { ServeSays U.reads U.given U.nothing U.breaks U.Decoder.lacks U.seen U.Decoder.leaves U.writes (Unwritten U.refuses U.Encoder.lacks U.Encoder.leaves) (view_of T.wiring S.served self.old) (view_of T.wiring S.served self.new) cx.new result }
         ensures open { MayBePolled S.calling self.new }
         ensures registered { OnIdle result (IsArmed cx.new) }
         ensures kept { Keeps cx.old cx.new }
     {
         match self.service.poll_ready(cx) {
-            Poll::Pending => Turn::Idle,
+            Poll::Pending => Turn::Idle, // The service wakes the task.
             Poll::Ready(Err(error)) => {
                 self.end = End::Failed(error);
                 Turn::Counted
@@ -113,6 +115,7 @@ where
         requires calling { is_some self.old.call ≡ false }
         requires waiting { is_some self.old.waiting ≡ false }
         requires goes_on { self.old.ended ≡ false }
+        requires settled { IsSettled (view_of T.wiring S.served self.old) }
         ensures says { ServeSays U.reads U.given U.nothing U.breaks U.Decoder.lacks U.seen U.Decoder.leaves U.writes (Unwritten U.refuses U.Encoder.lacks U.Encoder.leaves) (view_of T.wiring S.served self.old) (view_of T.wiring S.served self.new) cx.new result }
         ensures open { MayBePolled S.calling self.new }
         ensures registered { OnIdle result (IsArmed cx.new) }

@@ -1,9 +1,9 @@
 //! What is queued is written and sent.
 ghost use Rattle.std.specs.Prelude.{IsTrue, ◌↔◌};
 ghost use Rattle.futures.specs.Task.{IsArmed, Keeps};
-ghost use Rattle.ws_dispatcher.specs.View.{view_of, IsSent};
+ghost use Rattle.ws_dispatcher.specs.View.{view_of, IsSent, IsSettled};
 ghost use Rattle.ws_dispatcher.specs.Steps.{IsOpen, Unwritten};
-ghost use Rattle.ws_dispatcher.specs.Polls.{MayBePolled, IsSettled, OnIdle, TurnSays};
+ghost use Rattle.ws_dispatcher.specs.Polls.{MayBePolled, OnIdle, TurnSays};
 
 use super::dispatcher::{Dispatcher, End, Turn};
 use super::queue::Message;
@@ -92,7 +92,7 @@ where
 
     /// Whether nothing more can be buffered.
     fn is_settled(&self) -> bool
-        ensures { IsTrue result → IsSettled (view_of T.wiring S.served self.now) }
+        ensures { IsTrue result ↔ IsSettled (view_of T.wiring S.served self.now) }
     {
         self.queue.is_empty() || self.framed.is_write_buf_full()
     }

@@ -25,10 +25,11 @@ where
     /// connection.
     ///
     /// The moment is told to the connection, and then the drain, where it was asked for and is allowed. Then come at most 64
-    /// turns, each of which does the first of these that is possible: what waits is written; a connection that closes tells its
-    /// end, and the transport is shut down; an answer that waits is sent, where there is room; the call in progress is polled; the
-    /// service is called with what waits for it; the next frame is asked for; the input is read. While it closes nothing is
-    /// read, asked for or sent, and the service isn't called or polled.
+    /// turns, of at most four steps each, each of which does the first of these that is possible: what waits is written; a
+    /// connection that closes tells its end, and the transport is shut down; an answer that waits is sent, where there is room; the
+    /// call in progress is polled; the service is called with what waits for it; the next frame is asked for; the input is read, or
+    /// its end is told, once that has come and no frame is left. While it closes nothing is read, asked for or sent, and the service
+    /// isn't called or polled.
     ///
     /// It is pending where all that is needed is pending, or where its turns are spent: then the task is woken.
     ///
@@ -36,7 +37,7 @@ where
     ///
     /// `Upgrade` where the service failed: an item that it wasn't ready for waits still, and after a call that failed the next
     /// frame is asked for where it is polled again. `Io` where the transport failed. `DisconnectTimeout` where the peer took too long
-    /// to take what was left. `NoMemory` where memory ran out: what was noted is a trace still, and the last step may not have
+    /// to take what was left. `NotUpgraded` where the connection wasn't upgraded, or had ended before. `NoMemory` where memory ran out: what was noted is a trace still, and the last step may not have
     /// been noted. From then on each poll answers `NoMemory` and does nothing.
     pub fn poll(&mut self, moment: u64, cx: &mut Context<'_>) -> Poll<Result<(), UpgradeError>>
         requires open { MayBePolled U.calling self.old }

@@ -1,5 +1,5 @@
 // The input is read.
-ghost use Rattle.std.specs.Prelude.{◌≡◌, ◌<◌, ◌≤◌, ℕ, List, None, true, length};
+ghost use Rattle.std.specs.Prelude.{◌≡◌, ◌<◌, ◌≤◌, ℕ, List, None, true, false, length};
 ghost use Rattle.futures.specs.Task.{IsArmed, Keeps};
 ghost use Rattle.model_h1.specs.Event as on;
 ghost use Rattle.ws_service.specs.View.{view_of, MayBePolled, allows, room};
@@ -23,7 +23,7 @@ where
     U: Service<UpgradeItem, Response = Message, Error = Error, Lent = ()>,
     L: Recorder,
 {
-    /// Reads as far as the input may be held, or else waits.
+    /// Reads as far as the input may be held, until its end has come, or else waits.
     pub(super) fn read(&mut self, is_armed: bool, cx: &mut Context<'_>) -> UpgradeTurn
         requires open { MayBePolled U.calling self.old }
         requires running { self.old.ending ≡ None }
@@ -33,6 +33,9 @@ where
         ensures registered { OnIdle result (IsArmed cx.new) }
         ensures kept { Keeps cx.old cx.new }
     {
+        if self.is_input_ended {
+            return wait(is_armed, cx);
+        }
         let room = self.traced.connection().read_room();
         if room == 0 {
             return wait(is_armed, cx);
@@ -51,6 +54,7 @@ where
         requires fits { length buf.old ≤ room (view_of T.wiring U.served L.noted L.is_listening self.old) }
         requires read { (bytes : List ℕ) → allows (view_of T.wiring U.served L.noted L.is_listening self.old) (on.read bytes) ≡ true }
         requires eof { allows (view_of T.wiring U.served L.noted L.is_listening self.old) on.eof ≡ true }
+        requires coming { self.old.is_input_ended ≡ false }
         ensures says { ReadingSays (view_of T.wiring U.served L.noted L.is_listening self.old) (view_of T.wiring U.served L.noted L.is_listening self.new) result }
         ensures open { MayBePolled U.calling self.new }
         ensures registered { OnIdle result (IsArmed cx.new) }
@@ -59,13 +63,10 @@ where
         match self.transport.poll_read(buf, cx) {
             Poll::Pending => UpgradeTurn::Idle,
             Poll::Ready(Err(Failed)) => UpgradeTurn::Over(Err(UpgradeError::Io)),
-            Poll::Ready(Ok(0)) => match self.traced.eof() {
-                Ok(()) => UpgradeTurn::Counted,
-                Err(_) => {
-                    self.ending = Some(Ending::Broken);
-                    UpgradeTurn::Over(Err(UpgradeError::NoMemory))
-                }
-            },
+            Poll::Ready(Ok(0)) => {
+                self.is_input_ended = true;
+                UpgradeTurn::Counted
+            }
             Poll::Ready(Ok(count)) => match self.traced.read(&buf[..count]) {
                 Ok(_) => UpgradeTurn::Counted,
                 Err(_) => {

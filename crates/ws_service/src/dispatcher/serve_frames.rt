@@ -1,10 +1,12 @@
 // The service is asked, its answer sent, and the next frame asked for.
 ghost use Rattle.std.specs.Prelude.{◌≡◌, None, true, false};
+ghost use Rattle.model_h1.specs.Event as on;
 ghost use Rattle.futures.specs.Task.{IsArmed, Keeps};
-ghost use Rattle.ws_service.specs.View.{view_of, stage_of, free, is_waiting, is_calling, is_sending, MayBePolled, closes, allows_pull, allows_send};
+ghost use Rattle.ws_service.specs.View.{view_of, stage_of, free, is_waiting, is_calling, is_sending, MayBePolled, closes, allows, allows_pull, allows_send};
 ghost use Rattle.ws_service.specs.Steps.{given_of};
-ghost use Rattle.ws_service.specs.Polls.{OnIdle, ServeSays, EndSays};
+ghost use Rattle.ws_service.specs.Polls.{OnIdle, ServeSays, RestSays, TellSays, EndSays};
 
+use crate::dispatcher::read::wait;
 use crate::dispatcher::{Ending, UpgradeDispatcher, UpgradeTurn, Work};
 use crate::error::UpgradeError;
 use crate::item::UpgradeItem;
@@ -35,49 +37,37 @@ where
     U: Service<UpgradeItem, Response = Message, Error = Error, Lent = ()>,
     L: Recorder,
 {
-    /// Goes on with the answer that waits, the call in progress, what waits for the service, or the next frame.
+    /// Goes on with the answer that waits, the call in progress, what waits for the service, or the next frame, where the
+    /// connection speaks WebSocket.
     pub(super) fn serve(&mut self, is_armed: bool, cx: &mut Context<'_>) -> UpgradeTurn
         requires open { MayBePolled U.calling self.old }
         requires running { self.old.ending ≡ None }
         requires goes_on { closes (view_of T.wiring U.served L.noted L.is_listening self.old) ≡ false }
         requires armed { is_armed ≡ true → IsArmed cx.old }
-        ensures says { ServeSays (view_of T.wiring U.served L.noted L.is_listening self.old) (view_of T.wiring U.served L.noted L.is_listening self.new) result }
+        ensures says { ServeSays 3 (view_of T.wiring U.served L.noted L.is_listening self.old) (view_of T.wiring U.served L.noted L.is_listening self.new) result }
         ensures open { MayBePolled U.calling self.new }
         ensures registered { OnIdle result (IsArmed cx.new) }
         ensures kept { Keeps cx.old cx.new }
     {
+        if !self.traced.connection().can_pull_frame() {
+            return UpgradeTurn::Over(Err(UpgradeError::NotUpgraded));
+        }
         match self.work {
-            Work::Free => self.pull(is_armed, cx),
+            Work::Free => self.pull_frame(is_armed, cx),
             Work::Waiting(_) => self.ask(is_armed, cx),
             Work::Calling(_) => self.answer(is_armed, cx),
             Work::Sending(_) => self.send(is_armed, cx),
         }
     }
 
-    /// Asks for the next frame, or else reads.
-    fn pull(&mut self, is_armed: bool, cx: &mut Context<'_>) -> UpgradeTurn
-        requires open { MayBePolled U.calling self.old }
-        requires running { self.old.ending ≡ None }
-        requires unasked { stage_of self.old.work ≡ free }
-        requires armed { is_armed ≡ true → IsArmed cx.old }
-        ensures says { ServeSays (view_of T.wiring U.served L.noted L.is_listening self.old) (view_of T.wiring U.served L.noted L.is_listening self.new) result }
-        ensures open { MayBePolled U.calling self.new }
-        ensures registered { OnIdle result (IsArmed cx.new) }
-        ensures kept { Keeps cx.old cx.new }
-    {
-        if !self.traced.connection().can_pull_frame() {
-            return self.read(is_armed, cx);
-        }
-        self.pull_frame(is_armed, cx)
-    }
-
+    /// Asks for the next frame.
     fn pull_frame(&mut self, is_armed: bool, cx: &mut Context<'_>) -> UpgradeTurn
         requires open { MayBePolled U.calling self.old }
         requires running { self.old.ending ≡ None }
         requires unasked { stage_of self.old.work ≡ free }
         requires allowed { allows_pull (view_of T.wiring U.served L.noted L.is_listening self.old) ≡ true }
         requires armed { is_armed ≡ true → IsArmed cx.old }
-        ensures says { ServeSays (view_of T.wiring U.served L.noted L.is_listening self.old) (view_of T.wiring U.served L.noted L.is_listening self.new) result }
+        ensures says { ServeSays 3 (view_of T.wiring U.served L.noted L.is_listening self.old) (view_of T.wiring U.served L.noted L.is_listening self.new) result }
         ensures open { MayBePolled U.calling self.new }
         ensures registered { OnIdle result (IsArmed cx.new) }
         ensures kept { Keeps cx.old cx.new }
@@ -88,9 +78,48 @@ where
                     self.work = Work::Waiting(UpgradeItem::Frame(frame));
                     UpgradeTurn::Counted
                 }
-                Given::Nothing => self.read(is_armed, cx),
+                Given::Nothing => self.rest(is_armed, cx),
                 Given::Other => UpgradeTurn::Counted,
             },
+            Err(_) => {
+                self.ending = Some(Ending::Broken);
+                UpgradeTurn::Over(Err(UpgradeError::NoMemory))
+            }
+        }
+    }
+
+    /// No whole frame is there: once the input has ended that is told, and until then it is read.
+    fn rest(&mut self, is_armed: bool, cx: &mut Context<'_>) -> UpgradeTurn
+        requires open { MayBePolled U.calling self.old }
+        requires running { self.old.ending ≡ None }
+        requires unasked { stage_of self.old.work ≡ free }
+        requires armed { is_armed ≡ true → IsArmed cx.old }
+        ensures says { RestSays (view_of T.wiring U.served L.noted L.is_listening self.old) (view_of T.wiring U.served L.noted L.is_listening self.new) result }
+        ensures open { MayBePolled U.calling self.new }
+        ensures registered { OnIdle result (IsArmed cx.new) }
+        ensures kept { Keeps cx.old cx.new }
+    {
+        if !self.is_input_ended {
+            return self.read(is_armed, cx);
+        }
+        if !self.traced.connection().can_read() {
+            return wait(is_armed, cx);
+        }
+        self.tell_input_end()
+    }
+
+    /// Tells the connection that no more bytes come.
+    fn tell_input_end(&mut self) -> UpgradeTurn
+        requires open { MayBePolled U.calling self.old }
+        requires running { self.old.ending ≡ None }
+        requires unasked { stage_of self.old.work ≡ free }
+        requires ended { self.old.is_input_ended ≡ true }
+        requires allowed { allows (view_of T.wiring U.served L.noted L.is_listening self.old) on.eof ≡ true }
+        ensures says { TellSays (view_of T.wiring U.served L.noted L.is_listening self.old) (view_of T.wiring U.served L.noted L.is_listening self.new) result }
+        ensures open { MayBePolled U.calling self.new }
+    {
+        match self.traced.eof() {
+            Ok(()) => UpgradeTurn::Counted,
             Err(_) => {
                 self.ending = Some(Ending::Broken);
                 UpgradeTurn::Over(Err(UpgradeError::NoMemory))
@@ -105,7 +134,7 @@ where
         requires goes_on { closes (view_of T.wiring U.served L.noted L.is_listening self.old) ≡ false }
         requires waits { is_waiting (stage_of self.old.work) ≡ true }
         requires armed { is_armed ≡ true → IsArmed cx.old }
-        ensures says { ServeSays (view_of T.wiring U.served L.noted L.is_listening self.old) (view_of T.wiring U.served L.noted L.is_listening self.new) result }
+        ensures says { ServeSays 3 (view_of T.wiring U.served L.noted L.is_listening self.old) (view_of T.wiring U.served L.noted L.is_listening self.new) result }
         ensures open { MayBePolled U.calling self.new }
         ensures registered { OnIdle result (IsArmed cx.new) }
         ensures kept { Keeps cx.old cx.new }
@@ -130,7 +159,7 @@ where
         requires goes_on { closes (view_of T.wiring U.served L.noted L.is_listening self.old) ≡ false }
         requires calls { is_calling (stage_of self.old.work) ≡ true }
         requires armed { is_armed ≡ true → IsArmed cx.old }
-        ensures says { ServeSays (view_of T.wiring U.served L.noted L.is_listening self.old) (view_of T.wiring U.served L.noted L.is_listening self.new) result }
+        ensures says { ServeSays 2 (view_of T.wiring U.served L.noted L.is_listening self.old) (view_of T.wiring U.served L.noted L.is_listening self.new) result }
         ensures open { MayBePolled U.calling self.new }
         ensures registered { OnIdle result (IsArmed cx.new) }
         ensures kept { Keeps cx.old cx.new }
@@ -157,7 +186,7 @@ where
         requires running { self.old.ending ≡ None }
         requires answered { is_sending (stage_of self.old.work) ≡ true }
         requires armed { is_armed ≡ true → IsArmed cx.old }
-        ensures says { ServeSays (view_of T.wiring U.served L.noted L.is_listening self.old) (view_of T.wiring U.served L.noted L.is_listening self.new) result }
+        ensures says { ServeSays 1 (view_of T.wiring U.served L.noted L.is_listening self.old) (view_of T.wiring U.served L.noted L.is_listening self.new) result }
         ensures open { MayBePolled U.calling self.new }
         ensures registered { OnIdle result (IsArmed cx.new) }
         ensures kept { Keeps cx.old cx.new }

@@ -100,7 +100,10 @@ where
         if self.traced.connection().can_next() {
             return self.tell_end(end);
         }
-        wait(is_armed, cx)
+        if self.traced.connection().can_write() {
+            return wait(is_armed, cx);
+        }
+        UpgradeTurn::Over(Err(UpgradeError::NotUpgraded))
     }
 
     fn tell_end(&mut self, end: End) -> UpgradeTurn

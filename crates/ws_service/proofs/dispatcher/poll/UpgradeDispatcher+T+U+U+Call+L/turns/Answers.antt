@@ -1,7 +1,6 @@
 use Rattle.std.proofs.Common.{rules, arith}
 use Rattle.ws_service.specs.View.{view_of}
-use Rattle.ws_service.proofs.Runs.{goes_none}
-use Rattle.ws_service.proofs.Turns.{turns_idle, turns_over, turns_on, turns_spent}
+use Rattle.ws_service.proofs.Turns.{no_turn, turns_idle, turns_over, turns_on, turns_spent}
 use Rattle.ws_service.proofs.dispatcher.poll.UpgradeDispatcher+T+U+U+Call+L.turns.Goals as goal
 
 pub returns-in-Idle-clause-says : goal.returns-in-Idle-clause-says
@@ -9,14 +8,14 @@ returns-in-Idle-clause-says g c =
     let v = view_of g.T.Transport.wiring g.U.Service.served g.L.Recorder.noted g.L.Recorder.is_listening c.args.self.now in
     let u = view_of g.T.Transport.wiring g.U.Service.served g.L.Recorder.noted g.L.Recorder.is_listening c.loop-turn.self in
     let w = view_of g.T.Transport.wiring g.U.Service.served g.L.Recorder.noted g.L.Recorder.is_listening c.turn.new.self in
-    turns_idle v u w c.turn.new.cx c.loop-turn.turn (search (rules, arith)) c.loop-turn.invariant.goes c.in-Idle.ensures.says
+    turns_idle v u w c.turn.new.cx c.loop-turn.turn (search (rules, arith)) c.loop-turn.invariant.goes.goes c.in-Idle.ensures.says
 
 pub returns-in-Over-clause-says : goal.returns-in-Over-clause-says
 returns-in-Over-clause-says g c =
     let v = view_of g.T.Transport.wiring g.U.Service.served g.L.Recorder.noted g.L.Recorder.is_listening c.args.self.now in
     let u = view_of g.T.Transport.wiring g.U.Service.served g.L.Recorder.noted g.L.Recorder.is_listening c.loop-turn.self in
     let w = view_of g.T.Transport.wiring g.U.Service.served g.L.Recorder.noted g.L.Recorder.is_listening c.turn.new.self in
-    turns_over v u w c.turn.new.cx c.loop-turn.turn c.in-Over.result c.loop-turn.invariant.goes c.in-Over.ensures.says
+    turns_over v u w c.turn.new.cx c.loop-turn.turn c.in-Over.result (search (rules, arith)) c.loop-turn.invariant.goes.goes c.in-Over.ensures.says
 
 pub loop-turn-preserved : goal.loop-turn-preserved
 loop-turn-preserved g c =
@@ -30,7 +29,7 @@ loop-turn-preserved g c =
     }
 
 pub loop-turn-init : goal.loop-turn-init
-loop-turn-init g c = record { goes = goes_none _; open_call = c.requires.open; kept = search rules }
+loop-turn-init g c = record { goes = no_turn _; open_call = c.requires.open; kept = search rules }
 
 pub returns-clause-says : goal.returns-clause-says
 returns-clause-says g c =

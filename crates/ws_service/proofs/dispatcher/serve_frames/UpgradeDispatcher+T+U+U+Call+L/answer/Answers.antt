@@ -1,4 +1,4 @@
-use Rattle.std.proofs.Common.{Ok, Err, [], refl, inr}
+use Rattle.std.proofs.Common.{Ok, Err, [], refl, inr, arith}
 use Rattle.futures.specs.declared.task.Poll.TheVariants.{Ready, Pending}
 use Rattle.ws_service.specs.declared.error.UpgradeError.TheVariants.{Upgrade}
 use Rattle.ws_service.specs.declared.dispatcher.Work.TheVariants.{Free, Calling, Sending}
@@ -14,7 +14,7 @@ returns-in-Pending-clause-says g c =
     let v = view_of g.T.Transport.wiring g.U.Service.served g.L.Recorder.noted g.L.Recorder.is_listening c.args.self.now in
     let u = view_of g.T.Transport.wiring g.U.Service.served g.L.Recorder.noted g.L.Recorder.is_listening (record c.args.self.now { service = c.poll_call.new.self; work = Calling c.poll_call.new.call }) in
     let w = view_of g.T.Transport.wiring g.U.Service.served g.L.Recorder.noted g.L.Recorder.is_listening c.read.new.self in
-    pending_then v u w (answered Pending) c.read.result
+    pending_then 2 (omega arith) v u w (answered Pending) c.read.result
     (record { running = c.requires.running; opened = c.requires.goes_on }, now_calling v.stage c.requires.calls, c.in-Pending.ensures.says, refl) tt
     ([], refl) c.read.ensures.says
 
@@ -23,7 +23,7 @@ returns-in-Ready-Ok-clause-says g c =
     let v = view_of g.T.Transport.wiring g.U.Service.served g.L.Recorder.noted g.L.Recorder.is_listening c.args.self.now in
     let u = view_of g.T.Transport.wiring g.U.Service.served g.L.Recorder.noted g.L.Recorder.is_listening (record c.args.self.now { service = c.poll_call.new.self; work = Sending c.in-Ready-Ok.message }) in
     let w = view_of g.T.Transport.wiring g.U.Service.served g.L.Recorder.noted g.L.Recorder.is_listening c.send.new.self in
-    step_then v u w (answered (Ready (Ok c.in-Ready-Ok.message))) c.send.result
+    step_then 1 2 (omega arith) v u w (answered (Ready (Ok c.in-Ready-Ok.message))) c.send.result
     (record { running = c.requires.running; opened = c.requires.goes_on }, now_calling v.stage c.requires.calls, rw c.in-Ready-Ok.field-0-is at c.in-Ready-Ok.ensures.says, refl) tt
     c.send.ensures.says
 
@@ -31,6 +31,6 @@ pub returns-in-Ready-Err-clause-says : goal.returns-in-Ready-Err-clause-says
 returns-in-Ready-Err-clause-says g c =
     let v = view_of g.T.Transport.wiring g.U.Service.served g.L.Recorder.noted g.L.Recorder.is_listening c.args.self.now in
     let w = view_of g.T.Transport.wiring g.U.Service.served g.L.Recorder.noted g.L.Recorder.is_listening (record c.args.self.now { service = c.poll_call.new.self; work = Free }) in
-    ends_by v w (answered (Ready (Err c.in-Ready-Err.error))) (Err (Upgrade c.in-Ready-Err.error))
+    ends_by 2 (omega arith) v w (answered (Ready (Err c.in-Ready-Err.error))) (Err (Upgrade c.in-Ready-Err.error))
     (record { running = c.requires.running; opened = c.requires.goes_on }, now_calling v.stage c.requires.calls, rw c.in-Ready-Err.field-0-is at c.in-Ready-Err.ensures.says, refl)
     (inr ([], refl, tt))

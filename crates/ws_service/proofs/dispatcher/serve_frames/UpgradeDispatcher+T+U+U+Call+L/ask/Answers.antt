@@ -1,4 +1,4 @@
-use Rattle.std.proofs.Common.{Err, [], refl, sym, ap, ◌∙◌, inl}
+use Rattle.std.proofs.Common.{Err, [], refl, sym, ap, ◌∙◌, inl, arith}
 use Rattle.futures.specs.declared.task.Poll.TheVariants.{Ready, Pending}
 use Rattle.ws_service.specs.declared.error.UpgradeError.TheVariants.{Upgrade}
 use Rattle.ws_service.specs.declared.dispatcher.Work.TheVariants.{Calling}
@@ -15,7 +15,7 @@ returns-in-Pending-clause-says g c =
     let u = view_of g.T.Transport.wiring g.U.Service.served g.L.Recorder.noted g.L.Recorder.is_listening (record c.args.self.now { service = c.poll_ready.new.self }) in
     let w = view_of g.T.Transport.wiring g.U.Service.served g.L.Recorder.noted g.L.Recorder.is_listening c.read.new.self in
     let item = now_waiting v.stage c.requires.waits in
-    pending_then v u w (ready Pending) c.read.result
+    pending_then 3 (omega arith) v u w (ready Pending) c.read.result
     (record { running = c.requires.running; opened = c.requires.goes_on }, item, tt, c.in-Pending.ensures.says, refl) tt
     (needs_ready u u.stage item.0 item.1) c.read.ensures.says
 
@@ -23,7 +23,7 @@ pub returns-in-Ready-Err-clause-says : goal.returns-in-Ready-Err-clause-says
 returns-in-Ready-Err-clause-says g c =
     let v = view_of g.T.Transport.wiring g.U.Service.served g.L.Recorder.noted g.L.Recorder.is_listening c.args.self.now in
     let w = view_of g.T.Transport.wiring g.U.Service.served g.L.Recorder.noted g.L.Recorder.is_listening (record c.args.self.now { service = c.poll_ready.new.self }) in
-    ends_by v w (ready (Ready (Err c.in-Ready-Err.error))) (Err (Upgrade c.in-Ready-Err.error))
+    ends_by 3 (omega arith) v w (ready (Ready (Err c.in-Ready-Err.error))) (Err (Upgrade c.in-Ready-Err.error))
     (record { running = c.requires.running; opened = c.requires.goes_on }, now_waiting v.stage c.requires.waits, tt, rw c.in-Ready-Err.field-0-is at c.in-Ready-Err.ensures.says, refl)
     (inl ([], refl, tt))
 
@@ -32,7 +32,7 @@ returns-in-Waiting-clause-says g c =
     let v = view_of g.T.Transport.wiring g.U.Service.served g.L.Recorder.noted g.L.Recorder.is_listening c.args.self.now in
     let u = view_of g.T.Transport.wiring g.U.Service.served g.L.Recorder.noted g.L.Recorder.is_listening (record c.args.self.now { service = c.call.new.self; work = Calling c.call.result }) in
     let w = view_of g.T.Transport.wiring g.U.Service.served g.L.Recorder.noted g.L.Recorder.is_listening c.answer.new.self in
-    step_then v u w (called c.in-Waiting.item) c.answer.result (
+    step_then 2 3 (omega arith) v u w (called c.in-Waiting.item) c.answer.result (
       record { running = c.requires.running; opened = c.requires.goes_on },
       ap (λ x. stage_of x) (sym c.replace.ensures.value ∙ c.in-Waiting.is),
       record { between = g.U.Service.served c.poll_ready.new.self; is_ready = rw c.in-Ready-Ok.field-0-is at c.in-Ready-Ok.ensures.says; begun = c.call.ensures.says },

@@ -1,13 +1,12 @@
-use Rattle.std.proofs.Common.{Some, Ok, Err, [], refl, inl, inr, arith}
-use Rattle.std.proofs.lemmas.Bool.{false≢true}
+use Rattle.std.proofs.Common.{Some, Err, [], refl, inl, inr, arith}
 use Rattle.futures.specs.declared.task.Poll.TheVariants.{Ready}
 use Rattle.ws_service.specs.declared.error.UpgradeError.TheVariants.{Io}
 use Rattle.ws_service.specs.declared.dispatcher.Ending.TheVariants.{Broken}
 use Rattle.ws_service.specs.View.{view_of}
 use Rattle.ws_service.specs.Steps.{written, failed_write}
-use Rattle.ws_service.proofs.Runs.{goes_by, ends_by, lacks}
-use Rattle.ws_service.proofs.Moves.{offered, bounded}
-use Rattle.ws_service.proofs.Turns.{written_then}
+use Rattle.ws_service.proofs.Runs.{ends_by, lacks}
+use Rattle.ws_service.proofs.Moves.{unchanged, heard, offered, bounded}
+use Rattle.ws_service.proofs.Turns.{written_then, wrote_first}
 use Rattle.ws_service.proofs.dispatcher.write.UpgradeDispatcher+T+U+U+Call+L.give.Goals as goal
 
 pub returns-in-Pending-clause-says : goal.returns-in-Pending-clause-says
@@ -23,7 +22,7 @@ returns-in-Ready-Err-clause-says g c =
     let v = view_of g.T.Transport.wiring g.U.Service.served g.L.Recorder.noted g.L.Recorder.is_listening c.args.self.now in
     let w = view_of g.T.Transport.wiring g.U.Service.served g.L.Recorder.noted g.L.Recorder.is_listening (record c.args.self.now { transport = c.poll_write.new.self }) in
     let front = offered v _ c.requires.some (rw c.connection.ensures at c.stretch.ensures.first) (rw c.connection.ensures at c.stretch.ensures.some) in
-    ends_by v w (written (Ready (Err c.in-Ready-Err.field-0-0))) (Err Io)
+    ends_by 4 (omega arith) v w (written (Ready (Err c.in-Ready-Err.field-0-0))) (Err Io)
     (c.requires.running, (_, front, rw c.in-Ready-Err.field-0-is at c.in-Ready-Err.ensures.says), refl, refl)
     (c.in-Ready-Err.field-0-0, inl ([], refl, tt))
 
@@ -33,14 +32,23 @@ returns-in-Ok-clause-says g c =
     let w = view_of g.T.Transport.wiring g.U.Service.served g.L.Recorder.noted g.L.Recorder.is_listening (record c.args.self.now { transport = c.poll_write.new.self; traced = c.advance.new.self }) in
     let front = offered v _ c.requires.some (rw c.connection.ensures at c.stretch.ensures.first) (rw c.connection.ensures at c.stretch.ensures.some) in
     let says = rw c.in-Ready-Ok.field-0-is at c.in-Ready-Ok.ensures.says in
-    goes_by v w (written (Ready (Ok c.in-Ready-Ok.count))) 1
-    (c.requires.running, (_, front, says), (bounded v _ c.in-Ready-Ok.count front says.bound, record { steps = c.in-Ok.ensures.stands; settings = c.advance.ensures.settings; listens = c.advance.ensures.listening }), refl) tt (omega arith)
+    wrote_first v w c.in-Ready-Ok.count (
+      c.requires.running,
+      (_, front, says),
+      (bounded v _ c.in-Ready-Ok.count front says.bound, record { steps = c.in-Ok.ensures.stands; settings = c.advance.ensures.settings }),
+      unchanged w v.listening c.advance.ensures.listening,
+    )
 
 pub returns-in-Err-clause-says : goal.returns-in-Err-clause-says
 returns-in-Err-clause-says g c =
     let v = view_of g.T.Transport.wiring g.U.Service.served g.L.Recorder.noted g.L.Recorder.is_listening c.args.self.now in
     let w = view_of g.T.Transport.wiring g.U.Service.served g.L.Recorder.noted g.L.Recorder.is_listening (record c.args.self.now { transport = c.poll_write.new.self; traced = c.advance.new.self; ending = Some Broken }) in
     let front = offered v _ c.requires.some (rw c.connection.ensures at c.stretch.ensures.first) (rw c.connection.ensures at c.stretch.ensures.some) in
-    lacks v w (failed_write c.in-Ready-Ok.count) refl
-    (c.requires.running, (_, front, rw c.in-Ready-Ok.field-0-is at c.in-Ready-Ok.ensures.says), c.in-Err.ensures.err, refl, λ unheard. false≢true (c.in-Err.ensures.no_memory_needed unheard))
+    lacks 4 (omega arith) v w (failed_write c.in-Ready-Ok.count) refl (
+      c.requires.running,
+      (_, front, rw c.in-Ready-Ok.field-0-is at c.in-Ready-Ok.ensures.says),
+      c.in-Err.ensures.err,
+      unchanged w v.listening c.advance.ensures.listening,
+      heard v.listening c.in-Err.ensures.no_memory_needed,
+    )
     (inr (inr (inl (c.in-Ready-Ok.count, ([], refl, tt)))))

@@ -4,6 +4,7 @@ use Rattle.ws_service.specs.declared.dispatcher.Ending.TheVariants.{Closed, Brok
 use Rattle.ws_service.specs.View.{view_of}
 use Rattle.ws_service.specs.Steps.{closed, failed}
 use Rattle.ws_service.proofs.Runs.{goes_by, lacks}
+use Rattle.ws_service.proofs.Moves.{unchanged, heard}
 use Rattle.ws_service.proofs.dispatcher.write.UpgradeDispatcher+T+U+U+Call+L.tell_end.Goals as goal
 use Rattle.ws_service.proofs.dispatcher.write.UpgradeDispatcher+T+U+U+Call+L.tell_end.Goals.{in-Ok, in-Err}
 
@@ -14,10 +15,16 @@ returns-clause-says g c =
       | in-Ok w ↦
           (let u = view_of g.T.Transport.wiring g.U.Service.served g.L.Recorder.noted g.L.Recorder.is_listening (record c.args.self.now { traced = c.next.new.self; ending = Some (Closed c.args.end) }) in
           rw (w.self-is, w.result-is)
-          (goes_by v u (closed c.args.end) 1
-          (c.requires.running, c.requires.closing, c.requires.allowed, (w.in-Ok.field-0, record { steps = w.in-Ok.ensures.stands; settings = c.next.ensures.settings; listens = c.next.ensures.listening }), refl) tt (omega arith)))
+          (goes_by 1 (omega arith) v u (closed c.args.end) 1
+          (c.requires.running, c.requires.closing, c.requires.allowed, (w.in-Ok.field-0, record { steps = w.in-Ok.ensures.stands; settings = c.next.ensures.settings }), unchanged u v.listening c.next.ensures.listening) tt (omega arith)))
       | in-Err w ↦
           (let u = view_of g.T.Transport.wiring g.U.Service.served g.L.Recorder.noted g.L.Recorder.is_listening (record c.args.self.now { traced = c.next.new.self; ending = Some Broken }) in
           rw (w.self-is, w.result-is)
-          (lacks v u (failed on.next) refl ((c.requires.running, ap is_some c.requires.closing, c.requires.allowed), w.in-Err.ensures.err, refl) (inl (on.next, tt, ([], refl, tt)))))
+          (lacks 1 (omega arith) v u (failed on.next) refl
+          (
+            (c.requires.running, ap is_some c.requires.closing, c.requires.allowed, heard v.listening (λ quiet. w.in-Err.ensures.no_memory_needed quiet (inl (ap is_some c.requires.closing)))),
+            w.in-Err.ensures.err,
+            unchanged u v.listening c.next.ensures.listening,
+          )
+          (inl (on.next, tt, ([], refl, tt)))))
     ]
