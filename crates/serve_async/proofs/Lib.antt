@@ -1,0 +1,2 @@
+mod Jobs
+pub mod Lives
