@@ -2,6 +2,7 @@
 ghost use Rattle.std.specs.Prelude.{◌≡◌, ◌≤◌, ◌+◌, ◌⊎◌, true, IfSome, max};
 ghost use Rattle.futures.specs.Poll.{OnPending};
 ghost use Rattle.futures.specs.Task.{Covers, Keeps};
+ghost use Rattle.net_sockets.specs.Moments.{last_moment};
 ghost use Rattle.serve_async.specs.Sources.{alarm_source, StandsBy};
 
 use crate::alarm::Alarm;
@@ -136,7 +137,7 @@ impl<J: Job, R: time::Clock> Serving<J, R> {
     fn wait(&mut self, moment: u64, cx: &mut Context<'_>) -> Poll<()>
         ensures registered { OnPending result (Covers cx.new (λ s. s ≡ alarm_source self.new.place.alarm)) }
         ensures stands { OnPending result ((cx.new.is_woken ≡ true) ⊎ StandsBy (J.due self.new.live.job) moment self.new.place.alarm) }
-        ensures live { self.new.live ≡ self.old.live }
+        ensures same { self.new ≡ record self.old { place = self.new.place; pace = self.new.pace } }
         ensures kept { Keeps cx.old cx.new }
     {
         let Some(at) = self.next(moment) else {
@@ -155,7 +156,11 @@ impl<J: Job, R: time::Clock + Drop> Future for Serving<J, R> {
 
     ghost needs = { λ s source. J.needs s.live.job source ⊎ (source ≡ alarm_source s.place.alarm) };
 
-    fn poll(&mut self, cx: &mut Context<'_>) -> Poll<()> {
+    fn poll(&mut self, cx: &mut Context<'_>) -> Poll<()>
+        ensures registered { OnPending result (Covers cx.new (λ s. J.needs self.new.live.job s ⊎ (s ≡ alarm_source self.new.place.alarm))) }
+        ensures stands { OnPending result ((cx.new.is_woken ≡ true) ⊎ StandsBy (J.due self.new.live.job) (last_moment self.new.clock) self.new.place.alarm) }
+        ensures kept { Keeps cx.old cx.new }
+    {
         self.hear(cx);
         let moment = self.clock.now_ms();
         if let Poll::Ready(()) = self.poll_job(moment, cx) {
