@@ -23,9 +23,10 @@ is_slow limits p moved = nat_lt p.counted moved && nat_lt (moved - p.counted) li
 abbrev pub seen_by : Pace → ℕ → ℕ → ℕ
 seen_by p moment moved = if nat_le moved p.moved then p.seen else moment
 
--- The peer is given up: no byte has moved for too long, or it is time to look and too few have.
+-- The peer is given up: no byte has moved for too long, or too few have where it is time to look.
 abbrev pub is_over : Limits → Pace → ℕ → ℕ → Bool
-is_over limits p moment moved = is_idle limits p moment moved || (is_to_look limits p moment && is_slow limits p moved)
+is_over limits p moment moved =
+    if is_to_look limits p moment then (is_idle limits p moment moved || is_slow limits p moved) else is_idle limits p moment moved
 
 -- after it was noted at this moment that so many bytes have moved
 abbrev pub noted : Limits → Pace → ℕ → ℕ → Pace

@@ -37,6 +37,7 @@ where
 
     ghost due = { λ j. due_of (view_of T.wiring S.served S.calling B.gives (λ _. None) j.dispatcher) };
 
+    #[tactic(auto, using(crate::proofs::Waiting::names_none))]
     fn poll(&mut self, moment: u64, cx: &mut Context<'_>) -> Poll<Result<(), DispatchError>> {
         self.dispatcher.poll(moment, cx)
     }

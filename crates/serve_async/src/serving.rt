@@ -134,6 +134,7 @@ impl<J: Job, R: time::Clock> Serving<J, R> {
     }
 
     // Waits until the job is to be polled. It is ready where the job is to be given up.
+    #[tactic(auto, using(crate::proofs::Waiting::stands_by))]
     fn wait(&mut self, moment: u64, cx: &mut Context<'_>) -> Poll<()>
         ensures registered { OnPending result (Covers cx.new (λ s. s ≡ alarm_source self.new.place.alarm)) }
         ensures stands { OnPending result ((cx.new.is_woken ≡ true) ⊎ StandsBy (J.due self.new.live.job) moment self.new.place.alarm) }
