@@ -56,7 +56,7 @@ fn main(rt: HostRuntime) -> ExitCode {
 // Serves by so many threads, or by this one, until all have ended.
 fn start<R>(rt: &R, host: HostRuntime, listener: &TcpListener, threads: u64) -> io::Result<bool>
 where
-    R: Threads + Wait + Clock + Net + RandomSource + AllocGlobal + Sync,
+    R: Threads + Wait + Clock + Net + RandomSource + AllocGlobal + Sync + Drop,
 {
     let stop = Stop::new(host.alloc())?;
     if let Some(input) = InputWatch::new(&host)? {

@@ -67,7 +67,7 @@ impl<'a, M, J, R> Door<'a, M, J, R>
 where
     M: Makes<TokioTransport<&'a R>, J>,
     J: Job,
-    R: time::Clock + AllocGlobal,
+    R: time::Clock + AllocGlobal + Drop,
 {
     /// The connections of this listener, until `stop` is told. The maker makes their jobs, and their timers are from this
     /// handle, which is that of the runtime that polls them.
@@ -234,7 +234,7 @@ impl<'a, M, J, R> Stream for Door<'a, M, J, R>
 where
     M: Makes<TokioTransport<&'a R>, J>,
     J: Job,
-    R: time::Clock + AllocGlobal,
+    R: time::Clock + AllocGlobal + Drop,
 {
     type Item = Serving<J, &'a R>;
 

@@ -38,7 +38,7 @@ pub fn serve<R, F, S, B>(
     stop: &Stop,
 ) -> io::Result<()>
 where
-    R: Wait + Clock + Net + RandomSource + AllocGlobal,
+    R: Wait + Clock + Net + RandomSource + AllocGlobal + Drop,
     F: Services<S>,
     S: Service<Request<(), ()>, Response = Response<B>, Error = Response<B>, Lent = Payload>,
     B: MessageBody,
@@ -62,7 +62,7 @@ pub fn serve_jobs<'a, R, M, J>(
     stop: &'a Stop,
 ) -> io::Result<()>
 where
-    R: Wait + Clock + Net + RandomSource + AllocGlobal,
+    R: Wait + Clock + Net + RandomSource + AllocGlobal + Drop,
     M: Makes<TokioTransport<&'a R>, J>,
     J: Job,
 {
@@ -89,7 +89,7 @@ fn run<'a, R, M, J>(
     stop: &'a Stop,
 ) -> io::Result<()>
 where
-    R: Wait + Clock + Net + RandomSource + AllocGlobal,
+    R: Wait + Clock + Net + RandomSource + AllocGlobal + Drop,
     M: Makes<TokioTransport<&'a R>, J>,
     J: Job,
 {
@@ -112,7 +112,7 @@ pub fn serve_by_threads<R, F, S, B>(
     stop: &Stop,
 ) -> bool
 where
-    R: Threads + Wait + Clock + Net + RandomSource + AllocGlobal + Sync,
+    R: Threads + Wait + Clock + Net + RandomSource + AllocGlobal + Sync + Drop,
     F: Services<S> + Sync,
     S: Service<Request<(), ()>, Response = Response<B>, Error = Response<B>, Lent = Payload>,
     B: MessageBody,

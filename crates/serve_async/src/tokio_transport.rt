@@ -124,12 +124,12 @@ impl<R: time::Clock> TokioTransport<R> {
         ensures armed { OnPending result (IsArmed cx.new) }
         ensures kept { Keeps cx.old cx.new }
     {
-        let Some(drain) = &mut self.drain else {
-            return self.begin_end(cx);
-        };
-        match drain.poll(&mut self.stream, cx) {
-            Poll::Pending => Poll::Pending,
-            Poll::Ready(()) => Poll::Ready(Ok(())),
+        match &mut self.drain {
+            None => self.begin_end(cx),
+            Some(drain) => match drain.poll(&mut self.stream, cx) {
+                Poll::Pending => Poll::Pending,
+                Poll::Ready(()) => Poll::Ready(Ok(())),
+            },
         }
     }
 
