@@ -1,0 +1,5 @@
+pub mod JobRuns
+pub mod Jobs
+pub mod Pace
+pub mod Sources
+pub mod Transports
