@@ -147,13 +147,7 @@ impl<R: time::Clock + Copy> MioWatch<R> {
             return self.fail();
         }
         self.given = self.given.saturating_add(1);
-        Ok(Some(MioTransport::new(
-            self.rt,
-            stream,
-            Some(peer),
-            input,
-            self.linger,
-        )))
+        Ok(Some(MioTransport::new(self.rt, stream, Some(peer), input, self.linger)))
     }
 
     /// A failure, which is counted.
