@@ -40,12 +40,15 @@ module _ {J : Type 0} (view : J → View) where
       acts_run (view first) (view job) (acts_of lives.leads.acts) (says_of first job lives.leads.acts lives.leads.runs) in
       let none : AreFrom (view first).peer (waits_in (view first).stage) =
       subst (λ (v : View). AreFrom v.peer (waits_in v.stage)) (sym new.is) tt in
-      let tells : TellsPeer (view first) run.steps (view job) = run_tells (view first) (view job) run.steps run.run none in
-      (first, new, record {
-        steps = run.steps;
-        run = run.run;
-        called = subst (λ (p : PeerAddress). AreFrom p (calls run.steps)) (ap (λ (v : View). v.peer) new.is) tells.called;
-      })
+      let tells : TellsPeer (view first) run.steps (view job) = run_tells (view first) (view job) run.steps run.run none in (
+        first,
+        new,
+        record {
+          steps = run.steps;
+          run = run.run;
+          called = subst (λ (p : PeerAddress). AreFrom p (calls run.steps)) (ap (λ (v : View). v.peer) new.is) tells.called;
+        },
+      )
 
   pub cause : (a b : J) (moment : ℕ) (output : Result Unit DispatchError) → jobs.EndsBy (Polls view) (Drains view) a moment output b → (v : View) × HasCause v (view b) output
   cause a b moment output ends = (view ends.0, poll_has (view ends.0) (view b) ends.2.0 moment output ends.2.1)

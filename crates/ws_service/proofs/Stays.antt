@@ -207,10 +207,10 @@ ticks v w moment expiry trace stands goes ending l =
     record {
       speaks = ap (λ (y : Kept). is_upgraded y) m.keeps ∙ ap (λ (y : Change). is_upgraded y.kept) m.changes ∙ expires_up set k (closing_by set k) first moment l.speaks;
       running = λ runs.
-      let still_runs = sym ending ∙ runs in
-      ap (λ (y : Kept). y.is_over) m.keeps ∙ ap (λ (y : Change). y.kept.is_over) m.changes
-      ∙ pick (expires_over set k (closing_by set k) first moment) (λ is. not_abandoned expiry v.ending still_runs (sym x.1 ∙ m.answers ∙ ap (λ (y : Change). y.outcome) m.changes ∙ is))
-      ∙ l.running (was_running expiry v.ending still_runs);
+          let still_runs = sym ending ∙ runs in
+          ap (λ (y : Kept). y.is_over) m.keeps ∙ ap (λ (y : Change). y.kept.is_over) m.changes
+          ∙ pick (expires_over set k (closing_by set k) first moment) (λ is. not_abandoned expiry v.ending still_runs (sym x.1 ∙ m.answers ∙ ap (λ (y : Change). y.outcome) m.changes ∙ is))
+          ∙ l.running (was_running expiry v.ending still_runs);
     }
 
 closes_so : (v w : View) (end : End) (Says : on.Outcome → Type 0) (ending : Ending) (trace : List sums.Step) → TracedStands v.traced trace
@@ -222,8 +222,8 @@ closes_so v w end Says ending trace stands closes goes ended l =
       speaks = ap (λ (y : Kept). is_upgraded y) x.2.machine.keeps
           ∙ ends_speaking set v.traced.state.kept (closing_by set v.traced.state.kept) end x.2.machine.change closes x.2.machine.changes l.speaks;
       running = λ runs.
-      let never = sym ended ∙ runs in
-      absurd (cc never);
+          let never = sym ended ∙ runs in
+          absurd (cc never);
     }
 
 tells : (v u w : View) (trace : List sums.Step) → TracedStands v.traced trace → FindsNone v u → Goes u.traced on.eof (Is on.done) w.traced → w.ending ≡ v.ending → IsLive v → IsLive w

@@ -30,6 +30,7 @@ pub use error::UpgradeError;
 pub use h1_connection::{Frame, Message, ReceivedFrame};
 pub use item::UpgradeItem;
 pub use laws::{
-    an_upgraded_connection_stays_so, frames_go_in_order, nothing_is_read_while_it_closes, polls_are_runs, polls_end_by_their_cause,
-    runs_are_traces, runs_note_traces, the_end_is_told_behind_all_frames,
+    an_upgraded_connection_stays_so, frames_go_in_order, nothing_is_read_while_it_closes,
+    polls_are_runs, polls_end_by_their_cause, runs_are_traces, runs_note_traces,
+    the_end_is_told_behind_all_frames,
 };

@@ -28,8 +28,7 @@ returns-in-Ok-None-clause-says g c =
 pub returns-in-Err-clause-says : goal.returns-in-Err-clause-says
 returns-in-Err-clause-says g c =
     let v = view_of g.T.Transport.wiring g.U.Service.served g.L.Recorder.noted g.L.Recorder.is_listening c.args.self.now in
-    let w = view_of g.T.Transport.wiring g.U.Service.served g.L.Recorder.noted g.L.Recorder.is_listening (record c.args.self.now { traced = c.tick.new.self; ending = Some Broken }) in
-    (
+    let w = view_of g.T.Transport.wiring g.U.Service.served g.L.Recorder.noted g.L.Recorder.is_listening (record c.args.self.now { traced = c.tick.new.self; ending = Some Broken }) in (
       (search rules, wanted (TakesNoMemory v.traced.state (on.tick c.args.moment)) v.listening c.in-Err.ensures.no_memory_needed),
       c.in-Err.ensures.err,
       unchanged w v.listening c.tick.ensures.listening,

@@ -20,8 +20,7 @@ returns-clause-says g c =
       | in-Err w ↦
           (let u = view_of g.T.Transport.wiring g.U.Service.served g.L.Recorder.noted g.L.Recorder.is_listening (record c.args.self.now { traced = c.next.new.self; ending = Some Broken }) in
           rw (w.self-is, w.result-is)
-          (lacks 1 (omega arith) v u (failed on.next) refl
-          (
+          (lacks 1 (omega arith) v u (failed on.next) refl (
             (c.requires.running, ap is_some c.requires.closing, c.requires.allowed, heard v.listening (λ quiet. w.in-Err.ensures.no_memory_needed quiet (inl (ap is_some c.requires.closing)))),
             w.in-Err.ensures.err,
             unchanged u v.listening c.next.ensures.listening,
