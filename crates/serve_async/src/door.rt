@@ -188,9 +188,8 @@ where
         ensures { MayGoOn result }
     {
         match kind {
-            ErrorKind::ConnectionAborted
-            | ErrorKind::ConnectionReset
-            | ErrorKind::Interrupted => Step::Open(permit),
+            ErrorKind::ConnectionAborted | ErrorKind::ConnectionReset | ErrorKind::Interrupted =>
+                Step::Open(permit),
             _ => {
                 set_pause(self.rt, &mut self.pause);
                 Step::Pausing(permit)

@@ -49,12 +49,7 @@ where
     B: MessageBody,
 {
     fn job(&self, connection: T) -> Served<T, S, S::Call, B> {
-        begin(
-            self.alloc,
-            connection,
-            self.services.service(),
-            self.config,
-        )
+        begin(self.alloc, connection, self.services.service(), self.config)
     }
 }
 
