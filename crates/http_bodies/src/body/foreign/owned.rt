@@ -192,12 +192,12 @@ impl MessageBody for CowSlice<'static, u8> {
     }
 
     fn try_into_bytes(self, _alloc: Global) -> Result<Bytes, CowSlice<'static, u8>>
-        ensures given { IfOk result (λ bytes. Some (cow_slice_items self) ≡ Some bytes) }
-        ensures all { IfOk result (λ bytes. AreAll (whole [] (holds_owned (cow_slice_items self)).coming) bytes) }
-        ensures same { IfErr result (λ body. holds_owned (cow_slice_items body) ≡ holds_owned (cow_slice_items self)) }
-        ensures same_hand { IfErr result (λ body. Some (cow_slice_items body) ≡ Some (cow_slice_items self)) }
-        ensures owned { OnErr result (IsOwnedSlice self) }
-        ensures cause { OnErr result ((Some (cow_slice_items self) ≡ None) ⊎ ((holds_owned (cow_slice_items self)).takes_memory ≡ true)) }
+        ensures given { IfOk result (λ bytes. Some (cow_slice_items self.entry) ≡ Some bytes) }
+        ensures all { IfOk result (λ bytes. AreAll (whole [] (holds_owned (cow_slice_items self.entry)).coming) bytes) }
+        ensures same { IfErr result (λ body. holds_owned (cow_slice_items body) ≡ holds_owned (cow_slice_items self.entry)) }
+        ensures same_hand { IfErr result (λ body. Some (cow_slice_items body) ≡ Some (cow_slice_items self.entry)) }
+        ensures owned { OnErr result (IsOwnedSlice self.entry) }
+        ensures cause { OnErr result ((Some (cow_slice_items self.entry) ≡ None) ⊎ ((holds_owned (cow_slice_items self.entry)).takes_memory ≡ true)) }
     {
         match self {
             CowSlice::Borrowed(bytes) => Ok(Bytes::from_static(bytes)),
@@ -245,12 +245,12 @@ impl MessageBody for CowStr<'static> {
     }
 
     fn try_into_bytes(self, _alloc: Global) -> Result<Bytes, CowStr<'static>>
-        ensures given { IfOk result (λ bytes. Some (cow_str_bytes self) ≡ Some bytes) }
-        ensures all { IfOk result (λ bytes. AreAll (whole [] (holds_owned (cow_str_bytes self)).coming) bytes) }
-        ensures same { IfErr result (λ body. holds_owned (cow_str_bytes body) ≡ holds_owned (cow_str_bytes self)) }
-        ensures same_hand { IfErr result (λ body. Some (cow_str_bytes body) ≡ Some (cow_str_bytes self)) }
-        ensures owned { OnErr result (IsOwnedStr self) }
-        ensures cause { OnErr result ((Some (cow_str_bytes self) ≡ None) ⊎ ((holds_owned (cow_str_bytes self)).takes_memory ≡ true)) }
+        ensures given { IfOk result (λ bytes. Some (cow_str_bytes self.entry) ≡ Some bytes) }
+        ensures all { IfOk result (λ bytes. AreAll (whole [] (holds_owned (cow_str_bytes self.entry)).coming) bytes) }
+        ensures same { IfErr result (λ body. holds_owned (cow_str_bytes body) ≡ holds_owned (cow_str_bytes self.entry)) }
+        ensures same_hand { IfErr result (λ body. Some (cow_str_bytes body) ≡ Some (cow_str_bytes self.entry)) }
+        ensures owned { OnErr result (IsOwnedStr self.entry) }
+        ensures cause { OnErr result ((Some (cow_str_bytes self.entry) ≡ None) ⊎ ((holds_owned (cow_str_bytes self.entry)).takes_memory ≡ true)) }
     {
         match self {
             CowStr::Borrowed(text) => Ok(Bytes::from_static(text.as_bytes())),
