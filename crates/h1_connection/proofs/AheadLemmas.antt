@@ -17,7 +17,7 @@ use Rattle.h1_decoder.specs.declared.scan.HeadScan.TheVariants.{Open, Piece}
 use Rattle.h1_connection.specs.Ahead.{read_as, counted_from, heads_in}
 use Rattle.h1_connection.specs.Scan.{scan_of}
 use Rattle.h1_connection.specs.Incoming.{Incoming, incoming, IsSearched}
-use Rattle.h1_connection.specs.declared.connection.input.Search.{Search}
+use Rattle.h1_connection.specs.declared.connection.head_search.Search.{Search}
 use Rattle.h1_connection.proofs.InputLemmas.{scan_is, cut_head, first_bytes}
 use Rattle.h1_connection.proofs.ScanLemmas.{scan_answers}
 

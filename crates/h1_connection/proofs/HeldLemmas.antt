@@ -8,8 +8,8 @@ use Rattle.model_state.specs.Kept.{Kept, is_free}
 use Rattle.h1_connection.specs.Incoming.{Incoming, incoming, IsSearched}
 use Rattle.h1_connection.specs.Parts.{kept_of, IsSound}
 use Rattle.h1_connection.specs.State.{State}
-use Rattle.h1_connection.specs.declared.connection.input.Search.{Search}
-use Rattle.h1_connection.specs.declared.connection.input.Search.TheVariants.{Off, Due, Done}
+use Rattle.h1_connection.specs.declared.connection.head_search.Search.{Search}
+use Rattle.h1_connection.specs.declared.connection.head_search.Search.TheVariants.{Off, Due, Done}
 use Rattle.h1_connection.specs.declared.connection.parts.Parts.{Parts}
 use Rattle.h1_connection.proofs.AnswerLemmas.{nothing_found}
 

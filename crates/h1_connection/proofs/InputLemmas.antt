@@ -14,9 +14,9 @@ use Rattle.h1_decoder.specs.HeadScan.{AnswersScan}
 use Rattle.h1_decoder.proofs.HeadPieceLemmas.{HasScanned-append, AnswersScan-found}
 use Rattle.h1_connection.specs.Scan.{scan_of}
 use Rattle.h1_connection.specs.Incoming.{Incoming, piece_of, incoming, IsFoundIn, IsHeadIn, IsHeadOf, IsPieceOf, IsSearchedTo, IsSearched, CanScan, CanGoOn, HasSearched, GoesOnTo, GoesOnIn, IsCaughtUp, IsWhole, IsPassedIn, IsPassedHead, is_coming_in}
-use Rattle.h1_connection.specs.declared.connection.input.Scan.{Scan}
-use Rattle.h1_connection.specs.declared.connection.input.Search.{Search}
-use Rattle.h1_connection.specs.declared.connection.input.Search.TheVariants.{Off, Due, Done}
+use Rattle.h1_connection.specs.declared.connection.head_search.Scan.{Scan}
+use Rattle.h1_connection.specs.declared.connection.head_search.Search.{Search}
+use Rattle.h1_connection.specs.declared.connection.head_search.Search.TheVariants.{Off, Due, Done}
 use Rattle.h1_connection.proofs.ScanLemmas.{scan_answers}
 
 -- ---- what a search finds

@@ -10,9 +10,9 @@ use Rattle.h1_decoder.specs.declared.decoder.HeadItem.{HeadItem}
 use Rattle.h1_decoder.specs.HeadPosition.{HeadPosition, HasScanned}
 use Rattle.h1_decoder.specs.HeadScan.{AnswersScan}
 use Rattle.h1_connection.specs.Scan.{scan_of}
-use Rattle.h1_connection.specs.declared.connection.input.Scan.{Scan}
-use Rattle.h1_connection.specs.declared.connection.input.Search.{Search}
-use Rattle.h1_connection.specs.declared.connection.input.Search.TheVariants.{Off, Due, Done}
+use Rattle.h1_connection.specs.declared.connection.head_search.Scan.{Scan}
+use Rattle.h1_connection.specs.declared.connection.head_search.Search.{Search}
+use Rattle.h1_connection.specs.declared.connection.head_search.Search.TheVariants.{Off, Due, Done}
 
 -- The bytes, and where the first head stands among them, where one is searched for.
 pub record Incoming : Type 0 where

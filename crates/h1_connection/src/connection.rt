@@ -53,6 +53,8 @@ mod deadlines;
 mod exchange;
 mod filling;
 mod frames;
+mod front_head;
+mod head_search;
 mod heads;
 mod input;
 mod intake;
@@ -439,8 +441,7 @@ impl Connection {
         copy.freeze_to(self.buffered())
     }
 
-    /// The first `count` bytes of `stretch` were written: the write of as many, whose bytes nobody asks for. It takes no
-    /// memory.
+    /// The first `count` bytes of `stretch` were written: the write of as many, which nobody asks for. It takes no memory.
     pub fn advance(&mut self, count: usize)
         requires can_write { IsAllowed self.old (on.write count) }
         requires fits { count ≤ length self.old.kept.buffered }

@@ -1,5 +1,5 @@
 -- Single steps, by what the calls of a turn ensure.
-use Rattle.std.proofs.Common.{◌≡◌, ◌<◌, ◌≤◌, ◌⊎◌, ℕ, Bool, true, false, Some, None, List, [], ◌∷◌, ◌++◌, length, take, Result, Ok, Err, inl, inr, refl, sym, ap, ◌∙◌, subst, arith, length-append}
+use Rattle.std.proofs.Common.{◌≡◌, ◌<◌, ◌≤◌, ◌⊎◌, ℕ, Bool, true, false, Some, None, List, [], ◌∷◌, ◌++◌, length, take, Result, Ok, inl, inr, refl, sym, ap, ◌∙◌, subst, arith, length-append}
 use Rattle.std.specs.Prelude.{zero, suc}
 use Rattle.futures.specs.declared.task.Poll.{Poll}
 use Rattle.futures.specs.declared.task.Poll.TheVariants.{Ready, Pending}
@@ -19,10 +19,10 @@ use Rattle.h1_traced.specs.Traced.{TracedSteps, TracedFails}
 use Rattle.ws_service.specs.declared.item.UpgradeItem.{UpgradeItem}
 use Rattle.ws_service.specs.declared.dispatcher.Ending.TheVariants.{Broken}
 use Rattle.ws_service.specs.declared.dispatcher.serve_frames.Given.{Given}
-use Rattle.ws_service.specs.declared.dispatcher.serve_frames.Given.TheVariants.{Frame, Nothing, Other}
+use Rattle.ws_service.specs.declared.dispatcher.serve_frames.Given.TheVariants.{Nothing}
 use Rattle.ws_service.specs.Polls.{Needs}
 use Rattle.ws_service.specs.View.{View, Stage, free, waiting, calling, sending, is_waiting, is_calling, is_sending, allows, allows_pull, allows_send, buffered, room}
-use Rattle.ws_service.specs.Steps.{Step, IsStep, IsFront, Took, shows_end, given_of, stage_given, FindsNone, WantsMemory, read, ready, pulled, sent, unsent, failed_read}
+use Rattle.ws_service.specs.Steps.{IsStep, IsFront, Took, shows_end, given_of, stage_given, FindsNone, WantsMemory, read, ready, pulled, sent, unsent, failed_read}
 
 -- ---- how far the service is
 

@@ -139,8 +139,8 @@ run_starts request traced listening transport service w steps is =
     let k = run_keeps (view_begun request traced listening transport service) w steps is in
     record { waits = k.waits; sent_so = k.sent_so }
 
-plus_none : (n : ℕ) → n + 0 ≡ n
-plus_none n = omega arith
+plus_none : (m n : ℕ) → 0 + m ≡ n + 0 → m ≡ n
+plus_none m n is = omega (arith, is)
 
 -- where the end of the input is told nothing is left
 pub all_answered : (request : RequestParts Unit Unit) (traced : TracedView) (listening : Bool) (transport : Wiring) (service : Upgrading) (v w : View) (steps : List Step)
@@ -149,6 +149,6 @@ all_answered request traced listening transport service v w steps run is =
     let k = run_keeps (view_begun request traced listening transport service) v steps run in
     record {
       called_so = k.waits ∙ ap (λ s. calls steps ++ waits_in s) is.1 ∙ append-nil (calls steps);
-      each = k.each ∙ ap (λ s. length (answers steps) + calls_in s) is.1 ∙ plus_none (length (answers steps));
+      each = plus_none (length (calls steps)) (length (answers steps)) (k.each ∙ ap (λ s. length (answers steps) + calls_in s) is.1);
       sent_so = k.sent_so ∙ ap (λ s. sends steps ++ unsent_in s) is.1 ∙ append-nil (sends steps);
     }

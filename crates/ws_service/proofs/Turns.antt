@@ -1,5 +1,5 @@
 -- What the parts of a turn say, one after the other.
-use Rattle.std.proofs.Common.{◌≡◌, ◌≤◌, ◌<◌, ◌+◌, ◌*◌, ◌⊎◌, ◌++◌, ℕ, true, false, Option, None, is_some, List, [], ◌∷◌, length, Result, Ok, inl, inr, refl, sym, ap, ◌∙◌, subst, arith, length-append}
+use Rattle.std.proofs.Common.{◌≡◌, ◌≤◌, ◌<◌, ◌+◌, ◌*◌, ◌⊎◌, ◌++◌, ℕ, true, false, Option, None, is_some, List, [], ◌∷◌, Result, Ok, inl, inr, refl, sym, ap, ◌∙◌, subst, arith, length-append}
 use Rattle.std.specs.Prelude.{option_map}
 use Rattle.futures.specs.declared.task.Poll.{Poll}
 use Rattle.futures.specs.declared.task.Poll.TheVariants.{Ready, Pending}
@@ -14,8 +14,8 @@ use Rattle.ws_service.specs.declared.dispatcher.UpgradeTurn.TheVariants.{Counted
 use Rattle.ws_service.specs.View.{View, Stage, free, waiting, calling, sending, closes, allows, allows_pull, HasNoOutput, HasNoInput}
 use Rattle.ws_service.specs.Steps.{Step, IsStep, FindsNone, written, told_end, pulled}
 use Rattle.ws_service.specs.declared.dispatcher.serve_frames.Given.TheVariants.{Nothing}
-use Rattle.ws_service.specs.Polls.{Continues, IsLast, Needs, IsHeld, Progress, WritesFirst, TellsEnd, TurnSays, AfterSays, ServeSays, ReadingSays, TellSays, RestSays, EndSays, TurnsSay}
-use Rattle.ws_service.proofs.Runs.{one, run_on, all_on, progress_on, goes_by, goes_none, goes_after, ends_after, more_goes, more_ends}
+use Rattle.ws_service.specs.Polls.{Continues, IsLast, Needs, IsHeld, Progress, WritesFirst, TurnSays, AfterSays, ServeSays, ReadingSays, TellSays, RestSays, EndSays, TurnsSay}
+use Rattle.ws_service.proofs.Runs.{one, run_on, all_on, progress_on, goes_by, goes_after, ends_after, more_goes, more_ends}
 
 -- ---- what the service needs
 

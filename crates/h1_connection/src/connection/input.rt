@@ -1,14 +1,11 @@
 // What a connection holds of its input: the bytes that were read and not passed, and the search for a head among them.
-ghost use Rattle.std.specs.Prelude.{◌≡◌, ◌≢◌, ◌<◌, ◌≤◌, ◌-◌, ◌^◌, ◌++◌, ◌⊎◌, ◌↔◌, ℕ, Bool, List, [], Some, None, length, take, drop, slice_range, min, true, false, is_some, IfOk, IfErr, IsOk, OnOk, OnErr, IsErrOf};
+ghost use Rattle.std.specs.Prelude.{◌≡◌, ◌≢◌, ◌<◌, ◌≤◌, ◌-◌, ◌^◌, ◌++◌, ◌↔◌, ℕ, Bool, List, [], Some, None, length, take, drop, min, true, false, is_some, IfOk, IfErr, IsOk, OnOk, OnErr, IsErrOf};
 ghost use Rattle.std.specs.Io.KnownBytes.{Consumes, Keeps, IsAtEnd};
 ghost use Rattle.http_config.specs.Causes.{Rose, counted, IsAsked};
-ghost use Rattle.h1_decoder.specs.HeadItem.{SaysHead, without_headers};
+ghost use Rattle.h1_decoder.specs.HeadItem.{without_headers};
 ghost use Rattle.h1_decoder.specs.Refusal.{UnlessNoMemory, fault_of};
-ghost use Rattle.h1_decoder.specs.HeadPosition.{HasScanned};
 ghost use Rattle.model_h1.specs.FrameText.{front_frame};
 ghost use Rattle.model_h1.specs.Parse.{connection_reader};
-ghost use Rattle.model_h1.specs.Request.{Head, head_is, faulty};
-ghost use Rattle.model_h1.specs.RequestHead.{IsReading};
 ghost use Rattle.model_state.specs.Kept.{rest_in, is_nothing};
 ghost use Rattle.model_state.specs.Local.{is_partial};
 ghost use Rattle.ws_frames.specs.Codec.{IsTakenNamed};
@@ -17,44 +14,23 @@ ghost use Rattle.model_state.specs.Body.{pass_rest};
 ghost use Rattle.model_state.specs.Pull.{IsPull};
 ghost use Rattle.model_state.specs.Pull as pulls;
 ghost use Rattle.h1_payload.specs.Rests.{IsPulled, IsLight};
-ghost use Rattle.h1_connection.specs.Scan.{scan_of};
 ghost use Rattle.h1_connection.specs.Ahead.{heads_in};
-ghost use Rattle.h1_connection.specs.Incoming.{is_coming_in, IsFound, IsWhole, IsHeadOf, IsNextHead, IsNextFault, IsPassedHead, IsSearched, IsCutNoted, incoming, due_in, CanGoOn, GoesOnIn, HasSearched, IsCaughtUp};
+ghost use Rattle.h1_connection.specs.Incoming.{is_coming_in, IsFound, IsWhole, IsHeadOf, IsNextHead, IsNextFault, IsPassedHead};
 
 use crate::ReadFromError;
 use crate::connection::READ_SIZE;
 use crate::connection::ahead::heads_in;
 use crate::connection::filling::{make_room, read_behind};
+use crate::connection::front_head::{pass, read_due, read_found};
+use crate::connection::head_search::{Scan, Search, caught_up, continued, has_head};
 use crate::connection::reading::Frames;
 use bytes::{Bytes, BytesMut};
-use h1_decoder::{
-    HeadItem, HeadRoom, HeadScan, HeadScanner, cut_head_into, read_head_into, scan_head,
-};
+use h1_decoder::{HeadItem, HeadRoom, HeadScan, HeadScanner};
 use h1_payload::{Pulled, Rest};
 use http_types::{NoMemory, ParseError, Source};
 use std::alloc::Global;
 use std::marker::Model;
 use ws_frames::{Frame, ProtocolError, take_front, waits_for_frame};
-
-/// How far the search for the next head is.
-#[derive(Clone, Copy)]
-enum Search {
-    /// None is searched for: the bytes are a body's.
-    Off,
-
-    /// A head may come next, and nothing is known of the bytes. One that is whole when it is asked for is read at once.
-    Due,
-
-    /// All bytes were searched.
-    Done(Scan),
-}
-
-/// How far a search has come, and what it has found.
-#[derive(Clone, Copy)]
-struct Scan {
-    scanner: HeadScanner,
-    piece: HeadScan,
-}
 
 /// The bytes of the input that were taken and not passed yet.
 ///
@@ -378,169 +354,6 @@ fn behind(bytes: &[u8], start: usize) -> &[u8]
     }
 }
 
-// Reads the head with which the bytes begin, and says whether there is one. It is parsed at once, so that none of its
-// bytes is looked at twice; where that finds none, the bytes are searched, and no further ones are parsed in vain.
-fn read_due(
-    alloc: Global,
-    item: &mut HeadItem,
-    room: &mut HeadRoom,
-    head_bytes: &mut Bytes,
-    bytes: &mut BytesMut,
-    search: &mut Search,
-) -> Result<bool, ParseError>
-    requires empty { head_bytes.old ≡ [] }
-    requires due { search.old ≡ Search.Due }
-    ensures same { incoming head_bytes.new bytes.new.items search.new ≡ due_in bytes.old.items }
-    ensures searched { IsSearched head_bytes.new bytes.new.items search.new }
-    ensures head { IfOk result (λ is_there. is_there ≡ true → IsNextHead (due_in bytes.old.items) item.new) }
-    ensures none { IfOk result (λ is_there. is_there ≡ false → IsHeadOf (due_in bytes.old.items) None × (item.new ≡ item.old)) }
-    ensures fault { IfErr result (λ e. UnlessNoMemory e (IsNextFault (due_in bytes.old.items) (fault_of e))) }
-    ensures whole { OnErr result (IsWhole (due_in bytes.old.items)) }
-    ensures err { OnErr result (item.new ≡ without_headers item.old) }
-{
-    match cut_head_into(alloc, item, room, bytes, head_bytes) {
-        Ok(true) => {
-            note_cut(head_bytes, search);
-            Ok(true)
-        }
-        Ok(false) => {
-            *search = searched(HeadScanner::new(), bytes.as_slice());
-            read_found(alloc, item, room, head_bytes, bytes, search)
-        }
-        Err(error) => {
-            note_cut(head_bytes, search);
-            Err(error)
-        }
-    }
-}
-
-// A head that was cut off unsearched is what a search finds.
-fn note_cut(head_bytes: &Bytes, search: &mut Search)
-    requires { search.old ≡ Search.Due }
-    ensures { IsCutNoted head_bytes.now search.new }
-{
-    if head_bytes.is_empty() {
-        return;
-    }
-    *search = Search::Done(Scan {
-        scanner: HeadScanner::new(),
-        piece: HeadScan::Piece(0, head_bytes.len()),
-    });
-}
-
-// Reads the head that the search has found, and says whether there is one. It is cut off first, where that isn't done yet.
-fn read_found(
-    alloc: Global,
-    item: &mut HeadItem,
-    room: &mut HeadRoom,
-    head_bytes: &mut Bytes,
-    bytes: &mut BytesMut,
-    search: &Search,
-) -> Result<bool, ParseError>
-    requires searched { IsSearched head_bytes.old bytes.old.items search.now }
-    requires done { search.now ≢ Search.Due }
-    ensures all { head_bytes.new ++ bytes.new.items ≡ head_bytes.old ++ bytes.old.items }
-    ensures searched { IsSearched head_bytes.new bytes.new.items search.now }
-    ensures head { IfOk result (λ is_there. is_there ≡ true → IsNextHead (incoming head_bytes.old bytes.old.items search.now) item.new) }
-    ensures none { IfOk result (λ is_there. is_there ≡ false → IsHeadOf (incoming head_bytes.old bytes.old.items search.now) None × (item.new ≡ item.old)) }
-    ensures fault { IfErr result (λ e. UnlessNoMemory e (IsNextFault (incoming head_bytes.old bytes.old.items search.now) (fault_of e))) }
-    ensures whole { OnErr result (IsWhole (incoming head_bytes.old bytes.old.items search.now)) }
-    ensures err { OnErr result (item.new ≡ without_headers item.old) }
-{
-    let Search::Done(scan) = search else {
-        return Ok(false);
-    };
-    let HeadScan::Piece(start, end) = scan.piece else {
-        return Ok(false);
-    };
-    let Ok(()) = cut(head_bytes, bytes, end) else {
-        item.head.headers.clear();
-        return Err(ParseError::NoMemory);
-    };
-    match read_piece(alloc, item, room, head_bytes, start) {
-        Ok(()) => Ok(true),
-        Err(error) => Err(error),
-    }
-}
-
-// Cuts the first bytes off up to the head's end, where that isn't done yet. They stay in their memory.
-fn cut(head_bytes: &mut Bytes, bytes: &mut BytesMut, end: usize) -> Result<(), NoMemory>
-    requires fits { end ≤ length (head_bytes.old ++ bytes.old.items) }
-    requires whole { (head_bytes.old ≡ []) ⊎ (length head_bytes.old ≡ end) }
-    ensures head_bytes { OnOk result (head_bytes.new ≡ take end (head_bytes.old ++ bytes.old.items)) }
-    ensures all { head_bytes.new ++ bytes.new.items ≡ head_bytes.old ++ bytes.old.items }
-    ensures err { OnErr result ((head_bytes.new ≡ head_bytes.old) × (bytes.new.items ≡ bytes.old.items)) }
-{
-    if head_bytes.is_empty() {
-        *head_bytes = bytes.freeze_to(end)?;
-    }
-    Ok(())
-}
-
-// Lets the first bytes go up to the head's end, whether they were cut off or not.
-fn pass(head_bytes: &mut Bytes, bytes: &mut BytesMut, end: usize)
-    requires fits { end ≤ length (head_bytes.old ++ bytes.old.items) }
-    requires whole { (head_bytes.old ≡ []) ⊎ (length head_bytes.old ≡ end) }
-    ensures head_bytes { head_bytes.new ≡ [] }
-    ensures bytes { bytes.new.items ≡ drop end (head_bytes.old ++ bytes.old.items) }
-{
-    if head_bytes.is_empty() {
-        bytes.advance(end);
-    }
-    *head_bytes = Bytes::new();
-    clear_empty(bytes);
-}
-
-// Where no byte is left, those that come are put to the front of the memory again.
-#[inline(always)]
-fn clear_empty(bytes: &mut BytesMut)
-    ensures { bytes.new.items ≡ bytes.old.items }
-{
-    if bytes.is_empty() {
-        bytes.clear();
-    }
-}
-
-// Reads the head that begins there, and fills the rest of the bytes.
-fn read_piece(
-    alloc: Global,
-    item: &mut HeadItem,
-    room: &mut HeadRoom,
-    bytes: &Bytes,
-    start: usize,
-) -> Result<(), ParseError>
-    requires { start ≤ length bytes.now }
-    ensures head { OnOk result ((h : Head) × IsReading (slice_range bytes.now start (length bytes.now)) (head_is h) × SaysHead item.new h) }
-    ensures fault { IfErr result (λ e. UnlessNoMemory e (IsReading (slice_range bytes.now start (length bytes.now)) (faulty (fault_of e)))) }
-    ensures err { OnErr result (item.new ≡ without_headers item.old) }
-{
-    if start > 0 {
-        return read_behind_blank_lines(alloc, item, room, bytes, start);
-    }
-    read_head_into(alloc, item, room, bytes)
-}
-
-// The same where empty lines stand before it. It is out of the way of those that nothing stands before.
-#[inline(never)]
-fn read_behind_blank_lines(
-    alloc: Global,
-    item: &mut HeadItem,
-    room: &mut HeadRoom,
-    bytes: &Bytes,
-    start: usize,
-) -> Result<(), ParseError>
-    requires { start ≤ length bytes.now }
-    ensures head { OnOk result ((h : Head) × IsReading (slice_range bytes.now start (length bytes.now)) (head_is h) × SaysHead item.new h) }
-    ensures fault { IfErr result (λ e. UnlessNoMemory e (IsReading (slice_range bytes.now start (length bytes.now)) (faulty (fault_of e)))) }
-    ensures err { OnErr result (item.new ≡ without_headers item.old) }
-{
-    let Ok(head) = bytes.slice(start..bytes.len()) else {
-        item.head.headers.clear();
-        return Err(ParseError::NoMemory);
-    };
-    read_head_into(alloc, item, room, &head)
-}
-
 // A copy of the bytes in front and of those behind them.
 #[cold]
 fn joined(alloc: Global, front: &Bytes, behind: &[u8]) -> Result<BytesMut, NoMemory>
@@ -549,44 +362,4 @@ fn joined(alloc: Global, front: &Bytes, behind: &[u8]) -> Result<BytesMut, NoMem
     let mut all = BytesMut::copy_from_slice(alloc, front.as_slice())?;
     all.extend_from_slice(behind)?;
     Ok(all)
-}
-
-// Whether the bytes have a whole head, where the search is due. It is asked of no bytes alone, since a search is due only
-// where no other call depends on the answer.
-#[cold]
-fn has_head(bytes: &[u8]) -> bool
-    ensures { result ≡ is_coming_in (Some (scan_of bytes.now)) }
-{
-    scan_head(bytes) != HeadScan::Open
-}
-
-// The search behind more bytes. A head that was found stays the next, and a search that is due stays so.
-fn continued(search: Search, bytes: &[u8]) -> Search
-    requires { CanGoOn search bytes.now }
-    ensures { GoesOnIn search bytes.now result }
-{
-    match search {
-        Search::Done(scan) if scan.piece == HeadScan::Open => searched(scan.scanner, bytes),
-        _ => search,
-    }
-}
-
-// The search, done where it was due.
-fn caught_up(search: Search, bytes: &[u8]) -> Search
-    ensures { IsCaughtUp search bytes.now result }
-{
-    match search {
-        Search::Due => searched(HeadScanner::new(), bytes),
-        _ => search,
-    }
-}
-
-// The search that has seen all the bytes.
-fn searched(scanner: HeadScanner, bytes: &[u8]) -> Search
-    requires { HasScanned scanner bytes.now }
-    ensures { HasSearched bytes.now result }
-{
-    let mut scanner = scanner;
-    let piece = scanner.scan(bytes);
-    Search::Done(Scan { scanner, piece })
 }

@@ -1,4 +1,4 @@
-use Rattle.std.proofs.Common.{Some, [], ◌∷◌, refl, sym, ◌∙◌, inl, arith}
+use Rattle.std.proofs.Common.{Some, [], refl, sym, ◌∙◌, inl, arith}
 use Rattle.model_h1.specs.Event as on
 use Rattle.h1_connection.specs.State.{TakesNoMemory}
 use Rattle.ws_service.specs.declared.item.UpgradeItem.TheVariants as items

@@ -6,7 +6,7 @@ use Rattle.h1_decoder.specs.declared.decoder.HeadItem.{HeadItem}
 use Rattle.h1_connection.specs.Incoming.{Incoming, due_in, IsHeadOf, IsWhole, IsNextHead, IsNextFault}
 use Rattle.h1_connection.proofs.InputLemmas.{same_incoming}
 use Rattle.h1_connection.proofs.CutLemmas.{found_whole, found_head, noted_same, noted_searched, uncut_searched, uncut_same}
-use Rattle.h1_connection.proofs.connection.input.read_due.Goals as goal
+use Rattle.h1_connection.proofs.connection.front_head.read_due.Goals as goal
 
 -- ---- a head was cut off
 

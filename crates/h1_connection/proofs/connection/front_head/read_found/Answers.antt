@@ -3,7 +3,7 @@ use Rattle.model_h1.specs.Request.{faulty}
 use Rattle.model_h1.specs.RequestHead.{IsReading}
 use Rattle.h1_decoder.specs.Refusal.{fault_of}
 use Rattle.h1_connection.proofs.InputLemmas.{piece_searched, cut_slice, head_found}
-use Rattle.h1_connection.proofs.connection.input.read_found.Goals as goal
+use Rattle.h1_connection.proofs.connection.front_head.read_found.Goals as goal
 
 pub returns-in-Err-clause-fault : goal.returns-in-Err-clause-fault
 returns-in-Err-clause-fault c = λ ne.

@@ -1,7 +1,7 @@
 use Rattle.std.proofs.Common.{rules, ◌≡◌, ◌∙◌, ap, Some}
 use Rattle.h1_connection.specs.Incoming.{is_coming_in}
 use Rattle.h1_connection.proofs.InputLemmas.{scan_is}
-use Rattle.h1_connection.proofs.connection.input.has_head.Goals as goal
+use Rattle.h1_connection.proofs.connection.head_search.has_head.Goals as goal
 
 pub returns : goal.returns
 returns c =

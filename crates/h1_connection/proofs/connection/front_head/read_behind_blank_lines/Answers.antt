@@ -3,7 +3,7 @@ use Rattle.std.specs.Prelude.{IfErr, slice_range}
 use Rattle.model_h1.specs.Request.{faulty}
 use Rattle.model_h1.specs.RequestHead.{IsReading}
 use Rattle.h1_decoder.specs.Refusal.{UnlessNoMemory, fault_of}
-use Rattle.h1_connection.proofs.connection.input.read_behind_blank_lines.Goals as goal
+use Rattle.h1_connection.proofs.connection.front_head.read_behind_blank_lines.Goals as goal
 
 pub returns-clause-fault : goal.returns-clause-fault
 returns-clause-fault c =

@@ -4,7 +4,7 @@ use Rattle.model_h1.specs.Request.{faulty}
 use Rattle.model_h1.specs.RequestHead.{IsReading}
 use Rattle.h1_decoder.specs.Refusal.{UnlessNoMemory, fault_of}
 use Rattle.h1_connection.proofs.InputLemmas.{from_start}
-use Rattle.h1_connection.proofs.connection.input.read_piece.Goals as goal
+use Rattle.h1_connection.proofs.connection.front_head.read_piece.Goals as goal
 
 pub returns-clause-fault : goal.returns-clause-fault
 returns-clause-fault c =
