@@ -107,10 +107,10 @@ where
         ensures open { MayGoOn self.new.step }
         ensures kept { Keeps cx.old cx.new }
     {
-        match Arc::try_clone(&self.permits) {
-            Ok(permits) => self.wait(Semaphore::acquire_owned(permits), cx),
-            Err(_) => cx.yield_now(),
-        }
+        let Ok(permits) = Arc::try_clone(&self.permits) else {
+            return cx.yield_now();
+        };
+        self.wait(Semaphore::acquire_owned(permits), cx)
     }
 
     // Waits for a permit.
@@ -171,10 +171,12 @@ where
                 self.step = Step::Open(permit);
                 Poll::Pending
             }
-            Poll::Ready(Ok((stream, _))) => match self.enter(stream, permit) {
-                Ok(task) => Poll::Ready(Some(task)),
-                Err(_) => cx.yield_now(),
-            },
+            Poll::Ready(Ok((stream, _address))) => {
+                let Ok(task) = self.enter(stream, permit) else {
+                    return cx.yield_now();
+                };
+                Poll::Ready(Some(task))
+            }
             Poll::Ready(Err(error)) => {
                 self.step = self.after(error.kind(), permit);
                 cx.yield_now()
