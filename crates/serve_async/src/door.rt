@@ -108,10 +108,10 @@ where
         ensures open { MayGoOn self.new.step }
         ensures kept { Keeps cx.old cx.new }
     {
-        match Arc::try_clone(&self.permits) {
-            Ok(permits) => self.wait(Semaphore::acquire_owned(permits), cx),
-            Err(_) => cx.yield_now(),
-        }
+        let Ok(permits) = Arc::try_clone(&self.permits) else {
+            return cx.yield_now();
+        };
+        self.wait(Semaphore::acquire_owned(permits), cx)
     }
 
     // Waits for a permit.
@@ -172,10 +172,12 @@ where
                 self.step = Step::Open(permit);
                 Poll::Pending
             }
-            Poll::Ready(Ok((stream, peer))) => match self.enter(stream, peer, permit) {
-                Ok(task) => Poll::Ready(Some(task)),
-                Err(_) => cx.yield_now(),
-            },
+            Poll::Ready(Ok((stream, peer))) => {
+                let Ok(task) = self.enter(stream, peer, permit) else {
+                    return cx.yield_now();
+                };
+                Poll::Ready(Some(task))
+            }
             Poll::Ready(Err(error)) => {
                 self.step = self.after(error.kind(), permit);
                 cx.yield_now()

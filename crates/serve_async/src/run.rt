@@ -102,14 +102,14 @@ where
 
 /// The same as [`serve`] by so many threads, each with a loop and as many connections of its own. It returns once all have
 /// ended, and says whether each ended well. With none nothing is served.
-pub fn serve_by_threads<R, F, S, B>(
-    rt: &R,
+pub fn serve_by_threads<'a, R, F, S, B>(
+    rt: &'a R,
     threads: u64,
-    listener: &TcpListener,
-    services: &F,
+    listener: &'a TcpListener,
+    services: &'a F,
     config: ServiceConfig,
     limits: Limits,
-    stop: &Stop,
+    stop: &'a Stop,
 ) -> bool
 where
     R: Threads + Wait + Clock + Net + RandomSource + AllocGlobal + Sync + Drop,
@@ -119,19 +119,44 @@ where
 {
     thread::scope(thread::scope_env(), rt, move |scope| -> bool {
         let mut handles = Vec::new(rt.alloc());
-        let mut is_well = true;
         for _ in 0..threads {
-            match scope.spawn(move || serve(rt, listener, services, config, limits, stop).is_ok()) {
-                Ok(handle) => is_well = handles.push(handle).is_ok() && is_well,
-                Err(_) => is_well = false,
+            let started = scope.spawn(move || is_served(
+                rt, listener, services, config, limits, stop,
+            ));
+            let Ok(handle) = started else {
+                stop.tell();
+                return false;
+            };
+            if handles.push(handle).is_err() {
+                stop.tell();
+                return false;
             }
         }
-        if !is_well {
-            stop.tell();
-        }
+        let mut is_well = true;
         for handle in handles {
             is_well = handle.join(rt) && is_well;
         }
         is_well
     })
+}
+
+// Whether it was served until the end.
+fn is_served<R, F, S, B>(
+    rt: &R,
+    listener: &TcpListener,
+    services: &F,
+    config: ServiceConfig,
+    limits: Limits,
+    stop: &Stop,
+) -> bool
+where
+    R: Wait + Clock + Net + RandomSource + AllocGlobal + Drop,
+    F: Services<S>,
+    S: Service<Request<(), ()>, Response = Response<B>, Error = Response<B>, Lent = Payload>,
+    B: MessageBody,
+{
+    match serve(rt, listener, services, config, limits, stop) {
+        Ok(()) => true,
+        Err(_error) => false,
+    }
 }
