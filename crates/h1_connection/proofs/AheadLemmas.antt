@@ -16,7 +16,9 @@ use Rattle.h1_decoder.specs.declared.scan.HeadScan.{HeadScan}
 use Rattle.h1_decoder.specs.declared.scan.HeadScan.TheVariants.{Open, Piece}
 use Rattle.h1_connection.specs.Ahead.{read_as, counted_from, heads_in}
 use Rattle.h1_connection.specs.Scan.{scan_of}
-use Rattle.h1_connection.specs.Incoming.{Incoming, incoming, IsSearched}
+use Rattle.h1_connection.specs.Incoming.{incoming, IsSearched}
+use Rattle.h1_connection.specs.Stock.{Stock, stock_of}
+use Rattle.h1_connection.specs.declared.connection.ahead.Count.{Count}
 use Rattle.h1_connection.specs.declared.connection.head_search.Search.{Search}
 use Rattle.h1_connection.proofs.InputLemmas.{scan_is, cut_head, first_bytes}
 use Rattle.h1_connection.proofs.ScanLemmas.{scan_answers}
@@ -181,27 +183,28 @@ none_in_first n bytes s e here far s' e' there =
 
 -- ---- where the first head was cut off
 
--- where it ends behind them none is counted
-pub cut_none : (limit n : ℕ) (front bytes : List ℕ) (search : Search) (i : Incoming) → incoming front bytes search ≡ i → IsSearched front bytes search → n < length front
-    → heads_in limit (take n i.unread) ≡ 0
-cut_none limit n front bytes search i view searched less =
-    let here = cut_head front bytes search searched (λ none. absurd (omega (arith, less, ap (λ (l : List ℕ). length l) none))) in
-    ap (λ (j : Incoming). heads_in limit (take n j.unread)) (sym view)
-    ∙ heads_none limit (take n (front ++ bytes)) (none_in_first n (front ++ bytes) here.0 (length front) here.1 less)
+module _ (count : Count) (front bytes : List ℕ) (search : Search) (s : Stock) (view : stock_of count (incoming front bytes search) ≡ s) where
+  -- where it ends behind them none is counted
+  pub cut_none : IsSearched front bytes search → count.mark < length front → s.ahead ≡ 0
+  cut_none searched less =
+      let here = cut_head front bytes search searched (λ none. absurd (omega (arith, less, ap (λ (l : List ℕ). length l) none))) in
+      ap (λ (t : Stock). t.ahead) (sym view)
+      ∙ heads_none count.left (take count.mark (front ++ bytes)) (none_in_first count.mark (front ++ bytes) here.0 (length front) here.1 less)
 
--- and else it is
-pub cut_some : (limit n : ℕ) (front bytes : List ℕ) (search : Search) (i : Incoming) → incoming front bytes search ≡ i → IsSearched front bytes search → ¬ (length front ≡ 0)
-    → length front ≤ n → ¬ (limit ≡ 0) → 0 < heads_in limit (take n i.unread)
-cut_some limit n front bytes search i view searched some near may =
-    let here = cut_head front bytes search searched (λ none. some (ap (λ (l : List ℕ). length l) none)) in
-    let one = one_some limit (take n (front ++ bytes)) here.0 (length front) (head_in_first n (front ++ bytes) here.0 (length front) here.1 near) (omega (arith, may)) in
-    subst (λ (j : Incoming). 0 < heads_in limit (take n j.unread)) view one
+  -- and else it is
+  pub cut_some : IsSearched front bytes search → ¬ (length front ≡ 0) → length front ≤ count.mark → ¬ (count.left ≡ 0) → 0 < s.ahead
+  cut_some searched some near may =
+      let here = cut_head front bytes search searched (λ none. some (ap (λ (l : List ℕ). length l) none)) in
+      let one =
+      one_some count.left (take count.mark (front ++ bytes)) here.0 (length front) (head_in_first count.mark (front ++ bytes) here.0 (length front) here.1 near) (omega (arith, may)) in
+      subst (λ (t : Stock). 0 < t.ahead) view one
 
--- the bytes that are counted
-pub cut_bytes : (n : ℕ) (front bytes : List ℕ) (search : Search) (i : Incoming) → incoming front bytes search ≡ i → length front ≤ n
-    → front ++ take (n - length front) bytes ≡ take n i.unread
-cut_bytes n front bytes search i view near = sym (first_bytes front bytes n near) ∙ ap (λ (j : Incoming). take n j.unread) view
+  -- the bytes that are counted
+  pub cut_counted : length front ≤ count.mark → heads_in count.left (front ++ take (count.mark - length front) bytes) ≡ s.ahead
+  cut_counted near = ap (heads_in count.left) (sym (first_bytes front bytes count.mark near)) ∙ ap (λ (t : Stock). t.ahead) view
 
-pub uncut_bytes : (n : ℕ) (front bytes : List ℕ) (search : Search) (i : Incoming) → incoming front bytes search ≡ i → length front ≡ 0 → take n bytes ≡ take n i.unread
-uncut_bytes n [] bytes search i view none = ap (λ (j : Incoming). take n j.unread) view
-uncut_bytes n (b ∷ front) bytes search i view none = absurd (omega (arith, none))
+-- where none was
+pub uncut_counted : (count : Count) (front bytes : List ℕ) (search : Search) (s : Stock) → stock_of count (incoming front bytes search) ≡ s → length front ≡ 0
+    → heads_in count.left (take count.mark bytes) ≡ s.ahead
+uncut_counted count [] bytes search s view none = ap (λ (t : Stock). t.ahead) view
+uncut_counted count (b ∷ front) bytes search s view none = absurd (omega (arith, none))

@@ -5,9 +5,11 @@ use Rattle.std.proofs.Math.Seq.{drop-append-add}
 use Rattle.std.specs.Prelude.{false, None}
 use Rattle.http_config.specs.Config.{Settings}
 use Rattle.model_state.specs.Kept.{Kept, is_free}
-use Rattle.h1_connection.specs.Incoming.{Incoming, incoming, IsSearched}
+use Rattle.h1_connection.specs.Incoming.{incoming, IsSearched}
 use Rattle.h1_connection.specs.Parts.{kept_of, IsSound}
 use Rattle.h1_connection.specs.State.{State}
+use Rattle.h1_connection.specs.Stock.{Stock, stock_of}
+use Rattle.h1_connection.specs.declared.connection.ahead.Count.{Count}
 use Rattle.h1_connection.specs.declared.connection.head_search.Search.{Search}
 use Rattle.h1_connection.specs.declared.connection.head_search.Search.TheVariants.{Off, Due, Done}
 use Rattle.h1_connection.specs.declared.connection.parts.Parts.{Parts}
@@ -40,28 +42,29 @@ stands_fits bytes all start stands = omega (arith, length-append bytes stands.0,
 
 -- ---- the fields of an input
 
--- where no head is searched for, none was cut off
-pub none_cut : (front bytes : List ℕ) (search : Search) (i : Incoming) → incoming front bytes search ≡ i → IsSearched front bytes search → i.piece ≡ None → front ≡ []
-none_cut front bytes Off i view searched none = searched
-none_cut front bytes Due i view searched none = searched
-none_cut front bytes (Done scan) i view searched none = absurd (cc (ap (λ (j : Incoming). j.piece) view ∙ none))
+module _ (count : Count) (front bytes : List ℕ) where
+  -- where no head is searched for, none was cut off
+  pub none_cut : (search : Search) (s : Stock) → stock_of count (incoming front bytes search) ≡ s → IsSearched front bytes search → s.piece ≡ None → front ≡ []
+  none_cut Off s view searched none = searched
+  none_cut Due s view searched none = searched
+  none_cut (Done scan) s view searched none = absurd (cc (ap (λ (t : Stock). t.piece) view ∙ none))
 
-pub cut_stands : (front bytes got piece : List ℕ) (search : Search) (i : Incoming) (start : ℕ) → incoming front bytes search ≡ i → piece ≡ front → start ≤ length front
-    → got ≡ take (length piece - start) (drop start piece) → StandsAt got start i.unread
-cut_stands front bytes got piece search i start view is fits got_is =
-    subst (λ (j : Incoming). StandsAt got start j.unread) view
-    (front_stands front bytes got start fits (all_stands got front start (got_is ∙ take_rest piece start ∙ ap (drop start) is)))
+  pub cut_stands : (got piece : List ℕ) (search : Search) (s : Stock) (start : ℕ) → stock_of count (incoming front bytes search) ≡ s → piece ≡ front → start ≤ length front
+      → got ≡ take (length piece - start) (drop start piece) → StandsAt got start s.unread
+  cut_stands got piece search s start view is fits got_is =
+      subst (λ (t : Stock). StandsAt got start t.unread) view
+      (front_stands front bytes got start fits (all_stands got front start (got_is ∙ take_rest piece start ∙ ap (drop start) is)))
 
-pub rest_is : (front bytes got all : List ℕ) (search : Search) (i : Incoming) (start size : ℕ) → incoming front bytes search ≡ i → all ≡ bytes → size ≡ length front → size ≤ start
-    → got ≡ drop (start - size) all → got ≡ drop start i.unread
-rest_is front bytes got all search i start size view is size_is fits got_is =
-    got_is ∙ ap (drop (start - size)) is ∙ ap (λ (n : ℕ). drop (start - n) bytes) size_is ∙ behind_drop front bytes start (omega (arith, size_is, fits))
-    ∙ ap (λ (j : Incoming). drop start j.unread) view
+  pub rest_is : (got all : List ℕ) (search : Search) (s : Stock) (start size : ℕ) → stock_of count (incoming front bytes search) ≡ s → all ≡ bytes → size ≡ length front → size ≤ start
+      → got ≡ drop (start - size) all → got ≡ drop start s.unread
+  rest_is got all search s start size view is size_is fits got_is =
+      got_is ∙ ap (drop (start - size)) is ∙ ap (λ (n : ℕ). drop (start - n) bytes) size_is ∙ behind_drop front bytes start (omega (arith, size_is, fits))
+      ∙ ap (λ (t : Stock). drop start t.unread) view
 
-pub rest_stands : (front bytes got all : List ℕ) (search : Search) (i : Incoming) (start size : ℕ) → incoming front bytes search ≡ i → all ≡ bytes → size ≡ length front → size ≤ start
-    → got ≡ drop (start - size) all → StandsAt got start i.unread
-rest_stands front bytes got all search i start size view is size_is fits got_is =
-    all_stands got i.unread start (rest_is front bytes got all search i start size view is size_is fits got_is)
+  pub rest_stands : (got all : List ℕ) (search : Search) (s : Stock) (start size : ℕ) → stock_of count (incoming front bytes search) ≡ s → all ≡ bytes → size ≡ length front → size ≤ start
+      → got ≡ drop (start - size) all → StandsAt got start s.unread
+  rest_stands got all search s start size view is size_is fits got_is =
+      all_stands got s.unread start (rest_is got all search s start size view is size_is fits got_is)
 
 -- ---- that they are some
 

@@ -11,9 +11,10 @@ use Rattle.h1_decoder.specs.declared.scan.HeadScan.{HeadScan}
 use Rattle.h1_decoder.specs.declared.scan.HeadScan.TheVariants.{Open, Piece}
 use Rattle.h1_decoder.specs.HeadPosition.{HeadPosition, HasScanned}
 use Rattle.h1_decoder.specs.HeadScan.{AnswersScan}
+use Rattle.h1_decoder.specs.declared.decoder.HeadItem.{HeadItem}
 use Rattle.h1_decoder.proofs.HeadPieceLemmas.{HasScanned-append, AnswersScan-found}
 use Rattle.h1_connection.specs.Scan.{scan_of}
-use Rattle.h1_connection.specs.Incoming.{Incoming, piece_of, incoming, IsFoundIn, IsHeadIn, IsHeadOf, IsPieceOf, IsSearchedTo, IsSearched, CanScan, CanGoOn, HasSearched, GoesOnTo, GoesOnIn, IsCaughtUp, IsWhole, IsPassedIn, IsPassedHead, is_coming_in}
+use Rattle.h1_connection.specs.Incoming.{Incoming, piece_of, incoming, IsFoundIn, IsHeadIn, IsHeadOf, IsPieceOf, IsSearchedTo, IsSearched, CanScan, CanGoOn, HasSearched, GoesOnTo, GoesOnIn, IsCaughtUp, IsWhole, IsNextHead, IsPassedIn, IsPassedHead, is_coming_in}
 use Rattle.h1_connection.specs.declared.connection.head_search.Scan.{Scan}
 use Rattle.h1_connection.specs.declared.connection.head_search.Search.{Search}
 use Rattle.h1_connection.specs.declared.connection.head_search.Search.TheVariants.{Off, Due, Done}
@@ -109,6 +110,19 @@ pub finds : (bytes : List ℕ) (search : Search) → ¬ (search ≡ Off) → is_
 finds bytes Off on = absurd (on refl)
 finds bytes Due on = refl
 finds bytes (Done scan) on = refl
+
+-- ---- no bytes
+
+-- of none nothing is found
+pub fresh_searched : (front bytes : List ℕ) (scanner : HeadPosition) → front ≡ [] → bytes ≡ [] → ((l : List ℕ) → HasScanned scanner l) → IsSearchedTo front bytes scanner Open
+fresh_searched front bytes scanner none empty fresh =
+    let seen : take scanner.scanned [] ≡ [] = take_all scanner.scanned [] (omega arith) in
+    (none, fresh bytes, subst (λ (l : List ℕ). HasNoHeadPiece l) (seen ∙ sym empty) (fresh []).no_head)
+
+pub scan_none : (bytes : List ℕ) → length bytes ≡ 0 → scan_of bytes ≡ Open
+unfolding scan_of
+scan_none [] none = refl
+scan_none (b ∷ bytes) none = absurd (omega (arith, none))
 
 -- ---- no bytes from a source
 
@@ -242,6 +256,25 @@ pub no_head_in : (i : Incoming) (piece : Option HeadScan) → is_coming_in piece
 no_head_in i None none = refl
 no_head_in i (Some Open) none = refl
 no_head_in i (Some (Piece start end)) none = absurd (cc none)
+
+-- one that is read is whole
+whole_in : (i : Incoming) (piece : Option HeadScan) (head : List ℕ) → IsHeadIn i piece (Some head) → IsTrue (is_coming_in piece)
+whole_in i None head none = absurd (cc none)
+whole_in i (Some Open) head none = absurd (cc none)
+whole_in i (Some (Piece start end)) head here = refl
+
+pub next_whole : (i : Incoming) (item : HeadItem) → IsNextHead i item → IsWhole i
+next_whole i item next = whole_in i i.piece next.0 next.1
+
+-- where no head is searched for none is whole, and else the search is done
+pub caught_done : (front bytes seen : List ℕ) (search after : Search) → IsCaughtUp search seen after → IsWhole (incoming front bytes search) → ((scan : Scan) → after ≡ Done scan → ⊥) → ⊥
+caught_done front bytes seen Off after caught whole none =
+    let not_coming : IsTrue false = whole in
+    cc not_coming
+caught_done front bytes seen Due Off caught whole none = absurd caught
+caught_done front bytes seen Due Due caught whole none = absurd caught
+caught_done front bytes seen Due (Done scan) caught whole none = none scan refl
+caught_done front bytes seen (Done scan) after caught whole none = none scan caught
 
 -- ---- the first bytes
 

@@ -19,7 +19,7 @@ pub mod DeadlineLemmas
 pub mod ScanLemmas
 pub mod InputLemmas
 pub mod AheadLemmas
-pub mod IntakeLemmas
+pub mod StockLemmas
 pub mod ClosingLemmas
 pub mod CutLemmas
 pub mod FrameLemmas

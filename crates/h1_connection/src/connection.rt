@@ -57,7 +57,6 @@ mod front_head;
 mod head_search;
 mod heads;
 mod input;
-mod intake;
 mod messages;
 mod output;
 mod parts;

@@ -157,7 +157,29 @@ impl Rest {
             → IsLight self.old p.outcome p.rest → IsOk result }
         ensures err { OnErr result ((self.new ≡ self.old) × (unread.new ≡ unread.old)) }
     {
-        pull_left(&mut self.left, unread, has_ended)
+        match &mut self.left {
+            Left::Nothing => Ok(Pulled::End),
+            Left::Raw => {
+                let answer = pull_raw(unread, has_ended)?;
+                if has_ended {
+                    self.left = Left::Nothing;
+                }
+                Ok(answer)
+            }
+            Left::Fixed(len) => {
+                let len = *len;
+                let (answer, more) = pull_fixed(len, unread, has_ended)?;
+                self.left = more;
+                Ok(answer)
+            }
+            Left::Chunks(reader) => {
+                let answer = reader.take(unread, has_ended)?;
+                if answer.is_last() {
+                    self.left = Left::Nothing;
+                }
+                Ok(answer)
+            }
+        }
     }
 
     /// Passes as much of the body as is there, without its bytes. It takes no memory.
@@ -165,7 +187,24 @@ impl Rest {
         ensures rest { self.new ≡ (pass_rest has_ended self.old unread.old.items).rest }
         ensures unread { unread.new.items ≡ (pass_rest has_ended self.old unread.old.items).unread }
     {
-        pass_left(&mut self.left, unread, has_ended)
+        match &mut self.left {
+            Left::Nothing => {}
+            Left::Raw => {
+                unread.clear();
+                if has_ended {
+                    self.left = Left::Nothing;
+                }
+            }
+            Left::Fixed(len) => {
+                let len = *len;
+                self.left = pass_fixed(len, unread);
+            }
+            Left::Chunks(reader) => {
+                if reader.pass(unread) {
+                    self.left = Left::Nothing;
+                }
+            }
+        }
     }
 
     /// Takes note that no bytes will follow those that are unread: a raw body of which none is left has ended.
@@ -197,38 +236,6 @@ fn kind_of_chunks(reader: &ChunkReader) -> RestKind
         RestKind::Broken
     } else {
         RestKind::Chunks
-    }
-}
-
-fn pull_left(left: &mut Left, unread: &mut BytesMut, has_ended: bool) -> Result<Pulled, NoMemory>
-    ensures pulled { IfOk result (λ answer. (p : pulls.Pulled) → IsPull has_ended (rest_of left.old) unread.old.items p
-        → IsPulled p answer (rest_of left.new) unread.new.items) }
-    ensures no_memory_needed { (p : pulls.Pulled) → IsPull has_ended (rest_of left.old) unread.old.items p
-        → IsLight (rest_of left.old) p.outcome p.rest → IsOk result }
-    ensures err { OnErr result ((left.new ≡ left.old) × (unread.new ≡ unread.old)) }
-{
-    match left {
-        Left::Nothing => Ok(Pulled::End),
-        Left::Raw => {
-            let answer = pull_raw(unread, has_ended)?;
-            if has_ended {
-                *left = Left::Nothing;
-            }
-            Ok(answer)
-        }
-        Left::Fixed(len) => {
-            let len = *len;
-            let (answer, more) = pull_fixed(len, unread, has_ended)?;
-            *left = more;
-            Ok(answer)
-        }
-        Left::Chunks(reader) => {
-            let answer = reader.take(unread, has_ended)?;
-            if answer.is_last() {
-                *left = Left::Nothing;
-            }
-            Ok(answer)
-        }
     }
 }
 
@@ -272,30 +279,6 @@ fn pull_fixed(len: u64, unread: &mut BytesMut, has_ended: bool) -> Result<(Pulle
     }
     let bytes = unread.freeze_to(there)?;
     Ok((Pulled::Bytes(bytes), Left::Fixed(len - there as u64)))
-}
-
-fn pass_left(left: &mut Left, unread: &mut BytesMut, has_ended: bool)
-    ensures rest { rest_of left.new ≡ (pass_rest has_ended (rest_of left.old) unread.old.items).rest }
-    ensures unread { unread.new.items ≡ (pass_rest has_ended (rest_of left.old) unread.old.items).unread }
-{
-    match left {
-        Left::Nothing => {}
-        Left::Raw => {
-            unread.clear();
-            if has_ended {
-                *left = Left::Nothing;
-            }
-        }
-        Left::Fixed(len) => {
-            let len = *len;
-            *left = pass_fixed(len, unread);
-        }
-        Left::Chunks(reader) => {
-            if reader.pass(unread) {
-                *left = Left::Nothing;
-            }
-        }
-    }
 }
 
 /// What is left of a body of `len` bytes, once those that are there are passed.

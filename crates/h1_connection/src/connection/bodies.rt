@@ -9,7 +9,7 @@ ghost use Rattle.h1_connection.specs.Parts.{kept_of, IsSound, Steps};
 ghost use Rattle.h1_connection.specs.Pulls.{tells_done, IsPulledFrom, IsPullOf, IsLightPull};
 
 use crate::connection::exchange::Exchange;
-use crate::connection::intake::Intake;
+use crate::connection::input::Input;
 use crate::connection::parts::Parts;
 use h1_payload::Pulled;
 use http_types::{NoMemory, ServiceConfig};
@@ -37,7 +37,7 @@ impl Parts {
 
 impl Exchange {
     /// Takes what comes next of the body.
-    pub fn pull(&mut self, input: &mut Intake, has_ended: bool) -> Result<Pulled, NoMemory>
+    pub fn pull(&mut self, input: &mut Input, has_ended: bool) -> Result<Pulled, NoMemory>
         requires unsearched { input.old.piece ≡ None }
         requires behind { is_nothing self.old.rest ≡ false → input.old.ahead ≡ 0 }
         requires plain { is_frames self.old.rest ≡ false }

@@ -6,7 +6,7 @@ ghost use Rattle.h1_connection.specs.EventMeaning.{end_of};
 ghost use Rattle.h1_connection.specs.Parts.{reply_of, exchange_of, is_done, passed_by, sending_by};
 
 use crate::End;
-use crate::connection::intake::Intake;
+use crate::connection::input::Input;
 use crate::connection::reading::Reading;
 use crate::connection::request::Request;
 use h1_encoder::Shape;
@@ -88,7 +88,7 @@ impl Exchange {
     }
 
     /// Passes the rest of the body where the answer is complete.
-    pub fn pass(&mut self, input: &mut Intake, has_ended: bool)
+    pub fn pass(&mut self, input: &mut Input, has_ended: bool)
         requires unsearched { is_done self.old ≡ false → input.old.piece ≡ None }
         requires behind { is_nothing self.old.rest ≡ false → input.old.ahead ≡ 0 }
         ensures exchange { self.new ≡ record self.old { rest = (passed_by has_ended self.old input.old.unread).rest } }

@@ -14,7 +14,7 @@ ghost use Rattle.h1_connection.specs.Frames.{accepted_of, is_done, with_frames, 
 
 use crate::End;
 use crate::connection::exchange::Exchange;
-use crate::connection::intake::Intake;
+use crate::connection::input::Input;
 use crate::connection::parts::Parts;
 use crate::connection::reading::Reading;
 use crate::connection::request::Request;
@@ -156,7 +156,7 @@ impl Parts {
 
 impl Exchange {
     /// Takes the next frame.
-    pub fn pull_frame(&mut self, input: &mut Intake) -> Result<PulledFrame, NoMemory>
+    pub fn pull_frame(&mut self, input: &mut Input) -> Result<PulledFrame, NoMemory>
         requires unsearched { input.old.piece ≡ None }
         requires behind { input.old.ahead ≡ 0 }
         requires frames { is_frames self.old.rest ≡ true }

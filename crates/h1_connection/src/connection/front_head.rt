@@ -4,17 +4,42 @@ ghost use Rattle.h1_decoder.specs.HeadItem.{SaysHead, without_headers};
 ghost use Rattle.h1_decoder.specs.Refusal.{UnlessNoMemory, fault_of};
 ghost use Rattle.model_h1.specs.Request.{Head, head_is, faulty};
 ghost use Rattle.model_h1.specs.RequestHead.{IsReading};
-ghost use Rattle.h1_connection.specs.Incoming.{IsWhole, IsHeadOf, IsNextHead, IsNextFault, IsSearched, IsCutNoted, incoming, due_in};
+ghost use Rattle.h1_connection.specs.Incoming.{IsWhole, IsHeadOf, IsNextHead, IsNextFault, IsPassedHead, IsSearched, IsCutNoted, incoming, due_in};
 
-use crate::connection::head_search::{Scan, Search, searched};
+use crate::connection::head_search::{Scan, Search, caught_up, searched};
 use bytes::{Bytes, BytesMut};
 use h1_decoder::{HeadItem, HeadRoom, HeadScan, HeadScanner, cut_head_into, read_head_into};
 use http_types::{NoMemory, ParseError};
 use std::alloc::Global;
 
-/// Reads the head with which the bytes begin, and says whether there is one. It is parsed at once, so that none of its
-/// bytes is looked at twice; where that finds none, the bytes are searched, and no further ones are parsed in vain.
-pub fn read_due(
+/// Reads the next head over another one, and says whether it is there. It shares the memory of its bytes, which stay.
+/// Where none is there the other one stays; after an error it is as it was, but without headers.
+pub fn read_next(
+    alloc: Global,
+    item: &mut HeadItem,
+    room: &mut HeadRoom,
+    head_bytes: &mut Bytes,
+    bytes: &mut BytesMut,
+    search: &mut Search,
+) -> Result<bool, ParseError>
+    requires { IsSearched head_bytes.old bytes.old.items search.old }
+    ensures same { incoming head_bytes.new bytes.new.items search.new ≡ incoming head_bytes.old bytes.old.items search.old }
+    ensures searched { IsSearched head_bytes.new bytes.new.items search.new }
+    ensures head { IfOk result (λ is_there. is_there ≡ true → IsNextHead (incoming head_bytes.old bytes.old.items search.old) item.new) }
+    ensures none { IfOk result (λ is_there. is_there ≡ false → IsHeadOf (incoming head_bytes.old bytes.old.items search.old) None × (item.new ≡ item.old)) }
+    ensures fault { IfErr result (λ e. UnlessNoMemory e (IsNextFault (incoming head_bytes.old bytes.old.items search.old) (fault_of e))) }
+    ensures whole { OnErr result (IsWhole (incoming head_bytes.old bytes.old.items search.old)) }
+    ensures err { OnErr result (item.new ≡ without_headers item.old) }
+{
+    if let Search::Due = *search {
+        return read_due(alloc, item, room, head_bytes, bytes, search);
+    }
+    read_found(alloc, item, room, head_bytes, bytes, search)
+}
+
+// Reads the head with which the bytes begin, and says whether there is one. It is parsed at once, so that none of its
+// bytes is looked at twice; where that finds none, the bytes are searched, and no further ones are parsed in vain.
+fn read_due(
     alloc: Global,
     item: &mut HeadItem,
     room: &mut HeadRoom,
@@ -62,8 +87,8 @@ fn note_cut(head_bytes: &Bytes, search: &mut Search)
     });
 }
 
-/// Reads the head that the search has found, and says whether there is one. It is cut off first, where that isn't done yet.
-pub fn read_found(
+// Reads the head that the search has found, and says whether there is one. It is cut off first, where that isn't done yet.
+fn read_found(
     alloc: Global,
     item: &mut HeadItem,
     room: &mut HeadRoom,
@@ -151,8 +176,25 @@ fn read_behind_blank_lines(
     read_head_into(alloc, item, room, &head)
 }
 
-/// Lets the first bytes go up to the head's end, whether they were cut off or not.
-pub fn pass(head_bytes: &mut Bytes, bytes: &mut BytesMut, end: usize)
+/// Passes the head that is there, which a search has found or is still to find. No other is searched for.
+pub fn pass_next(head_bytes: &mut Bytes, bytes: &mut BytesMut, search: &mut Search)
+    requires searched { IsSearched head_bytes.old bytes.old.items search.old }
+    requires whole { IsWhole (incoming head_bytes.old bytes.old.items search.old) }
+    ensures { IsPassedHead (incoming head_bytes.old bytes.old.items search.old) (incoming head_bytes.new bytes.new.items search.new)
+        × (head_bytes.new ≡ []) × (search.new ≡ Search.Off) }
+{
+    let Search::Done(scan) = caught_up(*search, bytes.as_slice()) else {
+        return;
+    };
+    let HeadScan::Piece(_, end) = scan.piece else {
+        return;
+    };
+    *search = Search::Off;
+    pass(head_bytes, bytes, end);
+}
+
+// Lets the first bytes go up to the head's end, whether they were cut off or not.
+fn pass(head_bytes: &mut Bytes, bytes: &mut BytesMut, end: usize)
     requires fits { end ≤ length (head_bytes.old ++ bytes.old.items) }
     requires whole { (head_bytes.old ≡ []) ⊎ (length head_bytes.old ≡ end) }
     ensures head_bytes { head_bytes.new ≡ [] }

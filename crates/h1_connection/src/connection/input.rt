@@ -1,5 +1,6 @@
-// What a connection holds of its input: the bytes that were read and not passed, and the search for a head among them.
-ghost use Rattle.std.specs.Prelude.{◌≡◌, ◌≢◌, ◌<◌, ◌≤◌, ◌-◌, ◌^◌, ◌++◌, ◌↔◌, ℕ, Bool, List, [], Some, None, length, take, drop, min, true, false, is_some, IfOk, IfErr, IsOk, OnOk, OnErr, IsErrOf};
+// What a connection holds of its input: the bytes that were taken and not passed, the search for a head among them, and how
+// many heads stand ahead in them.
+ghost use Rattle.std.specs.Prelude.{◌≡◌, ◌≢◌, ◌≤◌, ◌<◌, ◌-◌, ◌++◌, ◌↔◌, ℕ, Bool, List, [], Some, None, length, take, drop, min, true, false, is_some, IfOk, IfErr, IsOk, OnOk, OnErr, IsErrOf};
 ghost use Rattle.std.specs.Io.KnownBytes.{Consumes, Keeps, IsAtEnd};
 ghost use Rattle.http_config.specs.Causes.{Rose, counted, IsAsked};
 ghost use Rattle.h1_decoder.specs.HeadItem.{without_headers};
@@ -8,20 +9,21 @@ ghost use Rattle.model_h1.specs.FrameText.{front_frame};
 ghost use Rattle.model_h1.specs.Parse.{connection_reader};
 ghost use Rattle.model_state.specs.Kept.{rest_in, is_nothing};
 ghost use Rattle.model_state.specs.Local.{is_partial};
-ghost use Rattle.ws_frames.specs.Codec.{IsTakenNamed};
-ghost use Rattle.ws_frames.specs.Fronts.{FrontTaken};
 ghost use Rattle.model_state.specs.Body.{pass_rest};
 ghost use Rattle.model_state.specs.Pull.{IsPull};
 ghost use Rattle.model_state.specs.Pull as pulls;
 ghost use Rattle.h1_payload.specs.Rests.{IsPulled, IsLight};
-ghost use Rattle.h1_connection.specs.Ahead.{heads_in};
-ghost use Rattle.h1_connection.specs.Incoming.{is_coming_in, IsFound, IsWhole, IsHeadOf, IsNextHead, IsNextFault, IsPassedHead};
+ghost use Rattle.ws_frames.specs.Codec.{IsTakenNamed};
+ghost use Rattle.ws_frames.specs.Fronts.{FrontTaken};
+ghost use Rattle.h1_decoder.specs.declared.scan.HeadScan.TheVariants.{Open};
+ghost use Rattle.h1_connection.specs.Incoming.{is_coming_in};
+ghost use Rattle.h1_connection.specs.Stock.{IsFoundOf, IsHeadAhead, IsFaultAhead, IsWholeOf, HandsOut};
 
 use crate::ReadFromError;
 use crate::connection::READ_SIZE;
-use crate::connection::ahead::heads_in;
+use crate::connection::ahead::{Count, heads_in};
 use crate::connection::filling::{make_room, read_behind};
-use crate::connection::front_head::{pass, read_due, read_found};
+use crate::connection::front_head::{pass_next, read_next};
 use crate::connection::head_search::{Scan, Search, caught_up, continued, has_head};
 use crate::connection::reading::Frames;
 use bytes::{Bytes, BytesMut};
@@ -32,13 +34,19 @@ use std::alloc::Global;
 use std::marker::Model;
 use ws_frames::{Frame, ProtocolError, take_front, waits_for_frame};
 
-/// The bytes of the input that were taken and not passed yet.
+/// The bytes of the input that were taken and not passed yet, and how many heads stand ahead in them.
 ///
 /// A head is searched for only where one may come next, so that no byte of a body is. What was found is kept, and
 /// so is how far the search has come: a head that comes byte by byte costs what it costs in one piece. Behind the first
 /// head the search waits until the next one is asked for.
+///
+/// A client that doesn't wait for answers sends many requests at once. Where one without a body is handed out, the heads
+/// that stand behind it are counted, up to 16, as long as the one before has no body; each of them that is handed out is
+/// counted no more, and no other is before all of them are.
 #[derive(Drop)]
 pub struct Input {
+    count: Count,
+
     /// The head that was asked for, with the empty lines before it, where it couldn't be handed out.
     head_bytes: Bytes,
     bytes: BytesMut,
@@ -46,22 +54,24 @@ pub struct Input {
 }
 
 impl Model for Input {
-    ghost use Rattle.h1_connection.specs.Incoming.{Incoming, incoming, IsSearched};
+    ghost use Rattle.h1_connection.specs.Incoming.{incoming, IsSearched};
+    ghost use Rattle.h1_connection.specs.Stock.{Stock, stock_of, IsStocked};
 
-    ghost Value = { Incoming };
+    ghost Value = { Stock };
 
-    ghost view = { λ input. incoming input.head_bytes input.bytes.items input.search };
+    ghost view = { λ i. stock_of i.count (incoming i.head_bytes i.bytes.items i.search) };
 
-    ghost invariant = { λ input. IsSearched input.head_bytes input.bytes.items input.search };
+    ghost invariant = { λ i. IsStocked i.count (incoming i.head_bytes i.bytes.items i.search) × IsSearched i.head_bytes i.bytes.items i.search };
 }
 
 impl Input {
     /// No bytes, and no memory taken. A head is searched for.
     pub fn new(alloc: Global) -> Input
-        ensures value { result ≡ record { unread = []; piece = Some HeadScan.Open } }
-        ensures scanned { IsFound result }
+        ensures value { result ≡ record { unread = []; piece = Some Open; ahead = 0 } }
+        ensures scanned { IsFoundOf result }
     {
         Input {
+            count: Count::new(),
             head_bytes: Bytes::new(),
             bytes: BytesMut::new(alloc),
             search: Search::Done(Scan {
@@ -73,13 +83,12 @@ impl Input {
 
     /// How many bytes are held.
     pub fn len(&self) -> usize
-        ensures value { result ≡ length self.now.unread }
-        ensures fits { length self.now.unread < 2 ^ 64 }
+        ensures { result ≡ length self.now.unread }
     {
         self.head_bytes.len() + self.bytes.len()
     }
 
-    /// The bytes that are held, from place `start` on, as many as lie together.
+    /// The bytes that are held, from place `start` on, as many as lie together: all of them where no head is searched for.
     pub fn bytes_from(&self, start: usize) -> &[u8]
         ensures first { (rest : List ℕ) × (result.now ++ rest ≡ drop start self.now.unread) }
         ensures some { start < length self.now.unread → 0 < length result.now }
@@ -93,6 +102,33 @@ impl Input {
         behind(self.bytes.as_slice(), start - cut)
     }
 
+    /// How many heads stand ahead of the one that was handed out last.
+    pub fn ahead(&self, alloc: Global) -> Result<usize, NoMemory>
+        ensures value { IfOk result (λ count. count ≡ self.now.ahead) }
+        ensures most { IfOk result (λ count. count ≤ 16) }
+        ensures no_memory_needed { self.now.ahead ≡ 0 → IsOk result }
+    {
+        let _ = &self.search;
+        let cut = self.head_bytes.len();
+        let mark = self.count.mark;
+        let left = self.count.left;
+        if cut == 0 {
+            return heads_in(alloc, &self.bytes.as_slice()[..mark], left);
+        }
+        if mark < cut {
+            return Ok(0);
+        }
+        if left == 0 {
+            return Ok(0);
+        }
+        let all = joined(
+            alloc,
+            &self.head_bytes,
+            &self.bytes.as_slice()[..mark - cut],
+        )?;
+        heads_in(alloc, all.as_slice(), left)
+    }
+
     /// Whether a whole head is there.
     pub fn is_coming(&self) -> bool
         ensures { result ≡ is_coming_in self.now.piece }
@@ -104,23 +140,25 @@ impl Input {
         }
     }
 
-    /// Whether it is known, with no scan of bytes, that no whole head is there.
+    /// Whether a head is searched for, and it is known, with no scan of bytes, that no whole one is there.
     pub fn has_none(&self) -> bool
-        ensures { result ≡ true → IsHeadOf self.now None }
+        ensures none { result ≡ true → IsHeadAhead self.now None }
+        ensures ahead { result ≡ true → self.now.ahead ≡ 0 }
     {
-        let is_scanned = match &self.search {
+        match &self.search {
+            Search::Off => false,
             Search::Due => self.bytes.is_empty(),
-            _ => true,
-        };
-        is_scanned && !self.is_coming()
+            Search::Done(_) => !self.is_coming(),
+        }
     }
 
     /// Takes the bytes that there is room for up to the limit, and says how many.
     pub fn take(&mut self, bytes: &[u8], limit: usize) -> Result<usize, NoMemory>
         ensures count { IfOk result (λ count. count ≡ min (length bytes.now) (limit - length self.old.unread)) }
         ensures ok { IfOk result (λ count. self.new.unread ≡ self.old.unread ++ take count bytes.now) }
-        ensures scanned { OnOk result (IsFound self.new) }
+        ensures scanned { OnOk result (IsFoundOf self.new) }
         ensures searched { OnOk result (is_some self.new.piece ≡ is_some self.old.piece) }
+        ensures ahead { self.new.ahead ≡ self.old.ahead }
         ensures err { OnErr result (self.new ≡ self.old) }
     {
         let held = self.head_bytes.len() + self.bytes.len();
@@ -143,8 +181,9 @@ impl Input {
         ensures room { IfOk result (λ count. count ≤ limit - length self.old.unread) }
         ensures bound { IfOk result (λ count. count ≤ READ_SIZE) }
         ensures end { IfOk result (λ count. count ≡ 0 → (self.new ≡ self.old) × IsAtEnd (S.left source.new)) }
-        ensures scanned { OnOk result (IsFound self.new) }
+        ensures scanned { OnOk result (IsFoundOf self.new) }
         ensures searched { OnOk result (is_some self.new.piece ≡ is_some self.old.piece) }
+        ensures ahead { self.new.ahead ≡ self.old.ahead }
         ensures full { IsErrOf result ReadFromError.Full ↔ limit ≤ length self.old.unread }
         ensures failed { IsErrOf result ReadFromError.Failed → Rose (S.faults source.old) (S.faults source.new) }
         ensures left { IsErrOf result ReadFromError.Failed → Keeps (S.left source.old) (S.left source.new) }
@@ -170,10 +209,10 @@ impl Input {
 
     /// Lets the next head be searched for when it is asked for.
     pub fn await_head(&mut self)
-        ensures same { is_some self.old.piece ≡ true → self.new ≡ self.old }
         ensures unread { self.new.unread ≡ self.old.unread }
-        ensures scanned { IsFound self.new }
+        ensures scanned { IsFoundOf self.new }
         ensures searched { is_some self.new.piece ≡ true }
+        ensures ahead { self.new.ahead ≡ self.old.ahead }
     {
         if let Search::Off = self.search {
             self.search = Search::Due;
@@ -192,129 +231,91 @@ impl Input {
     /// Searches for the next head, if it isn't done yet.
     pub fn search(&mut self)
         ensures unread { self.new.unread ≡ self.old.unread }
-        ensures scanned { IsFound self.new }
+        ensures scanned { IsFoundOf self.new }
         ensures searched { is_some self.new.piece ≡ true }
+        ensures ahead { self.new.ahead ≡ self.old.ahead }
     {
         self.await_head();
         self.search = caught_up(self.search, self.bytes.as_slice());
     }
 
-    /// Whether a head is searched for, or will be when it is asked for.
-    pub fn is_searched(&self) -> bool
-        ensures value { result ≡ is_some self.now.piece }
-        ensures found { IsFound self.now }
-    {
-        match &self.search {
-            Search::Off => false,
-            _ => true,
-        }
-    }
-
-    /// How many heads stand one after another in front of the first `mark` bytes, at most so many. All but the last have no
-    /// body.
-    pub fn heads_in(&self, alloc: Global, mark: usize, limit: usize) -> Result<usize, NoMemory>
-        requires { mark ≤ length self.now.unread }
-        ensures value { IfOk result (λ count. count ≡ heads_in limit (take mark self.now.unread)) }
-        ensures most { IfOk result (λ count. count ≤ limit) }
-        ensures no_memory_needed { heads_in limit (take mark self.now.unread) ≡ 0 → IsOk result }
-    {
-        let _ = &self.search;
-        let cut = self.head_bytes.len();
-        if cut == 0 {
-            return heads_in(alloc, &self.bytes.as_slice()[..mark], limit);
-        }
-        if mark < cut {
-            return Ok(0);
-        }
-        if limit == 0 {
-            return Ok(0);
-        }
-        let all = joined(
-            alloc,
-            &self.head_bytes,
-            &self.bytes.as_slice()[..mark - cut],
-        )?;
-        heads_in(alloc, all.as_slice(), limit)
-    }
-
-    /// Reads the next head over another one, and says whether it is there. It shares the memory of its bytes, which stay.
+    /// Hands out the next head over another one, and says whether it is there. No other head is searched for behind it.
     /// Where none is there the other one stays; after an error it is as it was, but without headers.
-    pub fn read_head(
+    pub fn take_head(
         &mut self,
         alloc: Global,
         item: &mut HeadItem,
         room: &mut HeadRoom,
     ) -> Result<bool, ParseError>
-        ensures same { self.new ≡ self.old }
-        ensures found { IsFound self.old }
-        ensures head { IfOk result (λ is_there. is_there ≡ true → IsNextHead self.old item.new) }
-        ensures none { IfOk result (λ is_there. is_there ≡ false → IsHeadOf self.old None × (item.new ≡ item.old)) }
-        ensures fault { IfErr result (λ e. UnlessNoMemory e (IsNextFault self.old (fault_of e))) }
-        ensures whole { OnErr result (IsWhole self.old) }
-        ensures err { OnErr result (item.new ≡ without_headers item.old) }
+        ensures head { IfOk result (λ is_there. is_there ≡ true → HandsOut self.old item.new self.new) }
+        ensures none { IfOk result (λ is_there. is_there ≡ false → IsHeadAhead self.old None × (item.new ≡ item.old) × (self.new ≡ self.old)) }
+        ensures none_ahead { IfOk result (λ is_there. is_there ≡ false → is_some self.old.piece ≡ true → self.old.ahead ≡ 0) }
+        ensures fault { IfErr result (λ e. UnlessNoMemory e (IsFaultAhead self.old (fault_of e))) }
+        ensures last { IfErr result (λ e. UnlessNoMemory e (self.old.ahead ≤ 1)) }
+        ensures whole { OnErr result (IsWholeOf self.old) }
+        ensures err { OnErr result ((item.new ≡ without_headers item.old) × (self.new ≡ self.old)) }
     {
-        if let Search::Due = self.search {
-            return read_due(
-                alloc,
-                item,
-                room,
-                &mut self.head_bytes,
-                &mut self.bytes,
-                &mut self.search,
-            );
-        }
-        read_found(
+        let held = self.len();
+        let is_there = read_next(
             alloc,
             item,
             room,
             &mut self.head_bytes,
             &mut self.bytes,
-            &self.search,
-        )
+            &mut self.search,
+        )?;
+        if !is_there {
+            return Ok(false);
+        }
+        pass_next(&mut self.head_bytes, &mut self.bytes, &mut self.search);
+        let len = self.bytes.len();
+        let size = held - len;
+        self.count = self.count.behind(size, len, item.has_body());
+        Ok(true)
     }
 
-    /// Passes the head that is there, which a search has found or is still to find. No other is searched for.
-    pub fn pass_head(&mut self)
-        requires { IsWhole self.old }
-        ensures { IsPassedHead self.old self.new }
+    /// The next head was refused, and is counted no more. Its bytes stay.
+    pub fn forget(&mut self)
+        ensures { self.new ≡ record self.old { ahead = 0 } }
     {
-        let Search::Done(scan) = caught_up(self.search, self.bytes.as_slice()) else {
-            return;
-        };
-        let HeadScan::Piece(_, end) = scan.piece else {
-            return;
-        };
-        self.search = Search::Off;
-        pass(&mut self.head_bytes, &mut self.bytes, end);
+        let _ = &self.search;
+        self.count = Count::new();
     }
 
     /// Takes what comes next of a body.
     pub fn pull(&mut self, rest: &mut Rest, has_ended: bool) -> Result<Pulled, NoMemory>
-        requires { self.old.piece ≡ None }
+        requires unsearched { self.old.piece ≡ None }
+        requires behind { is_nothing rest.old ≡ false → self.old.ahead ≡ 0 }
         ensures pulled { IfOk result (λ answer. (p : pulls.Pulled) → IsPull has_ended rest.old self.old.unread p
             → IsPulled p answer rest.new self.new.unread) }
         ensures piece { self.new.piece ≡ None }
+        ensures ahead { self.new.ahead ≡ self.old.ahead }
         ensures nothing { is_nothing rest.old ≡ true → is_nothing rest.new ≡ true }
         ensures no_memory_needed { (p : pulls.Pulled) → IsPull has_ended rest.old self.old.unread p → IsLight rest.old p.outcome p.rest → IsOk result }
         ensures err { OnErr result ((self.new ≡ self.old) × (rest.new ≡ rest.old)) }
     {
         let _ = &self.search;
-        rest.pull(&mut self.bytes, has_ended)
+        self.count = self.count.beside_body(rest.is_nothing());
+        let pulled = rest.pull(&mut self.bytes, has_ended)?;
+        Ok(pulled)
     }
 
     /// Passes over what is left of a body.
     pub fn pass(&mut self, rest: &mut Rest, has_ended: bool)
-        requires { self.old.piece ≡ None }
+        requires unsearched { self.old.piece ≡ None }
+        requires behind { is_nothing rest.old ≡ false → self.old.ahead ≡ 0 }
         ensures rest { rest.new ≡ (pass_rest has_ended rest.old self.old.unread).rest }
-        ensures unread { self.new ≡ record { unread = (pass_rest has_ended rest.old self.old.unread).unread; piece = None } }
+        ensures unread { self.new ≡ record self.old { unread = (pass_rest has_ended rest.old self.old.unread).unread } }
     {
         let _ = &self.search;
+        self.count = self.count.beside_body(rest.is_nothing());
         rest.pass(&mut self.bytes, has_ended);
     }
 
     /// Whether neither a whole frame nor a broken rule stands in front, in payloads of at most so many bytes.
     pub fn waits_for_frame(&self, limit: usize) -> bool
-        requires { self.now.piece ≡ None }
+        requires unsearched { self.now.piece ≡ None }
+        requires behind { self.now.ahead ≡ 0 }
         ensures { (under_way : Bool) → result ≡ is_partial (front_frame (connection_reader limit) under_way self.now.unread) }
     {
         let _ = &self.search;
@@ -323,12 +324,15 @@ impl Input {
 
     /// Takes the frame in front, once it is whole, and says whether a message is under way behind it.
     pub fn take_frame(&mut self, frames: Frames) -> Result<Option<(Frame, bool)>, ProtocolError>
-        requires { self.old.piece ≡ None }
+        requires unsearched { self.old.piece ≡ None }
+        requires behind { self.old.ahead ≡ 0 }
         ensures taken { FrontTaken true frames.limit frames.under_way self.old.unread result self.new.unread }
         ensures named { IfOk result IsTakenNamed }
         ensures piece { self.new.piece ≡ None }
+        ensures ahead { self.new.ahead ≡ 0 }
     {
         let _ = &self.search;
+        self.count = Count::new();
         let alloc = *self.bytes.allocator();
         take_front(alloc, &mut self.bytes, true, frames.limit, frames.under_way)
     }

@@ -10,7 +10,7 @@ ghost use Rattle.h1_connection.specs.Parts.{kept_of, MayBeSearched, IsSearchedFo
 use crate::End;
 use crate::connection::clock::Clock;
 use crate::connection::exchange::Exchange;
-use crate::connection::intake::Intake;
+use crate::connection::input::Input;
 use crate::connection::output::Output;
 use http_types::ServiceConfig;
 use std::alloc::Global;
@@ -19,7 +19,7 @@ use std::alloc::Global;
 #[derive(Drop)]
 pub struct Parts {
     /// The bytes taken and not passed.
-    pub input: Intake,
+    pub input: Input,
     pub has_ended: bool,
     pub is_draining: bool,
     pub is_over: bool,
@@ -48,7 +48,7 @@ impl Parts {
         ensures sound { (settings : Settings) → IsSound settings result }
     {
         Parts {
-            input: Intake::new(alloc),
+            input: Input::new(alloc),
             has_ended: false,
             is_draining: false,
             is_over: false,

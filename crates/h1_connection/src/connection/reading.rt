@@ -11,7 +11,7 @@ ghost use Rattle.h1_connection.specs.EventMeaning.{end_of};
 
 use crate::End;
 use crate::connection::frames::PulledFrame;
-use crate::connection::intake::Intake;
+use crate::connection::input::Input;
 use h1_payload::{Pulled, Rest, RestKind};
 use http_types::NoMemory;
 use std::alloc::AllocError;
@@ -30,7 +30,7 @@ pub struct Frames {
 
 impl Frames {
     /// Takes the next frame.
-    fn pull(&mut self, input: &mut Intake) -> Result<PulledFrame, NoMemory>
+    fn pull(&mut self, input: &mut Input) -> Result<PulledFrame, NoMemory>
         requires unsearched { input.old.piece ≡ None }
         requires behind { input.old.ahead ≡ 0 }
         ensures pulled { IfOk result (λ answer. IsFramePulled (frames_rest self.old.under_way self.old.limit) input.old.unread answer
@@ -122,7 +122,7 @@ impl Reading {
     }
 
     /// Takes what comes next of a body.
-    pub fn pull(&mut self, input: &mut Intake, has_ended: bool) -> Result<Pulled, NoMemory>
+    pub fn pull(&mut self, input: &mut Input, has_ended: bool) -> Result<Pulled, NoMemory>
         requires unsearched { input.old.piece ≡ None }
         requires behind { is_nothing self.old ≡ false → input.old.ahead ≡ 0 }
         requires plain { is_frames self.old ≡ false }
@@ -145,7 +145,7 @@ impl Reading {
     }
 
     /// Takes the next frame.
-    pub fn pull_frame(&mut self, input: &mut Intake) -> Result<PulledFrame, NoMemory>
+    pub fn pull_frame(&mut self, input: &mut Input) -> Result<PulledFrame, NoMemory>
         requires unsearched { input.old.piece ≡ None }
         requires behind { input.old.ahead ≡ 0 }
         requires frames { is_frames self.old ≡ true }
@@ -165,7 +165,7 @@ impl Reading {
     }
 
     /// Passes over what is left of a body.
-    pub fn pass(&mut self, input: &mut Intake, has_ended: bool)
+    pub fn pass(&mut self, input: &mut Input, has_ended: bool)
         requires unsearched { input.old.piece ≡ None }
         requires behind { is_nothing self.old ≡ false → input.old.ahead ≡ 0 }
         ensures rest { self.new ≡ (pass_rest has_ended self.old input.old.unread).rest }
@@ -177,7 +177,7 @@ impl Reading {
     }
 
     /// With the input a raw body ends of which no byte is left.
-    pub fn end(&mut self, input: &Intake)
+    pub fn end(&mut self, input: &Input)
         ensures { self.new ≡ rest_in true input.now.unread self.old }
     {
         if let Form::Body(rest) = &mut self.form {
@@ -203,7 +203,7 @@ impl Reading {
     }
 
     /// Whether frames are read, and neither a whole one nor a broken rule stands in front.
-    pub fn waits_for_frame(&self, input: &Intake) -> bool
+    pub fn waits_for_frame(&self, input: &Input) -> bool
         requires unsearched { input.now.piece ≡ None }
         requires behind { is_nothing self.now ≡ false → input.now.ahead ≡ 0 }
         ensures { result ≡ has_no_frame input.now.unread self.now }
