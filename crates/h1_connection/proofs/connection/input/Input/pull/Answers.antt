@@ -60,6 +60,6 @@ pub returns-in_err-pulled-clause-err : goal.returns-in_err-pulled-clause-err
 returns-in_err-pulled-clause-err c =
     err_any c.from_residual.result _ (
       (stays_held c.self.inside.count c.beside_body-self-inside.result c.self.inside.head_bytes c.self.inside.bytes.items c.pull.new.unread.items c.self.inside.search c.args.self.now c.args.rest.now c.is_nothing.result
-      c.self.view_is c.self.invariant c.is_nothing.ensures c.beside_body-self-inside.ensures c.requires.unsearched c.requires.behind (ap (λ b. b.items) c.in_err-pulled.ensures.err.1)).0,
+          c.self.view_is c.self.invariant c.is_nothing.ensures c.beside_body-self-inside.ensures c.requires.unsearched c.requires.behind (ap (λ b. b.items) c.in_err-pulled.ensures.err.1)).0,
       c.in_err-pulled.ensures.err.0,
     )

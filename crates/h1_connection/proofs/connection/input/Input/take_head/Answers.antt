@@ -81,9 +81,8 @@ invariant_of-self-2 c =
     let passed = (subst (λ (i : Incoming). IsPassedHead i (incoming c.pass_next.new.head_bytes c.pass_next.new.bytes.items c.pass_next.new.search)) c.read_next.ensures.same c.pass_next.ensures.0) in
     let len = c.len-len.ensures.value ∙ uncut_length c.pass_next.new.head_bytes c.pass_next.new.bytes.items c.pass_next.ensures.1 in
     let size = c.len-held.result - c.len-len.result in
-    let goes = subst (λ (n : ℕ). IsCountBehind c.self.inside.count size n c.has_body.result c.behind-self-inside.result) len c.behind-self-inside.ensures in
-    (
+    let goes = subst (λ (n : ℕ). IsCountBehind c.self.inside.count size n c.has_body.result c.behind-self-inside.result) len c.behind-self-inside.ensures in (
       (handed c.self.inside.count c.behind-self-inside.result (incoming c.self.inside.head_bytes c.self.inside.bytes.items c.self.inside.search) (incoming c.pass_next.new.head_bytes c.pass_next.new.bytes.items c.pass_next.new.search) c.read_next.new.item size c.has_body.result c.self.invariant.0 next passed
-    (omega (arith, c.len-held.ensures, len, ap (λ (s : Stock). length s.unread) c.self.view_is)) (c.has_body.ensures next.2.0 next.2.2) goes).1,
+          (omega (arith, c.len-held.ensures, len, ap (λ (s : Stock). length s.unread) c.self.view_is)) (c.has_body.ensures next.2.0 next.2.2) goes).1,
       subst (λ (x : Search). IsSearched c.pass_next.new.head_bytes c.pass_next.new.bytes.items x) (sym c.pass_next.ensures.2) c.pass_next.ensures.1,
     )
