@@ -287,24 +287,24 @@ running_of p may over =
 -- ---- where no turns are made
 
 held_up : (waits : ℕ) (sent : Option SentRequest) (o : Option servers.State) (closes : Bool) → (nat_lt waits MAX_WAITING && (may_begin sent o || is_over o) && not closes) ≡ false
-    → (MAX_WAITING ≤ waits) ⊎ (IsFull o ⊎ (closes ≡ true))
+    → (MAX_WAITING ≤ waits) ⊎ (IsFull sent o ⊎ (closes ≡ true))
 held_up waits sent o closes none = by_room (nat_lt waits MAX_WAITING) refl
   where
     by_begin : (b : Bool) → (true && b && not closes) ≡ false → b ≡ true → closes ≡ true
     by_begin true still is = not_false closes still
     by_begin false still is = absurd (false≢true is)
 
-    by_server : (s : Option SentRequest) (o : Option servers.State) → (true && (may_begin s o || is_over o) && not closes) ≡ false → IsFull o ⊎ (closes ≡ true)
+    by_server : (s : Option SentRequest) (o : Option servers.State) → (true && (may_begin s o || is_over o) && not closes) ≡ false → IsFull s o ⊎ (closes ≡ true)
     by_server (Some s) o still = inr (by_begin true still refl)
     by_server None None still = inr (by_begin true still refl)
     by_server None (Some s) still = by_full (nat_lt (length s.kept.buffered) MAX_WAITING) (client_closing s.kept) refl refl
       where
-        by_full : (b : Bool) (e : Option ClientEnd) → nat_lt (length s.kept.buffered) MAX_WAITING ≡ b → client_closing s.kept ≡ e → IsFull (Some s) ⊎ (closes ≡ true)
+        by_full : (b : Bool) (e : Option ClientEnd) → nat_lt (length s.kept.buffered) MAX_WAITING ≡ b → client_closing s.kept ≡ e → IsFull None (Some s) ⊎ (closes ≡ true)
         by_full false None full over = inl (ltb-false (length s.kept.buffered) MAX_WAITING full, over)
         by_full true e full over = inr (by_begin _ still (ap (λ (b : Bool). b || is_some (client_closing s.kept)) full))
         by_full false (Some e) full over = inr (by_begin _ still (ap₂ (λ (b : Bool) (e : Option ClientEnd). b || is_some e) full over))
 
-    by_room : (b : Bool) → nat_lt waits MAX_WAITING ≡ b → (MAX_WAITING ≤ waits) ⊎ (IsFull o ⊎ (closes ≡ true))
+    by_room : (b : Bool) → nat_lt waits MAX_WAITING ≡ b → (MAX_WAITING ≤ waits) ⊎ (IsFull sent o ⊎ (closes ≡ true))
     by_room false is = inl (ltb-false waits MAX_WAITING is)
     by_room true is = inr (by_server sent o (subst (λ (b : Bool). (b && (may_begin sent o || is_over o) && not closes) ≡ false) is none))
 

@@ -1,7 +1,7 @@
 //! What a forwarder does of its own between two events, turn by turn.
 #![tactic(auto)]
 
-ghost use Rattle.std.specs.Prelude.{◌≡◌, ◌<◌, ◌+◌, ◌*◌, ◌||◌, [], IsTrue, None, Some, true, false, not, is_some, length, OnOk, IfOk};
+ghost use Rattle.std.specs.Prelude.{◌≡◌, ◌<◌, ◌+◌, ◌*◌, ◌||◌, [], IsTrue, None, Some, true, false, not, is_some, length, OnOk, IfOk, IsOk};
 ghost use Rattle.model_h1.specs.Event as on;
 ghost use Rattle.model_h1.specs.Request.{Head};
 ghost use Rattle.model_h1.specs.Answer.{asked_of};
@@ -9,7 +9,7 @@ ghost use Rattle.h1_decoder.specs.HeadItem.{SaysHead};
 ghost use Rattle.proxy.specs.Sides.{ServerStays, SendsBody};
 ghost use Rattle.proxy.specs.Wants.{IsTold};
 ghost use Rattle.model_proxy.specs.Rests.{MAX_WAITING};
-ghost use Rattle.proxy.specs.Kept.{Goes, GoesWith, GoesUnsent, GoesFrom, HoldsNoRequest, Runs, GoesBroken};
+ghost use Rattle.proxy.specs.Kept.{Goes, GoesWith, GoesUnsent, GoesFrom, HoldsNoRequest, Runs, GoesBroken, is_closing};
 ghost use Rattle.proxy.specs.Served.{Serving, GoesOnServing, HasNoReply, HasNoReplyTo};
 ghost use Rattle.proxy_heads.specs.ForwardedMeaning.{status_of};
 ghost use Rattle.h1_client.specs.State as servers;
@@ -31,12 +31,13 @@ use proxy_heads::{
 };
 
 impl Proxy {
-    /// Makes turns until none is possible.
+    /// Makes turns until none is possible. Where none may be made it takes no memory.
     pub(crate) fn settle(&mut self) -> Result<(), NoMemory>
         ensures goes { OnOk result (Goes self.old self.new) }
         ensures rests { OnOk result (Settles self.old self.new) }
         ensures serves { OnOk result (GoesOnServing self.old self.new) }
         ensures replies { OnOk result (HasReplied self.old self.new) }
+        ensures no_memory_needed { may_turn self.old ≡ false → IsOk result }
     {
         for turn in 0..self.most_turns() {
             let more = self.turn()?;
@@ -63,6 +64,7 @@ impl Proxy {
         ensures begins { OnOk result (BeginsWhereItMay self.old self.new) }
         ensures sends { OnOk result (SendsWhereItCan self.old self.new) }
         ensures keeps { OnOk result (KeepsIdle self.old self.new) }
+        ensures no_memory_needed { may_turn self.old ≡ false → IsOk result }
     {
         if self.is_still() {
             return Ok(false);
@@ -169,9 +171,10 @@ impl Proxy {
         }
     }
 
-    // No request waits.
+    // No request waits, and the client's connection isn't to end.
     fn go_on(&mut self) -> Result<bool, NoMemory>
         requires unsent { self.old.unsent ≡ None }
+        requires going { is_closing self.old ≡ false }
         ensures goes { OnOk result (Goes self.old self.new) }
         ensures works { IfOk result (λ more. Works more self.old self.new) }
         ensures serves { OnOk result (GoesOnServing self.old self.new) }
@@ -194,6 +197,7 @@ impl Proxy {
     // No request is under way: the server connection is idle.
     fn begin(&mut self) -> Result<bool, NoMemory>
         requires idle { HoldsNoRequest self.old }
+        requires going { is_closing self.old ≡ false }
         ensures goes { OnOk result (Goes self.old self.new) }
         ensures works { IfOk result (λ more. Works more self.old self.new) }
         ensures serves { OnOk result (GoesOnServing self.old self.new) }
@@ -212,6 +216,7 @@ impl Proxy {
     // The next request's head; the server connection, if there is one, isn't to end.
     fn take_head(&mut self) -> Result<bool, NoMemory>
         requires idle { HoldsNoRequest self.old }
+        requires going { is_closing self.old ≡ false }
         requires goes_on { IsNotToEnd self.old.server }
         ensures goes { OnOk result (Goes self.old self.new) }
         ensures works { IfOk result (λ more. Works more self.old self.new) }
@@ -627,10 +632,11 @@ fn has_read_all(server: &ClientConnection) -> bool
     server.can_next()
 }
 
-// Whether more of the request's body may be sent on.
+// Whether more of the request's body may be sent on: never where 32768 bytes wait towards the server.
 fn may_send(sent: SentRequest, server: &ClientConnection) -> bool
     ensures sends { IsTrue result → SendsBody server.now }
     ensures more { IsTrue result → (sent.is_whole ≡ false) × (sent.is_broken ≡ false) }
+    ensures room { IsTrue result → length server.now.kept.buffered < MAX_WAITING }
     ensures none { result ≡ false → sent.is_whole ≡ false → sent.is_broken ≡ false → length server.now.kept.buffered < MAX_WAITING → SendsBody server.now → ⊥ }
 {
     if sent.is_whole {

@@ -53,7 +53,7 @@ returns-then-not-is_forwardable-clause-replies c =
     )
 
 pub returns-clause-replies : goal.returns-clause-replies
-returns-clause-replies c = inl c.in_ok-tell_to_continue.ensures.puts
+returns-clause-replies c = inl (λ h says. sym (c.is_forwardable.ensures h says) ∙ c.if-not-is_forwardable.false, c.in_ok-tell_to_continue.ensures.puts)
 
 pub returns-then-not-is_forwardable-clause-keeps : goal.returns-then-not-is_forwardable-clause-keeps
 returns-then-not-is_forwardable-clause-keeps c =

@@ -78,7 +78,7 @@ returns-in-Pending-clause-replies c =
 pub returns-in-Closed-clause-replies : goal.returns-in-Closed-clause-replies
 returns-in-Closed-clause-replies c =
     let x = subst (λ (n : NextHead). HandsNext n c.args.self.now.client c.next_head.new.client) c.in-Closed.is c.in_ok-item.ensures.hands in
-    closed_replies c.args.self.now c.next_head.new.client c.requires.idle x.0 x.1
+    closed_replies c.args.self.now c.next_head.new.client c.requires.idle c.requires.going x.1
 
 pub returns-in_ok-open-in-Head-clause-keeps : goal.returns-in_ok-open-in-Head-clause-keeps
 returns-in_ok-open-in-Head-clause-keeps c =
