@@ -2,10 +2,10 @@
 use Rattle.std.proofs.Common.{◌≡◌, ℕ, ◌-◌, Bool, true, false, not, ◌&&◌, List, [], ◌∷◌, ◌++◌, map, flat_map, length, Option, Some, None, refl, sym, ap, ap₂, ◌∙◌, subst, append_assoc, append-nil, arith}
 use Rattle.std.specs.Prelude.{IsTrue, is_some, cond, ◌==◌, if◌then◌else◌}
 use Rattle.std.specs.List.{AllByRecursion}
-use Rattle.std.proofs.lemmas.Bool.{false≢true, and_parts}
+use Rattle.std.proofs.lemmas.Bool.{false≢true, true≢false, and_parts}
 use Rattle.model_h1.specs.Setting.{Setting}
 use Rattle.model_h1.specs.Request.{BodyKind, no_body, fixed_body, chunked_body, raw_body, has_body}
-use Rattle.model_h1.specs.Answer.{BodySize, shape_none, shape_length}
+use Rattle.model_h1.specs.Answer.{BodySize, shape_none, shape_length, is_at_once}
 use Rattle.model_h1.specs.AnswerText.{end_text}
 use Rattle.model_h1.specs.Event as on
 use Rattle.model_h1.specs.Sums.{Step}
@@ -43,9 +43,23 @@ resent p p' at moment ss sent before links is newest all =
     ap behind (sym (ap (λ at. with_sent p at ss) is) ∙ all ∙ ap (λ (sent : List Sent). sent ++ links) newest) in
     ap (λ at. with_sent p' at ss) is ∙ ap (λ (ss : List Sent). sent_of p' moment ∷ ss) others
 
-rightly_kept : (p q : Pulled) (at : Option ℕ) → q.head ≡ p.head → IsRightlySent p at → IsRightlySent q at
-rightly_kept p q None same x = x
-rightly_kept p q (Some moment) same x = ap (λ h. is_forwardable h) same ∙ x
+rightly_kept : (p q : Pulled) (at : Option ℕ) (refused : Bool) → q.head ≡ p.head → IsRightlySent p at refused → IsRightlySent q at refused
+rightly_kept p q None false same x = tt
+rightly_kept p q None true same x = ap (λ h. is_forwardable h) same ∙ x
+rightly_kept p q (Some moment) false same x = ap (λ h. is_forwardable h) same ∙ x
+rightly_kept p q (Some moment) true same x = absurd x
+
+-- one that waited is sent on
+rightly_asked : (p : Pulled) (moment : ℕ) (refused : Bool) → refused ≡ false → is_forwardable p.head ≡ true → IsRightlySent p (Some moment) refused
+rightly_asked p moment false is may = may
+rightly_asked p moment true is may = absurd (false≢true (sym is))
+
+-- a body that has any is being sent
+abbrev begun_where : Bool → BodySize → Option SendingBody
+begun_where at_once size = if at_once then None else Some (record { shape = asked_shape size; missing = stated (asked_shape size) })
+
+begins_open : (size : BodySize) → is_at_once size ≡ false → is_some (begun_body size) ≡ true
+begins_open size long = ap (λ (b : Bool). is_some (begun_where b size)) long
 
 -- ---- the requests that were asked
 
@@ -115,7 +129,7 @@ module _ (theirs ours : Setting) where
 
   -- no step of the client's connection is made
   still : (trace : List Step) → HasBrought on.done trace trace
-  still trace = record { taken = refl; written = refl; moment = refl; pulled = sym (nothing_more on.done done_brings_nothing (pulled trace)) }
+  still trace = record { taken = refl; written = refl; moment = refl; ended = refl; pulled = sym (nothing_more on.done done_brings_nothing (pulled trace)) }
 
   pub keeps_asked : (q : ClientRequest) (size : BodySize) (whole broken : Bool) (client : Kept) (s t : ClientKept)
       → IsTrue (client_allows ours s (asked.ask q size)) → IsClientStep ours s (asked.ask q size) asked.done t
@@ -137,12 +151,12 @@ module _ (theirs ours : Setting) where
           let none : r.pulled.pieces ≡ [] = ap (λ (p : Pulled). p.pieces) w.untaken in
           let is_ended : r.pulled.is_ended ≡ not (has_body r.pulled.head.body) = ap (λ (p : Pulled). p.is_ended) w.untaken in
           changed theirs ours on.done client client s t (waits q size whole broken) (is_sent whole broken) r r' rs l m links history all all.client rs_are links_are x x.stands
-          (still all.client) refl refl
+          (still all.client) refl refl refl
           (quiet_server l (asked.ask q size) asked.done (sent_of r.pulled moment ∷ l.sent) refl refl refl)
           (ap (λ (ss : List Sent). sent_of r.pulled moment ∷ ss)
           (sym (ap (λ at. with_sent r.pulled at (all_sent rs)) w.unsent) ∙ sym (ap all_sent rs_are) ∙ x.forwarded.sent.sent
           ∙ ap (flat_map (λ (l : Link). l.sent)) links_are))
-          w.forwardable
+          (rightly_asked r.pulled moment r.was_refused w.unrefused w.forwardable)
           (s, server, allowed, step)
           (ap₂ (λ (a b : List ℕ). a ++ b) link.text (w.text moment ∙ sym (begun_text (sent_of r.pulled moment) none is_ended)))
           (asks_more (requests_of l.happened) l.sent (waiting_of q) (sent_of r.pulled moment) link.asked w.method)
@@ -160,6 +174,7 @@ module _ (theirs ours : Setting) where
                   shape = b.shape;
                   missing = b.missing ∙ nothing_less (stated (asked_shape (forwarded_size r.pulled.head.body))) r.pulled.pieces none;
                 };
+            sends = λ unended long. begins_open size (ap is_at_once w.sized ∙ long);
           })
         where
           nothing_less : (n : ℕ) (pieces : List (List ℕ)) → pieces ≡ [] → n ≡ n - length (joined pieces)
@@ -182,19 +197,19 @@ module _ (theirs ours : Setting) where
       sends history all (r ∷ rs) (l ∷ links) rs_are links_are x server u =
           let did = brings all.client x.stands in
           let p : Pulled = record r.pulled { pieces = r.pulled.pieces ++ bytes ∷ [] } in
-          let r' : Request = record { pulled = p; sent_at = r.sent_at } in
+          let r' : Request = record { pulled = p; sent_at = r.sent_at; was_refused = r.was_refused } in
           let m : Link = record { happened = record { event = asked.chunk bytes; outcome = asked.done } ∷ l.happened; sent = sent_of p u.moment ∷ u.before } in
           let link = (subst (AllByRecursion (IsLink ours)) links_are x.forwarded.sent.links).0 in
           let sending = chunk_sends ours s bytes allowed in
           let is_sending : sending_of l.happened ≡ Some sending.0 = sym (is_text ours l.happened s server).sending ∙ sending.1 in
           let body = u.body sending.0 is_sending in
           changed theirs ours (on.bytes bytes) a b s t (is_sent whole broken) (is_sent whole broken) r r' rs l m links history all did.0 rs_are links_are x did.1
-          did.2 refl refl
+          did.2 refl refl refl
           (quiet_server l (asked.chunk bytes) asked.done (sent_of p u.moment ∷ u.before) refl refl refl)
           (resent r.pulled p r.sent_at u.moment (all_sent rs) l.sent u.before (flat_map (λ (l : Link). l.sent) links) u.at u.sent
           (sym (ap all_sent rs_are) ∙ x.forwarded.sent.sent ∙ ap (flat_map (λ (l : Link). l.sent)) links_are))
-          (rightly_kept r.pulled p r.sent_at refl
-          (subst (AllByRecursion (λ (r : Request). IsRightlySent r.pulled r.sent_at)) rs_are x.forwarded.sent.rightly).0)
+          (rightly_kept r.pulled p r.sent_at r.was_refused refl
+          (subst (AllByRecursion (λ (r : Request). IsRightlySent r.pulled r.sent_at r.was_refused)) rs_are x.forwarded.sent.rightly).0)
           (s, server, allowed, step)
           (ap (λ o. text_of l.happened ++ piece_text_of bytes o) is_sending
           ∙ ap₂ (λ (t : List ℕ) shape. t ++ piece_of shape sending.0.missing bytes) (link.text ∙ ap text_sent u.sent) body.shape
@@ -220,6 +235,7 @@ module _ (theirs ours : Setting) where
                       same ∙ ap (λ n. n - length bytes) body.missing
                       ∙ missing_more (stated (asked_shape (forwarded_size p.head.body))) r.pulled.pieces bytes;
                 };
+            sends = λ unended long. ap (λ (o : Option SendingBody). is_some (body_after bytes o)) is_sending;
           })
 
   -- its body has ended
@@ -237,19 +253,19 @@ module _ (theirs ours : Setting) where
       sends history all (r ∷ rs) (l ∷ links) rs_are links_are x server u =
           let did = brings all.client x.stands in
           let p : Pulled = record r.pulled { is_ended = true } in
-          let r' : Request = record { pulled = p; sent_at = r.sent_at } in
+          let r' : Request = record { pulled = p; sent_at = r.sent_at; was_refused = r.was_refused } in
           let m : Link = record { happened = record { event = asked.body_end; outcome = asked.done } ∷ l.happened; sent = sent_of p u.moment ∷ u.before } in
           let link = (subst (AllByRecursion (IsLink ours)) links_are x.forwarded.sent.links).0 in
           let sending = end_sends ours s allowed in
           let is_sending : sending_of l.happened ≡ Some sending.0 = sym (is_text ours l.happened s server).sending ∙ sending.1 in
           let body = u.body sending.0 is_sending in
           changed theirs ours on.body_ended a b s t (is_sent whole broken) (is_sent true broken) r r' rs l m links history all did.0 rs_are links_are x did.1
-          did.2 refl refl
+          did.2 refl refl refl
           (quiet_server l asked.body_end asked.done (sent_of p u.moment ∷ u.before) refl refl refl)
           (resent r.pulled p r.sent_at u.moment (all_sent rs) l.sent u.before (flat_map (λ (l : Link). l.sent) links) u.at u.sent
           (sym (ap all_sent rs_are) ∙ x.forwarded.sent.sent ∙ ap (flat_map (λ (l : Link). l.sent)) links_are))
-          (rightly_kept r.pulled p r.sent_at refl
-          (subst (AllByRecursion (λ (r : Request). IsRightlySent r.pulled r.sent_at)) rs_are x.forwarded.sent.rightly).0)
+          (rightly_kept r.pulled p r.sent_at r.was_refused refl
+          (subst (AllByRecursion (λ (r : Request). IsRightlySent r.pulled r.sent_at r.was_refused)) rs_are x.forwarded.sent.rightly).0)
           (s, server, allowed, step)
           (ap (λ o. text_of l.happened ++ end_text_of o) is_sending
           ∙ ap₂ (λ (t : List ℕ) shape. t ++ end_text shape) (link.text ∙ ap text_sent u.sent) body.shape
@@ -264,6 +280,7 @@ module _ (theirs ours : Setting) where
             sent = refl;
             marked = record { whole = refl; broken = u.marked.broken };
             body = λ next is. let none : None ≡ Some next = is in cc;
+            sends = λ unended long. absurd (true≢false unended);
           })
 
   -- its body broke, or was cut
@@ -280,16 +297,16 @@ module _ (theirs ours : Setting) where
       breaks history all (r ∷ rs) (l ∷ links) rs_are links_are x server u =
           let did = brings all.client x.stands in
           let p : Pulled = record r.pulled { is_broken = true } in
-          let r' : Request = record { pulled = p; sent_at = r.sent_at } in
+          let r' : Request = record { pulled = p; sent_at = r.sent_at; was_refused = r.was_refused } in
           let m : Link = record { happened = l.happened; sent = sent_of p u.moment ∷ u.before } in
           let link = (subst (AllByRecursion (IsLink ours)) links_are x.forwarded.sent.links).0 in
           changed theirs ours (on.broken_by fault) a b s s (is_sent whole broken) (is_sent whole true) r r' rs l m links history all did.0 rs_are links_are x did.1
-          did.2 refl refl
+          did.2 refl refl refl
           refl
           (resent r.pulled p r.sent_at u.moment (all_sent rs) l.sent u.before (flat_map (λ (l : Link). l.sent) links) u.at u.sent
           (sym (ap all_sent rs_are) ∙ x.forwarded.sent.sent ∙ ap (flat_map (λ (l : Link). l.sent)) links_are))
-          (rightly_kept r.pulled p r.sent_at refl
-          (subst (AllByRecursion (λ (r : Request). IsRightlySent r.pulled r.sent_at)) rs_are x.forwarded.sent.rightly).0)
+          (rightly_kept r.pulled p r.sent_at r.was_refused refl
+          (subst (AllByRecursion (λ (r : Request). IsRightlySent r.pulled r.sent_at r.was_refused)) rs_are x.forwarded.sent.rightly).0)
           server
           (link.text ∙ ap text_sent u.sent)
           (link.asked ∙ ap methods_sent u.sent)
@@ -301,4 +318,5 @@ module _ (theirs ours : Setting) where
             sent = refl;
             marked = record { whole = u.marked.whole; broken = refl };
             body = λ next is. let y = u.body next is in record { unended = y.unended; shape = y.shape; missing = y.missing };
+            sends = λ unended long. u.sends unended long;
           })

@@ -1,8 +1,8 @@
 -- What a forwarder keeps, and what happened by it.
-use Rattle.std.specs.Prelude.{◌≡◌, ℕ, ◌-◌, Bool, true, false, not, List, [], ◌∷◌, length, Option, Some, None, ⊤}
+use Rattle.std.specs.Prelude.{◌≡◌, ℕ, ◌-◌, Bool, true, false, not, List, [], ◌∷◌, length, Option, Some, None, is_some, ⊤}
 use Rattle.model_h1.specs.Setting.{Setting}
 use Rattle.model_h1.specs.Request.{Head, has_body}
-use Rattle.model_h1.specs.Answer.{BodySize}
+use Rattle.model_h1.specs.Answer.{BodySize, is_at_once}
 use Rattle.model_state.specs.Kept.{Kept}
 use Rattle.model_state.specs.Reply.{stated}
 use Rattle.model_state.specs.StandsFor.{StandsFor}
@@ -45,6 +45,7 @@ IsIdle (Some k) (l ∷ links) = AreWhole l.sent
 -- The text of this request is that of what is to be sent on for the client's, of which nothing was taken or sent.
 pub record IsWaiting (q : ClientRequest) (size : BodySize) (is_whole is_broken : Bool) (r : Request) : Type 0 where
   pub unsent : r.sent_at ≡ None
+  pub unrefused : r.was_refused ≡ false
   pub untaken : r.pulled ≡ unpulled r.pulled.head
   pub forwardable : is_forwardable r.pulled.head ≡ true
   pub method : q.head.method ≡ r.pulled.head.method
@@ -64,7 +65,7 @@ pub record IsMarked (is_whole is_broken : Bool) (p : Pulled) : Type 0 where
   pub whole : is_whole ≡ p.is_ended
   pub broken : is_broken ≡ p.is_broken
 
--- the newest request was sent on as the newest of this connection
+-- The newest request was sent on as the newest of this connection. Until its end was taken, more of its body may be sent on there, if it has any.
 pub record IsSentOn (is_whole is_broken : Bool) (r : Request) (l : Link) : Type 0 where
   pub moment : ℕ
   pub at : r.sent_at ≡ Some moment
@@ -72,6 +73,7 @@ pub record IsSentOn (is_whole is_broken : Bool) (r : Request) (l : Link) : Type 
   pub sent : l.sent ≡ sent_of r.pulled moment ∷ before
   pub marked : IsMarked is_whole is_broken r.pulled
   pub body : (body : SendingBody) → sending_of l.happened ≡ Some body → IsSending r.pulled body
+  pub sends : r.pulled.is_ended ≡ false → is_at_once (forwarded_size r.pulled.head.body) ≡ false → is_some (sending_of l.happened) ≡ true
 
 abbrev pub IsUnderWay : UnderWay → List Request → Option ClientKept → List Link → Type 0
 IsUnderWay nothing rs server links = IsIdle server links
@@ -97,6 +99,7 @@ pub record IsNewest (h : Head) (all : Happenings) : Type 0 where
   pub are : all.requests ≡ newest ∷ others
   pub pulled : newest.pulled ≡ unpulled h
   pub unsent : newest.sent_at ≡ None
+  pub unrefused : newest.was_refused ≡ false
 
 -- ---- how it goes on
 

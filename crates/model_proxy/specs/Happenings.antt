@@ -10,13 +10,15 @@ use Rattle.model_client.specs.ClientEvent.{ClientEvent}
 use Rattle.model_client.specs.ClientKept.{ClientKept}
 use Rattle.model_client.specs.ClientTrace.{Happened, IsClientTrace, taken, written, text_of, requests_of}
 use Rattle.model_proxy.specs.Forward.{is_forwardable, Sent, forward}
-use Rattle.model_proxy.specs.Past.{ProxyStep, Server, client_taken, client_given, servers, now}
+use Rattle.model_proxy.specs.Past.{ProxyStep, Server, client_taken, client_given, client_ended, counted_if, refusals, servers, now}
 use Rattle.model_proxy.specs.Exchange.{Pulled, pulled}
 
--- A request of the client: what was taken of it, and the moment by which it was sent on, if it was.
+-- A request of the client: what was taken of it, the moment by which it was sent on, if it was, and whether a server connection was refused for
+-- it.
 pub record Request : Type 0 where
   pub pulled : Pulled
   pub sent_at : Option ℕ
+  pub was_refused : Bool
 
 -- A connection to a server: all that happened on it, and the requests that were sent on it.
 pub record Link : Type 0 where
@@ -65,10 +67,17 @@ abbrev pub AreWholeBehind : List Sent → Type 0
 AreWholeBehind [] = ⊤
 AreWholeBehind (s ∷ before) = AreWhole before
 
--- a request that was sent on can be
-abbrev pub IsRightlySent : Pulled → Option ℕ → Type 0
-IsRightlySent p None = ⊤
-IsRightlySent p (Some moment) = is_forwardable p.head ≡ true
+-- A request that was sent on can be, and so can one for which a server connection was refused; that one wasn't.
+abbrev pub IsRightlySent : Pulled → Option ℕ → Bool → Type 0
+IsRightlySent p None false = ⊤
+IsRightlySent p None true = is_forwardable p.head ≡ true
+IsRightlySent p (Some moment) false = is_forwardable p.head ≡ true
+IsRightlySent p (Some moment) true = ⊥
+
+-- for how many a server connection was refused
+abbrev pub refused_count : List Request → ℕ
+refused_count [] = 0
+refused_count (r ∷ rs) = counted_if r.was_refused (refused_count rs)
 
 -- ---- one connection to a server
 
@@ -92,19 +101,22 @@ pub record IsLink (setting : Setting) (l : Link) : Type 0 where
 
 -- ---- the theorem
 
--- What was taken from either side and given to either is what these events took and gave.
+-- What was taken from either side and given to either is what these events took and gave. The client's connection was told its end where they
+-- tell it, and a server connection was refused for as many requests as they refuse.
 pub record AreSums (history : List ProxyStep) (all : Happenings) : Type 0 where
   pub taken : sums.taken all.client ≡ client_taken history
   pub written : sums.written all.client ≡ client_given history
   pub moment : sums.now all.client ≡ now history
   pub servers : map server_of all.links ≡ servers history
+  pub ended : sums.has_ended all.client ≡ client_ended history
+  pub refused : refused_count all.requests ≡ refusals history
 
 -- The requests are those that the client's connection handed out, with what it handed out of their bodies. Of these were sent on, each
 -- on one connection to a server at most and in their order, those that stand on the connections; only such that can be sent on.
 pub record AreSent (setting : Setting) (all : Happenings) : Type 0 where
   pub requests : map (λ r. r.pulled) all.requests ≡ pulled all.client
   pub sent : all_sent all.requests ≡ flat_map (λ l. l.sent) all.links
-  pub rightly : AllByRecursion (λ r. IsRightlySent r.pulled r.sent_at) all.requests
+  pub rightly : AllByRecursion (λ r. IsRightlySent r.pulled r.sent_at r.was_refused) all.requests
   pub links : AllByRecursion (IsLink setting) all.links
 
 -- All this happened by these events of a forwarder: the client's connection did what its tables say, and what went towards each

@@ -1,5 +1,5 @@
 -- How a forwarder goes on.
-use Rattle.std.proofs.Common.{◌≡◌, ℕ, Bool, true, List, ◌∷◌, Option, Some, None, refl, sym, ap, ap₂, ◌∙◌, subst}
+use Rattle.std.proofs.Common.{◌≡◌, ℕ, Bool, true, false, List, ◌∷◌, Option, Some, None, refl, sym, ap, ap₂, ◌∙◌, subst}
 use Rattle.std.specs.Prelude.{IsTrue, option_map}
 use Rattle.http_config.specs.Config.{Settings}
 use Rattle.model_h1.specs.Setting.{Setting}
@@ -20,20 +20,20 @@ use Rattle.h1_client.specs.State as servers
 use Rattle.h1_connection.specs.EventMeaning.{setting_of}
 use Rattle.h1_connection.specs.State.{State}
 use Rattle.model_proxy.specs.Forward.{is_forwardable}
-use Rattle.model_proxy.specs.Past.{ProxyStep, ProxyEvent, ProxyOutcome, client_bytes, client_written, tick_of, connected, done}
+use Rattle.model_proxy.specs.Past.{ProxyStep, ProxyEvent, ProxyOutcome, client_bytes, client_written, tick_of, is_client_end, is_refusal, connected, refused, done}
 use Rattle.model_proxy.specs.Happenings.{Happenings}
 use Rattle.model_proxy.specs.Carried.{UnderWay, nothing, waits, is_sent, Carries}
 use Rattle.model_proxy.specs.Moves.{Brings, Does, DoesAsked, Stays}
 use Rattle.model_proxy.proofs.Quiet.{BringsNothing, done_brings_nothing}
-use Rattle.model_proxy.proofs.Turns.{keeps_client, keeps_closed, keeps_server, keeps_head, keeps_waiting, keeps_refused, keeps_left, keeps_whole}
+use Rattle.model_proxy.proofs.Turns.{keeps_client, keeps_closed, keeps_server, keeps_head, keeps_waiting, keeps_left, keeps_whole}
 use Rattle.model_proxy.proofs.Sends.{keeps_asked, keeps_piece, keeps_end, keeps_broken}
-use Rattle.model_proxy.proofs.Events.{SaysNoBytes, LeavesServers, AddsNoText, ChangesServer, by_nothing, by_client, by_server, by_connected}
+use Rattle.model_proxy.proofs.Events.{SaysNoBytes, LeavesServers, AddsNoText, ChangesServer, by_nothing, by_client, by_server, by_connected, by_refused}
 use Rattle.proxy.specs.declared.proxy.Proxy.{Proxy}
 use Rattle.proxy.specs.declared.proxy.Unsent.{Unsent}
 use Rattle.proxy.specs.declared.proxy.SentRequest.{SentRequest}
 use Rattle.proxy.specs.declared.notes.Notes.{Notes}
 use Rattle.proxy.specs.Sides.{ClientBrings, ClientBringsHead, ServerStays, KeepsTime, ServerDid}
-use Rattle.proxy.specs.Kept.{under_way_of, kept_of, IsTimed, Forwards, Goes, GoesBy, GoesFrom, HoldsNoRequest, Runs, IsUnsent}
+use Rattle.proxy.specs.Kept.{under_way_of, kept_of, IsTimed, Forwards, history_by, Goes, GoesBy, StepsBy, GoesFrom, HoldsNoRequest, Runs, IsUnsent}
 use Rattle.proxy.specs.Fresh.{IsToldTime}
 use Rattle.proxy.proofs.Times.{trace_of, did_now, happened_now, moved_time, closed_time, told_time, quiet_time, fresh_time}
 
@@ -47,10 +47,7 @@ goes_then a b c first second = (second.0 ∙ first.0, λ history all x. let y = 
 
 pub by_then : (event : ProxyEvent) (outcome : ProxyOutcome) (a b c : Proxy) → GoesBy event outcome a b → Goes b c → GoesBy event outcome a c
 by_then event outcome a b c first second =
-    (second.0 ∙ first.0, λ history all x. let y = first.1 history all x in second.1 (record { event = event; outcome = outcome } ∷ history) y.0 y.1)
-
-pub then_by : (event : ProxyEvent) (outcome : ProxyOutcome) (a b c : Proxy) → Goes a b → GoesBy event outcome b c → GoesBy event outcome a c
-then_by event outcome a b c first second = (second.0 ∙ first.0, λ history all x. let y = first.1 history all x in second.1 history y.0 y.1)
+    (second.0 ∙ first.0, λ history all x. let y = first.1 history all x in second.1 (history_by event outcome a history) y.0 y.1)
 
 -- what is noted is no part of what happened
 pub noted : (p : Proxy) (n : Notes) → Goes p (record p { notes = n })
@@ -341,11 +338,12 @@ breaks fault p sent c s runs brings = (
 
 -- ---- events
 
-pub nothing_by : (event : ProxyEvent) (outcome : ProxyOutcome) (p : Proxy) → SaysNoBytes event outcome → LeavesServers event outcome → GoesBy event outcome p p
-nothing_by event outcome p says leaves = (
+pub nothing_by : (event : ProxyEvent) (outcome : ProxyOutcome) (p : Proxy) → SaysNoBytes event outcome → is_refusal event ≡ false → LeavesServers event outcome
+    → StepsBy event outcome p p
+nothing_by event outcome p says none leaves = (
   refl,
   λ history all f.
-      let y = by_nothing (theirs p) (ours p) event outcome (kept_of p) says leaves history all f.carries in
+      let y = by_nothing (theirs p) (ours p) event outcome (kept_of p) says none leaves history all f.carries in
       (y.0, record { client = f.client; server = f.server; carries = y.1; time = quiet_time event outcome p.moment p.server history says.moment f.time }),
 )
 
@@ -353,25 +351,26 @@ pub client_by : (e : on.Event) (o : on.Outcome) (event : ProxyEvent) (outcome : 
     → ((history : List ProxyStep) (all : Happenings) → Forwards p history all → IsTimed moment p.server (record { event = event; outcome = outcome } ∷ history))
     → BringsNothing o
     → sums.step_taken e o ≡ client_bytes event outcome → sums.step_written o ≡ client_written event outcome → sums.tick_of e ≡ tick_of event
+    → sums.is_eof e ≡ is_client_end event → is_refusal event ≡ false
     → LeavesServers event outcome → c.settings ≡ p.client.settings → Does (setting_of p.client.settings) e o p.client.kept c.kept
-    → GoesBy event outcome p (record p { client = c; moment = moment })
-client_by e o event outcome p c moment timed none takes gives tick leaves settings does = (
+    → StepsBy event outcome p (record p { client = c; moment = moment })
+client_by e o event outcome p c moment timed none takes gives tick ends not_refused leaves settings does = (
   refl,
   λ history all f.
       let did = subst (λ (s : Settings). Does (setting_of s) e o p.client.kept c.kept) f.client does in
-      let y = by_client (theirs p) (ours p) e o event outcome (kept_of p) c.kept none takes gives tick leaves did history all f.carries in
+      let y = by_client (theirs p) (ours p) e o event outcome (kept_of p) c.kept none takes gives tick ends not_refused leaves did history all f.carries in
       (y.0, record { client = settings ∙ f.client; server = f.server; carries = y.1; time = timed history all f }),
 )
 
 pub server_by : (e : asked.ClientEvent) (o : asked.ClientOutcome) (event : ProxyEvent) (outcome : ProxyOutcome) (p : Proxy) (a b : servers.State)
-    → AddsNoText e → ((n : ℕ) → now_after e n ≡ n) → SaysNoBytes event outcome → ChangesServer e o event outcome → b.settings ≡ a.settings
+    → AddsNoText e → ((n : ℕ) → now_after e n ≡ n) → SaysNoBytes event outcome → is_refusal event ≡ false → ChangesServer e o event outcome → b.settings ≡ a.settings
     → DoesAsked (asking.setting_of a.settings) e o a.kept b.kept
-    → GoesBy event outcome (record p { server = Some a }) (record p { server = Some b })
-server_by e o event outcome p a b adds same says changes settings does = (
+    → StepsBy event outcome (record p { server = Some a }) (record p { server = Some b })
+server_by e o event outcome p a b adds same says not_refused changes settings does = (
   refl,
   λ history all f.
       let did = subst (λ (s : Settings). DoesAsked (asking.setting_of s) e o a.kept b.kept) f.server does in
-      let y = by_server (theirs p) (ours p) e o event outcome (kept_of p) a.kept b.kept adds says changes did history all f.carries in
+      let y = by_server (theirs p) (ours p) e o event outcome (kept_of p) a.kept b.kept adds says not_refused changes did history all f.carries in
       let s = server_stands p a history all f in
       let now = happened_now e o a b settings same s.0 s.1 does in (
         y.0,
@@ -385,8 +384,8 @@ server_by e o event outcome p a b adds same says changes settings does = (
 )
 
 pub of_server_by : (event : ProxyEvent) (outcome : ProxyOutcome) (p q : Proxy) (s : servers.State) → p.server ≡ Some s
-    → GoesBy event outcome (record p { server = Some s }) q → GoesBy event outcome p q
-of_server_by event outcome p q s is x = subst (λ (o : Option servers.State). GoesBy event outcome (record p { server = o }) q) (sym is) x
+    → StepsBy event outcome (record p { server = Some s }) q → StepsBy event outcome p q
+of_server_by event outcome p q s is x = subst (λ (o : Option servers.State). StepsBy event outcome (record p { server = o }) q) (sym is) x
 
 pub connected_by : (p : Proxy) (u : Unsent) → p.unsent ≡ Some u → p.server ≡ None
     → GoesBy connected done p (record p { server = Some (servers.fresh_state p.config) })
@@ -413,14 +412,14 @@ connected_by p u waiting none = (
       ),
 )
 
-pub refused_moves : (p : Proxy) (u : Unsent) → p.unsent ≡ Some u → Goes p (record p { unsent = None; sent = None })
-refused_moves p u waiting = (
+pub refused_by : (p : Proxy) (u : Unsent) → p.unsent ≡ Some u → GoesBy refused done p (record p { unsent = None; sent = None })
+refused_by p u waiting = (
   refl,
   λ history all f.
       let is : under_way_of p.unsent p.sent ≡ waits (request_of u.head) (size_of u.size) u.sent.is_whole u.sent.is_broken = ap (λ (o : Option Unsent). under_way_of o p.sent) waiting in
       let x = as_under_way p history all (waits (request_of u.head) (size_of u.size) u.sent.is_whole u.sent.is_broken) is f.carries in
-      let y = keeps_refused (theirs p) (ours p) (request_of u.head) (size_of u.size) u.sent.is_whole u.sent.is_broken p.client.kept (kept_of p).server history all x in
-      (y.0, record { client = f.client; server = f.server; carries = y.1; time = f.time }),
+      let y = by_refused (theirs p) (ours p) (request_of u.head) (size_of u.size) u.sent.is_whole u.sent.is_broken p.client.kept (kept_of p).server history all x in
+      (y.0, record { client = f.client; server = f.server; carries = y.1; time = quiet_time refused done p.moment p.server history refl f.time }),
 )
 
 -- ---- after a head

@@ -30,7 +30,7 @@ use Rattle.model_proxy.specs.Carried.{IsServer}
 use Rattle.proxy.specs.declared.proxy.Proxy.{Proxy}
 use Rattle.proxy.specs.declared.proxy.Unsent.{Unsent}
 use Rattle.proxy.specs.declared.proxy.SentRequest.{SentRequest}
-use Rattle.proxy.specs.Kept.{is_closing, HasSettings, Forwards, Goes, GoesBy, Runs, HoldsNoRequest}
+use Rattle.proxy.specs.Kept.{is_closing, HasSettings, Forwards, history_by, Goes, GoesBy, Runs, HoldsNoRequest}
 use Rattle.model_proxy.specs.Rests.{MAX_WAITING}
 use Rattle.proxy.specs.declared.notes.Notes.{Notes}
 use Rattle.proxy.specs.Replies.{HasReplied}
@@ -462,4 +462,4 @@ too_many n p q turned many = λ history all f.
 
 -- nothing is left behind what settles
 pub rests_by : (event : ProxyEvent) (outcome : ProxyOutcome) (a b c : Proxy) → GoesBy event outcome a b → Settles b c → Settles a c
-rests_by event outcome a b c first second = λ history all f. let y = first.1 history all f in second (record { event = event; outcome = outcome } ∷ history) y.0 y.1
+rests_by event outcome a b c first second = λ history all f. let y = first.1 history all f in second (history_by event outcome a history) y.0 y.1

@@ -17,7 +17,7 @@ use Rattle.h1_client.specs.State as servers
 use Rattle.h1_connection.specs.EventMeaning.{setting_of}
 use Rattle.h1_connection.specs.State.{State}
 use Rattle.model_proxy.specs.Forward.{forwarded, forwarded_size}
-use Rattle.model_proxy.specs.Past.{ProxyStep, ProxyEvent, ProxyOutcome, last_tick}
+use Rattle.model_proxy.specs.Past.{ProxyStep, ProxyEvent, client_eof, ProxyOutcome, last_tick}
 use Rattle.model_proxy.specs.Exchange.{unpulled}
 use Rattle.model_proxy.specs.Rests.{MAX_WAITING}
 use Rattle.model_proxy.specs.Happenings.{Happenings, sent_of}
@@ -71,6 +71,16 @@ pub record Forwards (p : Proxy) (history : List ProxyStep) (all : Happenings) : 
 
 -- ---- how it goes on
 
+-- the event is allowed on the client's connection
+abbrev pub client_takes : Proxy → on.Event → Bool
+client_takes proxy event = allowed_by (setting_of (client_of proxy).settings) (client_of proxy).kept event
+
+-- What comes to the history by an event: its step. The end of a client is one only where the client's connection takes it.
+abbrev pub history_by : ProxyEvent → ProxyOutcome → Proxy → List ProxyStep → List ProxyStep
+history_by client_eof outcome old history =
+    if client_takes old on.eof then record { event = client_eof; outcome = outcome } ∷ history else history
+history_by event outcome old history = record { event = event; outcome = outcome } ∷ history
+
 -- without an event of its own; its settings stay
 abbrev pub Goes : Proxy → Proxy → Type 0
 Goes old new =
@@ -80,6 +90,13 @@ Goes old new =
 -- by this event, with this outcome; its settings stay
 abbrev pub GoesBy : ProxyEvent → ProxyOutcome → Proxy → Proxy → Type 0
 GoesBy event outcome old new =
+    (new.config ≡ old.config)
+    × ((history : List ProxyStep) (all : Happenings) → Forwards old history all
+    → (after : Happenings) × Forwards new (history_by event outcome old history) after)
+
+-- where it is a step of the history
+abbrev pub StepsBy : ProxyEvent → ProxyOutcome → Proxy → Proxy → Type 0
+StepsBy event outcome old new =
     (new.config ≡ old.config)
     × ((history : List ProxyStep) (all : Happenings) → Forwards old history all
     → (after : Happenings) × Forwards new (record { event = event; outcome = outcome } ∷ history) after)
@@ -141,10 +158,6 @@ server_text (Some server) = server.kept.buffered
 abbrev pub server_allows : Option servers.State → asked.ClientEvent → Bool
 server_allows None event = false
 server_allows (Some s) event = client_allows (asking.setting_of s.settings) s.kept event
-
--- the event is allowed on the client's connection
-abbrev pub client_takes : Proxy → on.Event → Bool
-client_takes proxy event = allowed_by (setting_of (client_of proxy).settings) (client_of proxy).kept event
 
 -- how many bytes may be taken from the client now: none while its connection is to end or its input has ended, or 32768 wait towards the
 -- server

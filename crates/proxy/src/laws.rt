@@ -34,7 +34,8 @@ pub fn no_more_is_held()
 /// its answer waits for a server connection that is wanted, or for the answer of one that is there, which isn't to end, has room for more
 /// bytes, and whose next answer hasn't come; and an answer that isn't complete has a server connection whose input hasn't ended and from
 /// which a further pull would give nothing, neither bytes nor the answer's end, where there is room for a piece. And where the client's
-/// connection goes on, turns may be made unless 32768 bytes wait for the client to take them, or for a server whose connection isn't to end.
+/// connection goes on, turns may be made unless 32768 bytes wait for the client to take them, or, while no request is sent on there, for a
+/// server whose connection isn't to end.
 pub fn no_client_waits_in_vain()
     ensures answer { (p : Proxy) → IsServed p → RestsWhereItMay p → may_turn p ≡ true → (client_of p).kept.is_over ≡ false
         → waits_for_answer (client_of p).kept ≡ true → (wants_server p ≡ true) ⊎ ((s : servers.State) × (server_of p ≡ Some s) × IsAwaited s) }

@@ -8,13 +8,13 @@ use Rattle.std.proofs.lemmas.Bool.{false≢true}
 use Rattle.proxy.proofs.proxy.Proxy.end_client.Goals as goal
 
 pub returns-then-not-can_read-clause-goes : goal.returns-then-not-can_read-clause-goes
-returns-then-not-can_read-clause-goes c = client_end_nothing c.args.self.now
+returns-then-not-can_read-clause-goes c = client_end_nothing c.args.self.now (sym c.can_read.ensures.eof ∙ c.if-not-can_read.true)
 
 pub returns-then-not-can_read-clause-serves : goal.returns-then-not-can_read-clause-serves
 returns-then-not-can_read-clause-serves c = λ s. s
 
 pub returns-clause-goes : goal.returns-clause-goes
-returns-clause-goes c = client_ends c.args.self.now c.eof.new.self c.eof.ensures.settings c.eof.ensures.stands
+returns-clause-goes c = client_ends c.args.self.now c.eof.new.self (sym c.can_read.ensures.eof ∙ c.if-not-can_read.false) c.eof.ensures.settings c.eof.ensures.stands
 
 pub returns-clause-serves : goal.returns-clause-serves
 returns-clause-serves c =
