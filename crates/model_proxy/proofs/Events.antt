@@ -16,6 +16,7 @@ use Rattle.model_client.specs.ClientTrace.{now_of, sending_of, sending_after, te
 use Rattle.model_proxy.specs.Past.{ProxyStep, ProxyEvent, ProxyOutcome, Server, new_server, client, server, client_eof, server_eof, connected, to_client, to_server, tick, took, gave, done, client_bytes, client_taken, client_written, client_given, tick_of, last_tick, now, changed_by, newest_changed, servers_behind, servers, is_client_end, is_refusal, counted_if}
 use Rattle.model_proxy.specs.Past as past
 use Rattle.model_proxy.specs.Exchange.{Pulled, pulled}
+use Rattle.model_proxy.specs.Edge.{Edge}
 use Rattle.model_proxy.specs.Forward.{is_forwardable}
 use Rattle.model_proxy.specs.Happenings.{Request, Link, Happenings, all_sent, IsRightlySent, refused_count, server_of, IsLink, AreSums}
 use Rattle.model_proxy.specs.Carried.{UnderWay, nothing, waits, is_sent, ForwarderKept, IsServer, IsUnderWay, Carries, Keeps, KeepsBy}
@@ -91,32 +92,32 @@ pub refused_leaves : (outcome : ProxyOutcome) → LeavesServers past.refused out
 refused_leaves outcome = same_newest (changed_by past.refused outcome) (λ s. refl)
 
 -- one that wasn't sent on, and can be
-rightly_refused : (p : Pulled) (at : Option ℕ) → at ≡ None → is_forwardable p.head ≡ true → IsRightlySent p at true
-rightly_refused p None is may = may
-rightly_refused p (Some moment) is may = let no : ◌≡◌ {A = Option ℕ} (Some moment) None = is in absurd (cc no)
+rightly_refused : (edge : Edge) (p : Pulled) (at : Option ℕ) → at ≡ None → is_forwardable edge p.head ≡ true → IsRightlySent edge p at true
+rightly_refused edge p None is may = may
+rightly_refused edge p (Some moment) is may = let no : ◌≡◌ {A = Option ℕ} (Some moment) None = is in absurd (cc no)
 
-module _ (theirs ours : Setting) where
+module _ (edge : Edge) (theirs ours : Setting) where
   -- ---- it goes on
 
-  pub keeps_same : (k : ForwarderKept) → Keeps theirs ours k k
+  pub keeps_same : (k : ForwarderKept) → Keeps edge theirs ours k k
   keeps_same k = λ history all x. (all, x)
 
-  pub keeps_then : (a b c : ForwarderKept) → Keeps theirs ours a b → Keeps theirs ours b c → Keeps theirs ours a c
+  pub keeps_then : (a b c : ForwarderKept) → Keeps edge theirs ours a b → Keeps edge theirs ours b c → Keeps edge theirs ours a c
   keeps_then a b c first second = λ history all x. let y = first history all x in second history y.0 y.1
 
-  pub keeps_by_then : (event : ProxyEvent) (outcome : ProxyOutcome) (a b c : ForwarderKept) → KeepsBy theirs ours event outcome a b → Keeps theirs ours b c
-      → KeepsBy theirs ours event outcome a c
+  pub keeps_by_then : (event : ProxyEvent) (outcome : ProxyOutcome) (a b c : ForwarderKept) → KeepsBy edge theirs ours event outcome a b → Keeps edge theirs ours b c
+      → KeepsBy edge theirs ours event outcome a c
   keeps_by_then event outcome a b c first second =
       λ history all x. let y = first history all x in second (record { event = event; outcome = outcome } ∷ history) y.0 y.1
 
-  pub keeps_then_by : (event : ProxyEvent) (outcome : ProxyOutcome) (a b c : ForwarderKept) → Keeps theirs ours a b → KeepsBy theirs ours event outcome b c
-      → KeepsBy theirs ours event outcome a c
+  pub keeps_then_by : (event : ProxyEvent) (outcome : ProxyOutcome) (a b c : ForwarderKept) → Keeps edge theirs ours a b → KeepsBy edge theirs ours event outcome b c
+      → KeepsBy edge theirs ours event outcome a c
   keeps_then_by event outcome a b c first second = λ history all x. let y = first history all x in second history y.0 y.1
 
   -- ---- an event by which nothing happens
 
   pub by_nothing : (event : ProxyEvent) (outcome : ProxyOutcome) (k : ForwarderKept) → SaysNoBytes event outcome → is_refusal event ≡ false
-      → LeavesServers event outcome → KeepsBy theirs ours event outcome k k
+      → LeavesServers event outcome → KeepsBy edge theirs ours event outcome k k
   by_nothing event outcome k says none leaves = λ history all x. (
     all,
     record {
@@ -137,7 +138,7 @@ module _ (theirs ours : Setting) where
   pub by_client : (e : on.Event) (o : on.Outcome) (event : ProxyEvent) (outcome : ProxyOutcome) (k : ForwarderKept) (b : Kept) → BringsNothing o
       → sums.step_taken e o ≡ client_bytes event outcome → sums.step_written o ≡ client_written event outcome → sums.tick_of e ≡ tick_of event
       → sums.is_eof e ≡ is_client_end event → is_refusal event ≡ false
-      → LeavesServers event outcome → Does theirs e o k.client b → KeepsBy theirs ours event outcome k (record k { client = b })
+      → LeavesServers event outcome → Does theirs e o k.client b → KeepsBy edge theirs ours event outcome k (record k { client = b })
   unfolding sums.taken sums.written sums.last_tick pulled
   by_client e o event outcome k b none takes gives moment ends not_refused leaves does = λ history all x.
       let stands = does all.client x.stands in
@@ -171,14 +172,14 @@ module _ (theirs ours : Setting) where
 
   pub by_server : (e : asked.ClientEvent) (o : asked.ClientOutcome) (event : ProxyEvent) (outcome : ProxyOutcome) (k : ForwarderKept) (s t : ClientKept)
       → AddsNoText e → SaysNoBytes event outcome → is_refusal event ≡ false → ChangesServer e o event outcome → DoesAsked ours e o s t
-      → KeepsBy theirs ours event outcome (record k { server = Some s }) (record k { server = Some t })
+      → KeepsBy edge theirs ours event outcome (record k { server = Some s }) (record k { server = Some t })
   by_server e o event outcome k s t adds says not_refused changes does = λ history all x. went history all all.links x refl
     where
       stepped : Link → Link
       stepped l = record { happened = record { event = e; outcome = o } ∷ l.happened; sent = l.sent }
 
-      under : (u : UnderWay) (rs : List Request) (l : Link) (links : List Link) → IsUnderWay u rs (Some s) (l ∷ links)
-          → IsUnderWay u rs (Some t) (stepped l ∷ links)
+      under : (u : UnderWay) (rs : List Request) (l : Link) (links : List Link) → IsUnderWay edge u rs (Some s) (l ∷ links)
+          → IsUnderWay edge u rs (Some t) (stepped l ∷ links)
       under nothing rs l links y = y
       under (waits q size whole broken) [] l links y = absurd y
       under (waits q size whole broken) (r ∷ rs) l links y = y
@@ -193,9 +194,9 @@ module _ (theirs ours : Setting) where
         sends = λ unended long. ap (λ (o : Option SendingBody). is_some o) (adds.sending (sending_of l.happened)) ∙ y.sends unended long;
       }
 
-      went : (history : List ProxyStep) (all : Happenings) (links : List Link) → Carries theirs ours (record k { server = Some s }) history all
+      went : (history : List ProxyStep) (all : Happenings) (links : List Link) → Carries edge theirs ours (record k { server = Some s }) history all
           → all.links ≡ links
-          → (after : Happenings) × Carries theirs ours (record k { server = Some t }) (record { event = event; outcome = outcome } ∷ history) after
+          → (after : Happenings) × Carries edge theirs ours (record k { server = Some t }) (record { event = event; outcome = outcome } ∷ history) after
       went history all [] x is = absurd (subst (IsServer ours (Some s)) is x.server)
       went history all (l ∷ links) x is =
           let driven = does l.happened (subst (IsServer ours (Some s)) is x.server) in
@@ -205,7 +206,7 @@ module _ (theirs ours : Setting) where
             record {
               stands = x.stands;
               server = driven;
-              under_way = under k.under_way all.requests l links (subst (IsUnderWay k.under_way all.requests (Some s)) is x.under_way);
+              under_way = under k.under_way all.requests l links (subst (IsUnderWay edge k.under_way all.requests (Some s)) is x.under_way);
               forwarded = record {
                 traced = x.forwarded.traced;
                 sums = quiet_sums event outcome history all new x.forwarded.sums says refl
@@ -238,7 +239,7 @@ module _ (theirs ours : Setting) where
   -- ---- a new connection to a server
 
   pub by_connected : (q : ClientRequest) (size : BodySize) (whole broken : Bool) (kept : Kept)
-      → KeepsBy theirs ours connected done (record { client = kept; server = None; under_way = waits q size whole broken })
+      → KeepsBy edge theirs ours connected done (record { client = kept; server = None; under_way = waits q size whole broken })
       (record { client = kept; server = Some fresh_client; under_way = waits q size whole broken })
   by_connected q size whole broken kept = λ history all x.
       let l : Link = record { happened = []; sent = [] } in
@@ -261,8 +262,8 @@ module _ (theirs ours : Setting) where
         },
       )
     where
-      under : (rs : List Request) (links : List Link) → IsUnderWay (waits q size whole broken) rs None links
-          → IsUnderWay (waits q size whole broken) rs (Some fresh_client) (record { happened = []; sent = [] } ∷ links)
+      under : (rs : List Request) (links : List Link) → IsUnderWay edge (waits q size whole broken) rs None links
+          → IsUnderWay edge (waits q size whole broken) rs (Some fresh_client) (record { happened = []; sent = [] } ∷ links)
       under [] links y = absurd y
       under (r ∷ rs) links y = (tt, y.1)
 
@@ -270,14 +271,14 @@ module _ (theirs ours : Setting) where
 
   -- the request that waits gets none
   pub by_refused : (q : ClientRequest) (size : BodySize) (whole broken : Bool) (kept : Kept) (server : Option ClientKept)
-      → KeepsBy theirs ours past.refused done (record { client = kept; server = server; under_way = waits q size whole broken })
+      → KeepsBy edge theirs ours past.refused done (record { client = kept; server = server; under_way = waits q size whole broken })
       (record { client = kept; server = server; under_way = nothing })
   by_refused q size whole broken kept server = λ history all x. marks history all all.requests refl x x.under_way
     where
       marks : (history : List ProxyStep) (all : Happenings) (rs : List Request) → all.requests ≡ rs
-          → Carries theirs ours (record { client = kept; server = server; under_way = waits q size whole broken }) history all
-          → IsUnderWay (waits q size whole broken) rs server all.links
-          → (after : Happenings) × Carries theirs ours (record { client = kept; server = server; under_way = nothing })
+          → Carries edge theirs ours (record { client = kept; server = server; under_way = waits q size whole broken }) history all
+          → IsUnderWay edge (waits q size whole broken) rs server all.links
+          → (after : Happenings) × Carries edge theirs ours (record { client = kept; server = server; under_way = nothing })
           (record { event = past.refused; outcome = done } ∷ history) after
       marks history all [] rs_are x under = absurd under
       marks history all (r ∷ rs) rs_are x (idle, w) =
@@ -296,10 +297,10 @@ module _ (theirs ours : Setting) where
                     (sym (refused_leaves done (map server_of all.links))) (ap (counted_if true) (sym old));
                 sent = record {
                   requests = sym (ap (map (λ (r : Request). r.pulled)) rs_are) ∙ x.forwarded.sent.requests;
-                  sent = sym (ap all_sent rs_are) ∙ x.forwarded.sent.sent;
+                  sent = sym (ap (all_sent edge) rs_are) ∙ x.forwarded.sent.sent;
                   rightly = (
-                    rightly_refused r.pulled r.sent_at w.unsent w.forwardable,
-                    (subst (AllByRecursion (λ (r : Request). IsRightlySent r.pulled r.sent_at r.was_refused)) rs_are x.forwarded.sent.rightly).1,
+                    rightly_refused edge r.pulled r.sent_at w.unsent w.forwardable,
+                    (subst (AllByRecursion (λ (r : Request). IsRightlySent edge r.pulled r.sent_at r.was_refused)) rs_are x.forwarded.sent.rightly).1,
                   );
                   links = x.forwarded.sent.links;
                 };
