@@ -1,6 +1,6 @@
 -- Which heads are refused though they were read: those that RFC 9112 says must be, and targets that RFC 3986 has no bytes for.
-use Rattle.std.specs.Prelude.{ℕ, Bool, true, false, not, ◌&&◌, ◌||◌, ◌==◌, List, [], ◌∷◌, length, codes, bytes_eq, nat_eq, nat_lt, nat_le, if◌then◌else◌, Option, Some, None}
-use Rattle.std.specs.List.{list_all, list_any, starts_with}
+use Rattle.std.specs.Prelude.{ℕ, Bool, true, false, not, ◌&&◌, ◌||◌, ◌==◌, List, [], ◌∷◌, length, codes, bytes_eq, nat_eq, nat_lt, if◌then◌else◌, Option, Some, None}
+use Rattle.std.specs.List.{list_all, starts_with}
 use Rattle.h1_strict.specs.Host.{is_host}
 use Rattle.model_h1.specs.Request.{Head}
 use Rattle.model_h1.specs.LengthTable.{values_of}
@@ -18,9 +18,13 @@ abbrev pub is_authority_right : Option (List ℕ) → Bool
 is_authority_right None = true
 is_authority_right (Some authority) = nat_lt 0 (length authority) && is_host authority
 
+-- a byte of ASCII that begins no fragment
+abbrev pub is_right_byte : ℕ → Bool
+is_right_byte b = nat_lt b 128 && not (b == 35)
+
 -- ASCII alone, and no fragment, which no request has (RFC 9112, section 3.2; RFC 3986, section 2)
 abbrev pub are_bytes_right : List ℕ → Bool
-are_bytes_right target = list_all (λ b. not (nat_le 128 b) && not (b == 35)) target
+are_bytes_right target = list_all is_right_byte target
 
 -- A path, an absolute target, or `*` by OPTIONS. That of CONNECT isn't judged: no CONNECT is sent on.
 abbrev pub is_form_right : List ℕ → List ℕ → Bool

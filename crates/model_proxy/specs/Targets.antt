@@ -6,7 +6,7 @@ use Rattle.http_uri.specs.Grammar.{without_fragment, scheme_len, authority_len, 
 
 -- the first bytes, which are those of a scheme, go on by `://`
 abbrev pub has_scheme : List ℕ → Bool
-has_scheme target = nat_lt 0 (scheme_len target) && bytes_eq (take 3 (drop (scheme_len target) target)) (codes "://")
+has_scheme target = bytes_eq (take 3 (drop (scheme_len target) target)) (codes "://") && nat_lt 0 (scheme_len target)
 
 -- and they are `http`, whatever their case (RFC 9110, section 4.2.3)
 abbrev pub is_http : List ℕ → Bool

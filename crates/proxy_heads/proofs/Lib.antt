@@ -1,5 +1,6 @@
 pub mod WordLemmas
 pub mod MapLemmas
 pub mod LeftOut
+pub mod TargetLemmas
 pub mod RequestLemmas
 pub mod ReplyLemmas
