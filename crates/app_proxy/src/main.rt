@@ -16,7 +16,7 @@ mod upstream;
 
 use crate::access::AccessLog;
 use crate::options::{Command, HELP, Options, VERSION};
-use crate::server::{ServeError, Server};
+use crate::server::{ServeError, Server, Target};
 use http_types::{ServiceConfig, ServiceConfigBuilder};
 use std::alloc::Global;
 use std::io::ErrorKind;
@@ -99,7 +99,12 @@ fn run(
 ) -> Result<(), ServeError> {
     let listener = mio::net::TcpListener::from_std(listener);
     let log = AccessLog::new(rt, options.is_quiet);
-    let mut forwarder = Server::new(rt, config(), listener, server, log)?;
+    let target = Target {
+        server,
+        trusts_clients: options.trusts_clients,
+        is_lax: options.is_lax,
+    };
+    let mut forwarder = Server::new(rt, config(), listener, target, log)?;
     forwarder.run(!options.ignores_input)
 }
 

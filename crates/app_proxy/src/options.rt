@@ -12,15 +12,21 @@ A reverse proxy for HTTP/1: what clients ask on this port is asked of one server
   SERVER           the server's port on this machine, or its address and port, as 127.0.0.1:8080 or [::1]:8080
   --bind ADDRESS   the address to listen on, of IPv4 or IPv6: 127.0.0.1 by default, which only this machine reaches;
                    0.0.0.0 and :: are all
+  --trust-forwarded
+                   keep what clients say of earlier clients (X-Forwarded-For, X-Forwarded-Proto, X-Forwarded-Host and
+                   Forwarded), behind another proxy; by default it is replaced
+  --lax            take heads that RFC 9112 refuses, as those without Host
   --quiet          write no line for each reply
   --ignore-input   go on where the standard input ends, as that of a service does at once
   --help           print this and end
   --version        print the version and end
 
 It ends where the standard input ends. At most 10000 clients are there at once. A request gets 501 where it can't be sent on
-(CONNECT, another protocol, a target that is no path), 502 where the server isn't to be had, answers badly or sends nothing
-for 60 seconds, and 400 or 431 where it is malformed or too large. Messages are written anew from what was read: no client
-makes the server see a request that wasn't one.
+(CONNECT, another protocol, a target of another scheme than http), 502 where the server isn't to be had, answers badly or
+sends nothing for 60 seconds, and 400 or 431 where it is malformed or too large, or its Host or its target isn't one by
+RFC 9112. Messages are written anew from what was read: no client makes the server see a request that wasn't one. The server
+is told the host, the client's address (X-Forwarded-For, X-Forwarded-Proto, X-Forwarded-Host, Forwarded) and who passes the
+request on (Via), as a client is of an answer.
 
 For each reply a line is written: the client's address, the date, the request and the status.
 
@@ -40,6 +46,12 @@ pub struct Options<'a> {
     pub port: u16,
     pub server: &'a str,
     pub address: &'a str,
+
+    /// What clients say of earlier clients goes on.
+    pub trusts_clients: bool,
+
+    /// Heads are taken that RFC 9112 refuses.
+    pub is_lax: bool,
 
     /// No line is written for a client.
     pub is_quiet: bool,
@@ -82,6 +94,8 @@ pub fn read(words: &[String]) -> Result<Command<'_>, UsageError> {
     let mut port = None;
     let mut server = None;
     let mut address = None;
+    let mut trusts_clients = false;
+    let mut is_lax = false;
     let mut is_quiet = false;
     let mut ignores_input = false;
     let mut rest = words.iter();
@@ -89,6 +103,8 @@ pub fn read(words: &[String]) -> Result<Command<'_>, UsageError> {
         match word.as_str() {
             "--help" | "-h" => return Ok(Command::Help),
             "--version" => return Ok(Command::Version),
+            "--trust-forwarded" => trusts_clients = true,
+            "--lax" => is_lax = true,
             "--quiet" => is_quiet = true,
             "--ignore-input" => ignores_input = true,
             "--bind" => address = Some(rest.next().ok_or(UsageError::Bind)?.as_str()),
@@ -107,6 +123,8 @@ pub fn read(words: &[String]) -> Result<Command<'_>, UsageError> {
         port,
         server,
         address: address.unwrap_or("127.0.0.1"),
+        trusts_clients,
+        is_lax,
         is_quiet,
         ignores_input,
     }))

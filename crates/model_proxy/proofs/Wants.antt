@@ -30,7 +30,7 @@ use Rattle.model_state.specs.KeptOf.{exchange_of}
 use Rattle.model_state.specs.StandsFor.{StandsFor}
 use Rattle.model_state.proofs.Kernel.{coming_of}
 use Rattle.model_state.proofs.OneStep.{coming_one}
-use Rattle.model_proxy.specs.Wants.{is_running, IsAnswered, IsComplete, IsWaitedFor, head_mark, IsAskedBy, AsksTheSame, awaits_continue, IsTold, WantsNoMore, WantsTheSame, AnswersNothing, WantsAfterNext}
+use Rattle.model_proxy.specs.Wants.{is_running, IsAnswered, IsComplete, IsWaitedFor, head_mark, IsAskedBy, AsksTheSame, awaits_continue, is_of_old, IsTold, WantsNoMore, WantsTheSame, AnswersNothing, WantsAfterNext}
 use Rattle.model_proxy.proofs.Client.{machine_step, droppable}
 
 -- ---- what an exchange wants
@@ -192,7 +192,7 @@ module _ (setting : Setting) where
       of_change k c _ is (with_exchange (λ x k. record k { exchange = Some (record x { was_dropped = true }) }) k k.exchange (λ x. (refl, refl, refl, λ t. t)))
   change_alike k on.send_continue c asks is =
       of_change k c _ is
-      (with_exchange (λ x k. record k { buffered = k.buffered ++ interim_text; exchange = Some (record x { had_continue = true }) }) k k.exchange (λ x. (refl, refl, refl, λ t. told_to_continue (x.asked.minor == 1) x.expects)))
+      (with_exchange (λ x k. record k { buffered = k.buffered ++ interim_text; exchange = Some (record x { had_continue = true }) }) k k.exchange (λ x. (refl, refl, refl, λ t. told_to_continue (not (x.asked.minor == 0)) x.expects)))
   change_alike k (on.chunk bytes) c asks is = of_change k c _ is (with_exchange (sending_piece bytes) k k.exchange (λ x. piece_alike bytes k x x.reply))
   change_alike k (on.write n) c asks is = of_change k c _ is (same k)
   change_alike k (on.tick ms) c asks is = of_change k c _ is (ticking_alike k (closing_by setting k) ms)
@@ -350,7 +350,7 @@ module _ (setting : Setting) where
       → c ≡ doing_with (λ x k. record k { buffered = k.buffered ++ interim_text; exchange = Some (record x { had_continue = true }) }) (record k { exchange = ex })
       → awaits_continue c.kept ≡ false
   continue_change k None c is = ap (λ (c : Change). awaits_continue c.kept) is
-  continue_change k (Some x) c is = ap (λ (c : Change). awaits_continue c.kept) is ∙ told_to_continue (x.asked.minor == 1) x.expects
+  continue_change k (Some x) c is = ap (λ (c : Change). awaits_continue c.kept) is ∙ told_to_continue (not (x.asked.minor == 0)) x.expects
 
   pub continue_tells : (k next : Kept) (trace : List Step) (o : on.Outcome)
       → StandsFor setting k trace → StandsFor setting next (record { event = on.send_continue; outcome = o } ∷ trace) → IsTold setting next
@@ -463,7 +463,7 @@ module _ (setting : Setting) where
   -- the next head
   abbrev NextSo : Kept → on.Outcome → Kept → Type 0
   NextSo k (on.head h) m =
-      (is_answering m ≡ false) × (waits_for_answer m ≡ true) × IsAskedBy (asked_of h).is_head m × ((h.minor == 1) ≡ false → awaits_continue m ≡ false)
+      (is_answering m ≡ false) × (waits_for_answer m ≡ true) × IsAskedBy (asked_of h).is_head m × ((h.minor == 0) ≡ true → awaits_continue m ≡ false)
   NextSo k (on.closed end) m = (m.is_over ≡ true) × (head_mark m.exchange ≡ head_mark k.exchange)
   NextSo k o m = Alike k m × (closing_by setting k ≡ None)
 
@@ -483,7 +483,7 @@ module _ (setting : Setting) where
         refl,
         ap not (frames_in_rest k.has_ended (drop end k.unread) (whole_rest h.body) ∙ none_whole h.body),
         refl,
-        λ older. ap (λ (b : Bool). b && (h.expects && not false)) older,
+        λ older. ap (λ (b : Bool). not b && (h.expects && not false)) older,
       )
       by_what (faulty f) = (same k, none)
 
@@ -564,11 +564,21 @@ module _ (setting : Setting) where
   not_owed : (k : Kept) (ex : Option Exchange) → of_exchange (λ x. x.expects && not x.had_continue) (record k { exchange = ex }) ≡ false
       → awaits_continue (record k { exchange = ex }) ≡ false
   not_owed k None is = refl
-  not_owed k (Some x) is = by_minor (x.asked.minor == 1)
+  not_owed k (Some x) is = by_minor (not (x.asked.minor == 0))
     where
       by_minor : (t : Bool) → (t && (x.expects && not x.had_continue)) ≡ false
       by_minor true = is
       by_minor false = refl
+
+  -- one that is owed one, and doesn't wait for it, is of HTTP/1.0
+  pub owed_old : (k : Kept) (ex : Option Exchange) → awaits_continue (record k { exchange = ex }) ≡ false
+      → of_exchange (λ x. x.expects && not x.had_continue) (record k { exchange = ex }) ≡ true → is_of_old (record k { exchange = ex }) ≡ true
+  owed_old k None calm owed = absurd (false≢true owed)
+  owed_old k (Some x) calm owed = by_minor (x.asked.minor == 0) calm
+    where
+      by_minor : (t : Bool) → (not t && (x.expects && not x.had_continue)) ≡ false → t ≡ true
+      by_minor true calm = refl
+      by_minor false calm = absurd (false≢true (sym calm ∙ owed))
 
   -- where a request waits for its answer, and its client can't be told to go on, it doesn't wait for that
   pub no_continue : (k : Kept) → allowed_by setting k on.send_continue ≡ false → IsWaitedFor setting k → IsTold setting k

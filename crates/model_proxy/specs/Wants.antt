@@ -38,9 +38,14 @@ IsAskedBy is_head k = head_mark k.exchange ≡ Some is_head
 abbrev pub AsksTheSame : Kept → Kept → Type 0
 AsksTheSame old new = (is_head : Bool) → IsAskedBy is_head old → IsAskedBy is_head new
 
--- The client of the newest request, one of HTTP/1.1, waits to be told to go on, and wasn't told. One of HTTP/1.0 never is (RFC 9110, section 15.2).
+-- The client of the newest request, one of HTTP/1.1, waits to be told to go on, and wasn't told. One of HTTP/1.0 never waits so (RFC 9110, section
+-- 15.2).
 abbrev pub awaits_continue : Kept → Bool
-awaits_continue k = of_exchange (λ x. (x.asked.minor == 1) && (x.expects && not x.had_continue)) k
+awaits_continue k = of_exchange (λ x. not (x.asked.minor == 0) && (x.expects && not x.had_continue)) k
+
+-- the newest request is of HTTP/1.0
+abbrev pub is_of_old : Kept → Bool
+is_of_old k = of_exchange (λ x. x.asked.minor == 0) k
 
 -- while it goes on, the client doesn't wait to be told to go on
 abbrev pub IsTold : Setting → Kept → Type 0
@@ -77,5 +82,5 @@ AnswersNothing event = ⊥
 -- what is wanted is what was.
 abbrev pub WantsAfterNext : Setting → on.Outcome → Kept → Kept → Type 0
 WantsAfterNext setting (on.head h) old new = IsComplete setting new × IsWaitedFor setting new × IsAskedBy (asked_of h).is_head new
-    × ((h.minor == 1) ≡ false → IsTold setting new)
+    × ((h.minor == 0) ≡ true → IsTold setting new)
 WantsAfterNext setting o old new = WantsTheSame setting old new

@@ -146,14 +146,14 @@ server_writes n p a b is settings one =
 
 -- ---- a new forwarder
 
-pub new_forwards : (p : Proxy) (c : State) → c ≡ fresh_state p.config → Forwards (record p { client = c; server = None; unsent = None; sent = None; moment = None }) [] nothing_happened
+pub new_forwards : (p : Proxy) (c : State) → c ≡ fresh_state p.config.connections → Forwards (record p { client = c; server = None; unsent = None; sent = None; moment = None }) [] nothing_happened
 unfolding sums.taken sums.written sums.last_tick pulled past.client_taken past.client_given past.last_tick past.servers
 new_forwards p c is =
     subst (λ (c : State). Forwards (record p { client = c; server = None; unsent = None; sent = None; moment = None }) [] nothing_happened) (sym is) (record {
       client = refl;
       server = tt;
       carries = record {
-        stands = fresh_stands (setting_of p.config);
+        stands = fresh_stands (setting_of p.config.connections);
         server = tt;
         under_way = tt;
         forwarded = record {
@@ -180,7 +180,7 @@ none_server : (s : Option servers.State) → is_none s ≡ true → s ≡ None
 none_server None is = refl
 none_server (Some s) is = absurd (false≢true is)
 
-pub connects : (p : Proxy) (s : servers.State) → IsTrue (wants_server p) → s ≡ servers.fresh_state p.config
+pub connects : (p : Proxy) (s : servers.State) → IsTrue (wants_server p) → s ≡ servers.fresh_state p.config.connections
     → GoesBy connected done p (record p { server = Some s })
 connects p s wants is =
     let two = three_parts (is_some p.unsent) (is_none p.server) (not (is_closing p)) wants in

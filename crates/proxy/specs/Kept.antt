@@ -16,12 +16,14 @@ use Rattle.h1_client.specs.ClientMeaning.{request_of}
 use Rattle.h1_client.specs.State as servers
 use Rattle.h1_connection.specs.EventMeaning.{setting_of}
 use Rattle.h1_connection.specs.State.{State}
+use Rattle.model_proxy.specs.Edge.{Edge}
 use Rattle.model_proxy.specs.Forward.{forwarded, forwarded_size}
 use Rattle.model_proxy.specs.Past.{ProxyStep, ProxyEvent, client_eof, ProxyOutcome, last_tick}
 use Rattle.model_proxy.specs.Exchange.{unpulled}
 use Rattle.model_proxy.specs.Rests.{MAX_WAITING}
 use Rattle.model_proxy.specs.Happenings.{Happenings, sent_of}
 use Rattle.model_proxy.specs.Carried.{UnderWay, nothing, waits, is_sent, ForwarderKept, Carries, IsNewest}
+use Rattle.proxy_heads.specs.Edges.{edge_of}
 use Rattle.proxy.specs.declared.proxy.Proxy.{Proxy}
 use Rattle.proxy.specs.declared.proxy.Unsent.{Unsent}
 use Rattle.proxy.specs.declared.proxy.SentRequest.{SentRequest}
@@ -64,9 +66,9 @@ pub record IsTimed (moment : Option ℕ) (server : Option servers.State) (histor
 
 -- What a forwarder keeps is what is left of all that happened after these events.
 pub record Forwards (p : Proxy) (history : List ProxyStep) (all : Happenings) : Type 0 where
-  pub client : p.client.settings ≡ p.config
-  pub server : HasSettings p.config p.server
-  pub carries : Carries (setting_of p.config) (asking.setting_of p.config) (kept_of p) history all
+  pub client : p.client.settings ≡ p.config.connections
+  pub server : HasSettings p.config.connections p.server
+  pub carries : Carries (edge_of p.config.edge) (setting_of p.config.connections) (asking.setting_of p.config.connections) (kept_of p) history all
   pub time : IsTimed p.moment p.server history
 
 -- ---- how it goes on
@@ -130,14 +132,14 @@ pub record Runs (this : SentRequest) (p : Proxy) : Type 0 where
   pub unsent : p.unsent ≡ None
   pub sent : p.sent ≡ Some this
 
--- a request that waits is what is to be sent on for this head
-pub record IsUnsent (u : Unsent) (h : Head) : Type 0 where
+-- a request that waits is what is to be sent on for this head, at this edge
+pub record IsUnsent (e : Edge) (u : Unsent) (h : Head) : Type 0 where
   pub method : (request_of u.head).head.method ≡ h.method
   pub whole : u.sent.is_whole ≡ not (has_body h.body)
   pub unbroken : u.sent.is_broken ≡ false
-  pub sized : size_of u.size ≡ forwarded_size h.body
+  pub sized : size_of u.size ≡ forwarded_size h
   pub text : (moment : ℕ) → request_text (request_of u.head).head (asked_shape (size_of u.size)) (size_of u.size) (request_of u.head).connection moment
-      ≡ given_request_text (forwarded (sent_of (unpulled h) moment))
+      ≡ given_request_text (forwarded (sent_of e (unpulled h) moment))
 
 -- ---- questions
 

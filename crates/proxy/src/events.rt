@@ -146,7 +146,7 @@ impl Proxy {
         ensures replies { OnOk result (Replies event.connected done self.old self.new) }
         ensures no_memory_needed { holds_up (client_of self.old) ≡ true → IsOk result }
     {
-        self.server = Some(ClientConnection::new(self.alloc, self.config));
+        self.server = Some(ClientConnection::new(self.alloc, self.config.connections));
         self.settle()?;
         Ok(())
     }

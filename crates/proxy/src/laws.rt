@@ -12,6 +12,7 @@ ghost use Rattle.model_client.specs.ClientTrace.{Happened, IsClientTrace, taken}
 ghost use Rattle.h1_client.specs.State as servers;
 ghost use Rattle.model_proxy.specs.Past.{ProxyStep};
 ghost use Rattle.model_proxy.specs.Happenings.{Happenings};
+ghost use Rattle.model_proxy.specs.Wants.{is_of_old};
 ghost use Rattle.proxy.specs.Leaves.{LacksHead, IsAwaited, LacksBytes};
 ghost use Rattle.proxy.specs.declared.proxy.Proxy.{Proxy};
 ghost use Rattle.proxy.specs.Kept.{client_of, server_of, wants_server, client_takes, Forwards};
@@ -54,10 +55,11 @@ pub fn no_request_is_left_behind()
         → LacksHead (client_of p) }
 {}
 
-/// No client waits to be told to go on. After an event no 100 may be sent: a request that is under way has a client that doesn't wait for it,
-/// or was told, while its connection goes on; and no other request waits for its answer.
+/// No client waits to be told to go on. After an event a 100 may be sent only where the newest request is of HTTP/1.0, whose client never gets one:
+/// any other that is under way has a client that doesn't wait for it, or was told, while its connection goes on; and no other request waits for its
+/// answer.
 pub fn no_client_waits_to_be_told()
-    ensures { (p : Proxy) → IsServed p → client_takes p on.send_continue ≡ false }
+    ensures { (p : Proxy) → IsServed p → client_takes p on.send_continue ≡ true → is_of_old (client_of p).kept ≡ true }
 {}
 
 /// A request counts as one of HEAD where its method is HEAD, and nowhere else. What is kept of the one under way, that it is one of HEAD or

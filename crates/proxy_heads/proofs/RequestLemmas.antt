@@ -52,7 +52,7 @@ hosts_right minor [] = refl
 hosts_right minor (v ∷ []) = refl
 hosts_right minor (v ∷ w ∷ values) = refl
 
-old_is : (minor : ℕ) → is_below_http11 (version_of minor) ≡ (minor == 0)
+pub old_is : (minor : ℕ) → is_below_http11 (version_of minor) ≡ (minor == 0)
 old_is zero = refl
 old_is (suc n) = refl
 

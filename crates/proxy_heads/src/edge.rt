@@ -29,6 +29,17 @@ pub struct Edge {
 }
 
 impl Edge {
+    /// That of nobody, for what is done with. It takes no memory.
+    pub fn unknown() -> Edge {
+        Edge {
+            address: HeaderValue::from_static(""),
+            element: HeaderValue::from_static(""),
+            host: HeaderValue::from_static(""),
+            trusts_client: false,
+            is_lax: false,
+        }
+    }
+
     /// That of a client with this address, whose requests go to the server with that one. The client isn't trusted, and
     /// heads are refused as RFC 9112 says.
     pub fn new(alloc: Global, client: SocketAddr, server: SocketAddr) -> Result<Edge, HeaderValueError>
