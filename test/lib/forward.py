@@ -361,6 +361,20 @@ def option_clients(program, server):
             return differs([wanted in seen for wanted in (b"x-forwarded-for: 10.0.0.1\r\nx-forwarded-for: 127.0.0.1\r\n",
                                                           b"x-forwarded-proto: https\r\n", b"x-forwarded-proto: http\r\n")], [True, True, False])
         check("forwarder, --trust-forwarded", trusted)
+    with Forwarder(program, server.address, "--limit", "stall=2000", "--limit", "drain=1000") as forwarder:
+        def stalls(name, begin, after):
+            def make():
+                start = time.monotonic()
+                with connect(forwarder.address) as sock:
+                    sock.settimeout(20)
+                    sock.sendall(begin)
+                    try:
+                        seen = read_all(sock)
+                    except OSError:
+                        seen = b""
+                return differs((statuses_of(seen), after < time.monotonic() - start < after + 5), ([b"200"] if b"early" in begin else [], True))
+            check("forwarder, " + name, make)
+        stalls("a client that sends nothing of a body", b"POST /echo HTTP/1.1\r\nhost: a\r\ncontent-length: 100\r\n\r\nhalf", 1)
     with Forwarder(program, server.address, "--lax") as forwarder:
         def lax():
             seen = exchange(forwarder.address, b"GET /head HTTP/1.1\r\nconnection: close\r\n\r\n")

@@ -1,4 +1,3 @@
-pub mod Line
-pub mod Flow
-pub mod Patience
-pub mod Links
+
+pub mod Limits
+pub mod Pool

@@ -1,5 +1,6 @@
 //! The loop: it waits until a socket is ready, and gives a round to each client for whom something may move.
 use crate::access::AccessLog;
+use crate::limits::Limits;
 use crate::places::Places;
 use crate::slot::{Shared, Slot};
 use crate::standing::Ready;
@@ -83,6 +84,7 @@ impl Server {
         config: ServiceConfig,
         mut listener: TcpListener,
         target: Target,
+        limits: Limits,
         log: AccessLog,
     ) -> Result<Server, ServeError> {
         let alloc = rt.alloc();
@@ -99,6 +101,7 @@ impl Server {
         let shared = Shared {
             poll,
             upstream: Upstream::new(rt, alloc, target.server),
+            limits,
             room: Vec::from_elem(alloc, 0, READ_SIZE)?,
             uptime: 0,
         };
@@ -153,7 +156,8 @@ impl Server {
 
     // Whether nothing may move at once: nobody gets a round, and no client that waits could come in.
     fn is_at_rest(&self) -> bool {
-        self.places.are_at_rest() && !(self.may_accept && self.places.have_room())
+        let most = self.shared.limits.clients;
+        self.places.are_at_rest() && !(self.may_accept && self.places.have_room(most))
     }
 
     // What is ready is noted.
@@ -194,7 +198,8 @@ impl Server {
         // Descriptors may be free again.
         self.may_accept = true;
         self.log.set_moment(moment)?;
-        self.shared.upstream.sweep();
+        let shared = &mut self.shared;
+        shared.upstream.sweep(&shared.limits, shared.uptime);
         self.places.tick(&mut self.shared, moment)
     }
 
@@ -203,7 +208,7 @@ impl Server {
             if !self.may_accept {
                 break;
             }
-            let Some(number) = self.places.reserve()? else {
+            let Some(number) = self.places.reserve(self.shared.limits.clients)? else {
                 break;
             };
             self.accept_one(number, moment)?;

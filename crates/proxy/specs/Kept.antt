@@ -1,5 +1,5 @@
 -- A forwarder as its contracts see it, and how it goes on.
-use Rattle.std.specs.Prelude.{◌≡◌, ℕ, ◌-◌, ◌<◌, ◌≤◌, Bool, false, not, ◌&&◌, ◌||◌, List, [], ◌∷◌, length, min, nat_le, if◌then◌else◌, Option, Some, None, is_some, is_none, option_map, unwrap_or, ⊤, true}
+use Rattle.std.specs.Prelude.{◌≡◌, ℕ, ◌-◌, ◌<◌, ◌≤◌, Bool, false, not, ◌&&◌, ◌||◌, List, [], ◌∷◌, length, min, nat_le, nat_lt, if◌then◌else◌, Option, Some, None, is_some, is_none, option_map, unwrap_or, ⊤, true}
 use Rattle.http_config.specs.Config.{Settings}
 use Rattle.model_h1.specs.Limits.{MAX_MOMENT}
 use Rattle.model_h1.specs.Request.{Head, has_body}
@@ -175,6 +175,25 @@ room_of (Some s) = if client_allows (asking.setting_of s.settings) s.kept asked.
 
 abbrev pub server_room : Proxy → ℕ
 server_room p = if nat_le MAX_WAITING (length p.client.kept.buffered) then 0 else room_of p.server
+
+-- no request is under way
+abbrev pub is_idle : Proxy → Bool
+is_idle p = is_none p.unsent && is_none p.sent
+
+-- bytes of the client are held that weren't passed on
+abbrev pub has_unread : Proxy → Bool
+has_unread p = nat_lt 0 (length p.client.kept.unread)
+
+-- The client is to send more: there is room for it, and nothing waits for it to take. Of a body that is read all that came was passed on; or no
+-- request is under way, and a head is begun, or the rest of a body is dropped.
+abbrev pub is_to_send : Proxy → Bool
+is_to_send p =
+    nat_lt 0 (client_room p) && (not (nat_lt 0 (length p.client.kept.buffered))
+    && (if client_takes p on.pull then not (has_unread p) else (is_idle p && (not (client_takes p on.next) || has_unread p))))
+
+-- the reply is whole and was taken, and the rest of its request's body is dropped
+abbrev pub is_draining : Proxy → Bool
+is_draining p = not (is_closing p) && (not (nat_lt 0 (length p.client.kept.buffered)) && (is_idle p && not (client_takes p on.next)))
 
 -- so many of the bytes were taken as there was room for, whatever happened before
 abbrev pub TakesAll : ℕ → List ℕ → ℕ → Proxy → Type 0

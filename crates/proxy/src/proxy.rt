@@ -13,7 +13,7 @@ ghost use Rattle.model_state.specs.Local.{closing_by};
 ghost use Rattle.model_proxy.specs.Happenings.{nothing_happened};
 ghost use Rattle.proxy_heads.specs.Edges.{edge_of};
 ghost use Rattle.proxy.specs.Served.{IsServed};
-ghost use Rattle.proxy.specs.Kept.{client_of, server_of, Forwards, IsUnsent, is_closing, wants_server, server_text, server_allows, client_takes, client_room, server_room, is_reusable, is_answering};
+ghost use Rattle.proxy.specs.Kept.{client_of, server_of, Forwards, IsUnsent, is_closing, wants_server, server_text, server_allows, client_takes, client_room, server_room, is_idle, is_to_send, is_draining, is_reusable, is_answering};
 
 use crate::notes::Notes;
 use h1_client::ClientConnection;
@@ -249,6 +249,43 @@ impl Proxy {
             return 0;
         }
         self.client.read_room()
+    }
+
+    /// Whether the client is to send more: there is room for it, and nothing waits for it to take. Of a body that is read all
+    /// that came was passed on; or no request is under way, and a head is begun, or the rest of a body is dropped.
+    pub fn is_to_send(&self) -> bool
+        ensures { result ≡ is_to_send self.now }
+    {
+        if self.client_room() == 0 {
+            return false;
+        }
+        if self.client.buffered() > 0 {
+            return false;
+        }
+        let has_unread = self.client.held() > 0;
+        if self.client.can_pull() {
+            return !has_unread;
+        }
+        self.is_idle() && (!self.client.can_next() || has_unread)
+    }
+
+    /// Whether the reply is whole and was taken, and the rest of its request's body is dropped.
+    pub fn is_draining(&self) -> bool
+        ensures { result ≡ is_draining self.now }
+    {
+        if self.is_closing() {
+            return false;
+        }
+        if self.client.buffered() > 0 {
+            return false;
+        }
+        self.is_idle() && !self.client.can_next()
+    }
+
+    fn is_idle(&self) -> bool
+        ensures { result ≡ is_idle self.now }
+    {
+        self.unsent.is_none() && self.sent.is_none()
     }
 
     /// The most bytes that a read from the server takes now: none while 32768 wait towards the client.
