@@ -73,7 +73,7 @@ others_of (d ∷ done) e m distinct = (all_at (λ k. bytes_eq d.0 k ≡ false) d
 abbrev pub AreFilled : Entries → Type 0
 AreFilled m = AllByRecursion (λ (e : Entry). 0 < length e.1) m
 
-pub groups_all : (done m : Entries) → IsDistinct bytes_eq (keys (done ++ m)) → AreFilled m
+groups_all : (done m : Entries) → IsDistinct bytes_eq (keys (done ++ m)) → AreFilled m
     → fold appended (map lines_of done) (headers_of m) ≡ map lines_of (done ++ m)
 groups_all done [] distinct filled = ap (λ (d : Entries). map lines_of d) (sym (append-nil done))
 groups_all done (e ∷ m) distinct filled =

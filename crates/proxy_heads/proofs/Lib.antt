@@ -1,4 +1,5 @@
 pub mod WordLemmas
+pub mod Groups
 pub mod MapLemmas
 pub mod LeftOut
 pub mod TargetLemmas

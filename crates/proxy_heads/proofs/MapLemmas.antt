@@ -17,9 +17,10 @@ use Rattle.model_h1.specs.Request.{Header}
 use Rattle.model_h1.specs.LengthTable.{values_of}
 use Rattle.model_h1.specs.AnswerText.{appended, by_name}
 use Rattle.h1_encoder.specs.Meaning.{lines_of, headers_of}
-use Rattle.h1_encoder.proofs.ByName.{AreFilled, all_filled, groups_all, by_name-map}
+use Rattle.h1_encoder.proofs.ByName.{AreFilled, all_filled, by_name-map}
 use Rattle.model_ends.proofs.Framing.{values-append}
 use Rattle.model_proxy.specs.HopNames.{is_among, without}
+use Rattle.proxy_heads.proofs.Groups.{groups_all}
 
 eq_sym : (a b : List ℕ) → bytes_eq a b ≡ bytes_eq b a
 eq_sym a b = same_from_decides (bytes_eq a b) (bytes_eq b a) (bytes_eq-Decides a b) (Decides-like (bytes_eq b a) sym sym (bytes_eq-Decides b a))
