@@ -76,31 +76,22 @@ impl Limits {
         let Ok(number) = text.parse::<u64>() else {
             return false;
         };
-        match self.place(name) {
-            Some(place) => {
-                *place = number;
-                true
-            }
-            None => false,
-        }
-    }
-
-    fn place(&mut self, name: &str) -> Option<&mut u64> {
         match name {
-            "clients" => Some(&mut self.clients),
-            "kept" => Some(&mut self.kept),
-            "head" => Some(&mut self.head),
-            "idle" => Some(&mut self.idle),
-            "stall" => Some(&mut self.stall),
-            "least" => Some(&mut self.least),
-            "reader" => Some(&mut self.reader),
-            "server" => Some(&mut self.server),
-            "drain" => Some(&mut self.drain),
-            "linger" => Some(&mut self.linger),
-            "end" => Some(&mut self.end),
-            "reuse" => Some(&mut self.reuse),
-            _ => None,
+            "clients" => self.clients = number,
+            "kept" => self.kept = number,
+            "head" => self.head = number,
+            "idle" => self.idle = number,
+            "stall" => self.stall = number,
+            "least" => self.least = number,
+            "reader" => self.reader = number,
+            "server" => self.server = number,
+            "drain" => self.drain = number,
+            "linger" => self.linger = number,
+            "end" => self.end = number,
+            "reuse" => self.reuse = number,
+            _ => return false,
         }
+        true
     }
 
     /// No more clients than have two descriptors each, of so many that the system gives.

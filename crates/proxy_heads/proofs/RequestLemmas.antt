@@ -2,6 +2,7 @@
 use Rattle.std.proofs.Common.{◌≡◌, ℕ, zero, suc, Bool, true, false, not, ◌&&◌, ◌||◌, cond, List, [], ◌∷◌, ◌++◌, map, filter, flat_map, get_or, bytes_eq, codes, Option, Some, None, is_some, unwrap_or, IsTrue, refl, sym, ap, ◌∙◌, subst, arith, append_assoc}
 use Rattle.std.specs.Prelude.{option_map, slice_get, ◌==◌, if◌then◌else◌}
 use Rattle.std.specs.Option.{option_or}
+use Rattle.std.proofs.Math.Dec.{eqb-suc-zero}
 use Rattle.std.proofs.lemmas.Bool.{and_parts}
 use Rattle.std.proofs.lemmas.Bool.Decides.{nat_tests}
 use Rattle.std.proofs.lemmas.List.{get_or_default}
@@ -54,7 +55,7 @@ hosts_right minor (v ∷ w ∷ values) = refl
 
 pub old_is : (minor : ℕ) → is_below_http11 (version_of minor) ≡ (minor == 0)
 old_is zero = refl
-old_is (suc n) = refl
+old_is (suc n) = sym (eqb-suc-zero n)
 
 -- the values of a name that a head has, in its map
 values_in : (name : List ℕ) (hs : List Header) → values_of name hs ≡ map (λ (v : FieldValue). v.bytes) (get_all (header_map hs) name)
@@ -81,7 +82,7 @@ judged e item h right strict is says =
 
 -- an authority can be a value
 authority_byte : (b : ℕ) → is_authority_byte b ≡ true → IsTrue (is_value_byte b)
-authority_byte b is = grind (arith, nat_tests)
+authority_byte b is = grind (arith, nat_tests, is)
 
 authority_value : (text : List ℕ) → IsAuthority text → IsFieldValue text
 authority_value text x = λ k d within.
@@ -248,7 +249,7 @@ lines_are e item h named minor kept after says stays names by is =
 -- a version is 1.0 or a later one
 pub via_of : (minor : ℕ) → via (minor_of (version_of minor)) ≡ via minor
 via_of zero = refl
-via_of (suc n) = refl
+via_of (suc n) = sym (ap (λ (t : Bool). if t then codes "1.0 raspcream" else codes "1.1 raspcream") (eqb-suc-zero n))
 
 -- ---- the head
 

@@ -106,7 +106,8 @@ path_sent text u begins spells =
 -- `*` is no whole URI: that has more than a byte
 star_short : (scheme authority kept : List ℕ) → IsAbsoluteForm (codes "*") scheme authority kept → ⊥
 star_short scheme authority kept form =
-    omega (arith, ap length form.spelled, length-append form.name (codes "://" ++ authority ++ form.tail), length-append (codes "://") (authority ++ form.tail))
+    omega (arith, ap length form.spelled, length-append ((form.name ++ codes "://") ++ authority) form.tail, length-append (form.name ++ codes "://") authority,
+    form.is_authority.nonempty)
 
 star_by : (scheme authority : Option (List ℕ)) (kept : List ℕ) → IsUriText (codes "*") scheme authority kept → text_by scheme authority kept ≡ codes "*"
 star_by None None kept x = ap path_and_query_text x.1.1
