@@ -81,8 +81,7 @@ pub head_wants : (n : NextHead) (a b : State) → b.settings ≡ a.settings → 
     → IsTrue (allowed_by (setting_of a.settings) a.kept on.next) → Wants (WantsNext n) a b
 head_wants (next.Head item) a b settings one allowed = λ trace stands.
     let s = one trace stands in
-    let x = next_wants (setting_of a.settings) a.kept b.kept trace (on.head s.1.0) allowed stands (stepped a b on.next (on.head s.1.0) s.0 trace settings s.1.2 s.3) in
-    (
+    let x = next_wants (setting_of a.settings) a.kept b.kept trace (on.head s.1.0) allowed stands (stepped a b on.next (on.head s.1.0) s.0 trace settings s.1.2 s.3) in (
       complete_as a b settings x.0,
       waited_as a b settings x.1,
       λ h says. x.2 ∙ ap Some (same_mark item s.1.0 h s.1.1 says),

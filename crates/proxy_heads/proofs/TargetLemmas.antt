@@ -93,7 +93,7 @@ stays text begins =
 
 -- where a target has no scheme and no authority, or both
 abbrev text_by : Option (List ℕ) → Option (List ℕ) → List ℕ → List ℕ
-text_by scheme authority data = path_and_query_text (unwrap_or (if is_some scheme || not (is_some authority) then Some data else None) [])
+text_by scheme authority kept = path_and_query_text (unwrap_or (if is_some scheme || not (is_some authority) then Some kept else None) [])
 
 path_sent : (text : List ℕ) (u : Uri) → starts_with nat_eq text (codes "/") ≡ true → Spells text u → target_of u ≡ without_fragment text
 path_sent text u begins spells =
@@ -106,8 +106,13 @@ path_sent text u begins spells =
 -- `*` is no whole URI: that has more than a byte
 star_short : (scheme authority kept : List ℕ) → IsAbsoluteForm (codes "*") scheme authority kept → ⊥
 star_short scheme authority kept form =
-    omega (arith, ap length form.spelled, length-append ((form.name ++ codes "://") ++ authority) form.tail, length-append (form.name ++ codes "://") authority,
-    form.is_authority.nonempty)
+    omega (
+      arith,
+      ap length form.spelled,
+      length-append ((form.name ++ codes "://") ++ authority) form.tail,
+      length-append (form.name ++ codes "://") authority,
+      form.is_authority.nonempty,
+    )
 
 star_by : (scheme authority : Option (List ℕ)) (kept : List ℕ) → IsUriText (codes "*") scheme authority kept → text_by scheme authority kept ≡ codes "*"
 star_by None None kept x = ap path_and_query_text x.1.1

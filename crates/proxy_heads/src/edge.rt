@@ -42,7 +42,11 @@ impl Edge {
 
     /// That of a client with this address, whose requests go to the server with that one. The client isn't trusted, and
     /// heads are refused as RFC 9112 says.
-    pub fn new(alloc: Global, client: SocketAddr, server: SocketAddr) -> Result<Edge, HeaderValueError>
+    pub fn new(
+        alloc: Global,
+        client: SocketAddr,
+        server: SocketAddr,
+    ) -> Result<Edge, HeaderValueError>
         ensures { IfOk result (λ edge. edge_of edge ≡ record { address = ip_text (socket_ip client); element = element_of (socket_text client); host = socket_text server; trusts = false; is_lax = false }) }
     {
         let ip = client.ip();

@@ -34,7 +34,12 @@ pub fn is_forwardable(edge: &Edge, item: &HeadItem) -> bool
     ensures { (h : Head) → SaysHead item.now h → result ≡ is_forwardable (edge_of edge.now) h }
 {
     let refused = is_refused(edge, item);
-    can_go(refused, item.head.method.as_str(), item.body, item.target.as_slice())
+    can_go(
+        refused,
+        item.head.method.as_str(),
+        item.body,
+        item.target.as_slice(),
+    )
 }
 
 // The same by what is looked at.

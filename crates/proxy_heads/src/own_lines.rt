@@ -11,9 +11,7 @@ ghost use Rattle.proxy_heads.specs.Edges.{edge_of, line_unless, host_or, added_l
 use crate::edge::Edge;
 use http_header::{HeaderName, HeaderValue};
 use http_map::HeaderMap;
-use http_map::names::{
-    FORWARDED, HOST, VIA, x_forwarded_for, x_forwarded_host, x_forwarded_proto,
-};
+use http_map::names::{FORWARDED, HOST, VIA, x_forwarded_for, x_forwarded_host, x_forwarded_proto};
 use http_types::{NoMemory, Version};
 
 /// Adds to a request's lines which host it is for, who passes it on, and whom it comes from.
@@ -70,7 +68,11 @@ fn has_line(headers: &HeaderMap, name: HeaderName) -> bool
 }
 
 /// Adds a line.
-pub(crate) fn put(headers: &mut HeaderMap, name: HeaderName, value: HeaderValue) -> Result<(), NoMemory>
+pub(crate) fn put(
+    headers: &mut HeaderMap,
+    name: HeaderName,
+    value: HeaderValue,
+) -> Result<(), NoMemory>
     ensures { OnOk result (headers_of headers.new ≡ by_name (headers_of headers.old ++ line_of name value.bytes ∷ [])) }
 {
     // Called for its clause alone: no name stands twice.

@@ -17,8 +17,8 @@ pub returns-clause-says : goal.returns-clause-says
 returns-clause-says c = λ h says can.
     let e = edge_of c.args.edge.now in
     let lines = lines_are e c.args.item h (option_map (λ (v : FieldValue). v.bytes) c.in_ok-named.named) (minor_of c.args.item.head.version)
-        (headers_of c.remove_unforwarded.new.headers) (headers_of c.add_own.new.headers) says c.remove_unforwarded.ensures (c.in_ok-named.ensures h says)
-        (ap (λ (v : Version). via (minor_of v)) says.version ∙ via_of h.minor) c.in_ok-add_own.ensures in
+    (headers_of c.remove_unforwarded.new.headers) (headers_of c.add_own.new.headers) says c.remove_unforwarded.ensures (c.in_ok-named.ensures h says)
+    (ap (λ (v : Version). via (minor_of v)) says.version ∙ via_of h.minor) c.in_ok-add_own.ensures in
     head_is e c.from_parts.result c.args.item h says can c.from_parts.ensures.method c.from_parts.ensures.uri c.from_parts.ensures.version
     c.from_parts.ensures.flags (ap headers_of c.from_parts.ensures.headers ∙ lines)
 
@@ -26,10 +26,10 @@ pub returns-clause-text : goal.returns-clause-text
 returns-clause-text c = λ h says can s edges same.
     let e = edge_of c.args.edge.now in
     let lines = lines_are e c.args.item h (option_map (λ (v : FieldValue). v.bytes) c.in_ok-named.named) (minor_of c.args.item.head.version)
-        (headers_of c.remove_unforwarded.new.headers) (headers_of c.add_own.new.headers) says c.remove_unforwarded.ensures (c.in_ok-named.ensures h says)
-        (ap (λ (v : Version). via (minor_of v)) says.version ∙ via_of h.minor) c.in_ok-add_own.ensures in
+    (headers_of c.remove_unforwarded.new.headers) (headers_of c.add_own.new.headers) says c.remove_unforwarded.ensures (c.in_ok-named.ensures h says)
+    (ap (λ (v : Version). via (minor_of v)) says.version ∙ via_of h.minor) c.in_ok-add_own.ensures in
     let is = head_is e c.from_parts.result c.args.item h says can c.from_parts.ensures.method c.from_parts.ensures.uri c.from_parts.ensures.version
-        c.from_parts.ensures.flags (ap headers_of c.from_parts.ensures.headers ∙ lines) in
+    c.from_parts.ensures.flags (ap headers_of c.from_parts.ensures.headers ∙ lines) in
     let P : Entries → Type 0 = λ m. IsHeaderMap m in
     text_is c.from_parts.result h s (subst P (sym c.from_parts.ensures.headers) c.len-valid.ensures.valid)
     (ap headers_of c.from_parts.ensures.headers ∙ lines ∙ ap (λ (k : model.Edge). by_name (forwarded_lines k h)) (sym edges))
