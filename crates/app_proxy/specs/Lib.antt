@@ -1,2 +1,6 @@
+pub mod Line
+pub mod Flow
+pub mod Patience
+pub mod Links
 pub mod Limits
 pub mod Pool
