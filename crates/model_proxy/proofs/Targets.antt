@@ -10,7 +10,7 @@ use Rattle.std.proofs.lemmas.Str.Ascii.{IsAscii-cons, IsAscii-nil}
 use Rattle.httparse.specs.Grammar.{AllPass, is_uri_byte}
 use Rattle.http_uri.specs.ByteClasses.{is_delimiter, is_path_byte, is_query_byte, hash_sign}
 use Rattle.http_uri.specs.Grammar as uris
-use Rattle.http_uri.specs.Grammar.{HasScheme, IsAuthority, IsPathAndQuery, IsPathInput, IsTail, IsAbsoluteForm, IsUriText, scheme_len, authority_len, without_fragment, path_and_query_text, split_once_front, split_once_back}
+use Rattle.http_uri.specs.Grammar.{HasScheme, IsAuthority, IsPathAndQuery, IsPathInput, IsTail, IsAbsoluteForm, IsUriText, scheme_len, authority_len, without_fragment, path_and_query_text}
 use Rattle.http_uri.proofs.SchemeLemmas.{length_of_folded}
 use Rattle.http_uri.proofs.UriLemmas.{cut_rest, cut_authority, cut_tail, cut_long, IsAuthority_no_scheme}
 use Rattle.http_uri.proofs.PathLemmas.{IsPathAndQuery_slash}
