@@ -2,7 +2,11 @@ pub mod TrimLemmas
 pub mod ForwardedLines
 pub mod Paths
 pub mod SentRequests
+pub mod SoFar
 pub mod GivenRequests
+pub mod Places
+pub mod StepByStep
+pub mod WrongForwarders
 pub mod ReplyLines
 pub mod FoundAnswers
 pub mod ExampleLemmas

@@ -1,5 +1,6 @@
 -- What happens to a forwarder, what it answers, and what a list of these sums up to. The newest step stands first.
 use Rattle.std.specs.Prelude.{ℕ, ◌-◌, Bool, true, false, List, [], ◌∷◌, ◌++◌, length, take, drop, ◌==◌, if◌then◌else◌, Option, Some, None, unwrap_or}
+use Rattle.std.specs.List.{list_any}
 use Rattle.std.specs.Option.{option_or}
 use Rattle.model_h1.specs.End.{End}
 
@@ -22,6 +23,11 @@ pub record ProxyStep : Type 0 where
   pub event : ProxyEvent
   pub outcome : ProxyOutcome
 
+-- a step says that the client's connection is closed
+abbrev pub is_closed : ProxyOutcome → Bool
+is_closed (closed end) = true
+is_closed _ = false
+
 -- ---- the client's side
 
 abbrev pub client_bytes : ProxyEvent → ProxyOutcome → List ℕ
@@ -41,6 +47,14 @@ client_written _ _ = []
 unfoldable pub client_given : List ProxyStep → List ℕ
 client_given [] = []
 client_given (s ∷ before) = client_given before ++ client_written s.event s.outcome
+
+abbrev pub is_client_eof : ProxyEvent → Bool
+is_client_eof client_eof = true
+is_client_eof _ = false
+
+-- whether its input has ended
+abbrev pub client_ended : List ProxyStep → Bool
+client_ended history = list_any (λ s. is_client_eof s.event) history
 
 -- ---- servers
 
@@ -80,6 +94,11 @@ numbered k (s ∷ older) = if k == length older then s else numbered k older
 
 abbrev pub server_at : ℕ → List ProxyStep → Server
 server_at k history = numbered k (servers history)
+
+-- a step says that no server connection can be had
+abbrev pub is_refusal : ProxyEvent → Bool
+is_refusal refused = true
+is_refusal _ = false
 
 -- ---- moments and places in a history
 
