@@ -1,0 +1,10 @@
+use Rattle.std.proofs.Common.{refl, sym, ◌∙◌}
+use Rattle.serve_blocking.proofs.Settled.{says_closing, says_same}
+use Rattle.serve_blocking.proofs.body.Body.settle.Goals as goal
+
+pub returns-then-not-has_to_close-clause-says : goal.returns-then-not-has_to_close-clause-says
+returns-then-not-has_to_close-clause-says g c = says_same _ _ _ refl (λ yes. sym c.if-not-has_to_close.true ∙ c.in_ok-has_to_close.ensures.closes yes)
+
+pub returns-clause-says : goal.returns-clause-says
+returns-clause-says g c =
+    says_closing _ _ _ c.set_connection_type.ensures (λ no left. sym c.if-not-has_to_close.false ∙ c.in_ok-has_to_close.ensures.stays no left)
