@@ -1,5 +1,5 @@
 -- How an answer's head is sent, and that an answer is begun.
-use Rattle.std.specs.Prelude.{◌≡◌, ◌⊎◌, ℕ, Bool, true, false, List, [], ◌∷◌, ◌++◌, Result, Ok, Err, IfOk}
+use Rattle.std.specs.Prelude.{◌≡◌, ◌⊎◌, ℕ, Bool, true, false, not, List, [], ◌∷◌, ◌++◌}
 use Rattle.std.proofs.Common.{refl, sym, ap, subst, ◌∙◌, inl, inr}
 use Rattle.model_h1.specs.Answer.{AnswerHead, BodySize}
 use Rattle.model_h1.specs.Event as on
@@ -8,8 +8,9 @@ use Rattle.http_types.specs.ResponseHead.{ResponseParts}
 use Rattle.http_types.specs.Flags.{with_type}
 use Rattle.http_types.specs.declared.message.ConnectionType.TheVariants.{Close}
 use Rattle.h1_encoder.specs.Meaning.{answer_of}
+use Rattle.h1_payload.specs.declared.pulled.Pulled.{Pulled}
 use Rattle.serve_blocking.specs.Served.{Line, Adds}
-use Rattle.serve_blocking.specs.Acts.{Doing, Does, Waits, Drops, ArePulls, Says, IsBegun, Begins, closing, may, step}
+use Rattle.serve_blocking.specs.Acts.{Doing, Does, Waits, Drops, ArePulls, Says, IsBegun, Begins, IsPassed, closing, given_behind, may, step}
 use Rattle.serve_blocking.proofs.Waited.{doing_then, doing_as, does_equal, doing_wait, adds_does}
 use Rattle.serve_blocking.proofs.Dropped.{drops_do, no_pulls}
 
@@ -36,6 +37,20 @@ pub never : (P : Type 0) (was a : Line) → a ≡ was → a.wanted ≡ false →
 never P was a seen unwanted allowed (inl wanted) = let same : a.wanted ≡ was.wanted = ap (λ (l : Line). l.wanted) seen in absurd (cc (same, unwanted, wanted))
 never P was a seen unwanted allowed (inr none) =
     let same : may a.state on.drop_body ≡ may was.state on.drop_body = ap (λ (l : Line). may l.state on.drop_body) seen in absurd (cc (same, allowed, none))
+
+-- ---- a body that is passed over
+
+pub passed_where : (x : Bool) (was new : Line) → (x ≡ true → IsPassed new) → not x ≡ false → (was.wanted ≡ true) ⊎ IsPassed new
+passed_where true was new passed is = inr (passed refl)
+passed_where false was new passed is = absurd (cc is)
+
+-- the head says that the connection ends
+pub marked : (P : Type 0) (head new : ResponseParts) → new ≡ record head { flags = with_type head.flags Close } → new.flags.close ≡ false → P
+marked P head new is unmarked = let mark : new.flags.close ≡ true = ap (λ (h : ResponseParts). h.flags.close) is in absurd (cc (mark, unmarked))
+
+-- its trailers or its end came
+pub ended_by : (p q : Pulled) (was new : Line) → p ≡ q → new.ended ≡ given_behind p was.ended → given_behind q was.ended ≡ true → IsPassed new
+ended_by p q was new is ended last = inl (ended ∙ ap (λ (x : Pulled). given_behind x was.ended) is ∙ last)
 
 -- ---- the beginning
 

@@ -92,6 +92,10 @@ abbrev pub ArePulls : List Step → Type 0
 ArePulls [] = ⊤
 ArePulls (s ∷ steps) = (s.event ≡ on.pull) × ArePulls steps
 
+-- nothing of the body is left, or nothing of it may be pulled any more
+abbrev pub IsPassed : Line → Type 0
+IsPassed line = (line.ended ≡ true) ⊎ (may line.state on.drop_body ≡ false)
+
 -- nothing is done but that a body is pulled, and dropped
 pub record Drops (old new : Line) : Type 0 where
   pub goes : (base : Base) (served : IsServed base old) → (behind : IsServedBehind base served.trace new) × ArePulls (acts behind.more)

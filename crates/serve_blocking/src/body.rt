@@ -3,7 +3,7 @@ ghost use Rattle.std.specs.Prelude.{◌≡◌, ◌⊎◌, [], true, false, IfOk,
 ghost use Rattle.model_h1.specs.Event as on;
 ghost use Rattle.h1_encoder.specs.Meaning.{answer_of};
 ghost use Rattle.h1_connection.specs.State.{fresh_state, IsAllowed};
-ghost use Rattle.serve_blocking.specs.Acts.{Does, Drops, Gives, GivesNone, Reads, ReadsNone, Says, Waits, is_loss, leave, may};
+ghost use Rattle.serve_blocking.specs.Acts.{Does, Drops, Gives, GivesNone, IsPassed, Reads, ReadsNone, Says, Waits, is_loss, leave, may};
 ghost use Rattle.serve_blocking.specs.Served.{Line, Follows, IsServed};
 
 use crate::clock::Start;
@@ -251,6 +251,7 @@ impl<S: TimedSource, K: TimedSink> Body<S, K> {
         ensures kept { self.old.wanted ≡ true → self.new ≡ self.old }
         ensures says { OnOk result (Says self.old (answer_of head.old) (answer_of head.new)) }
         ensures status { head.new.status ≡ head.old.status }
+        ensures passed { OnOk result (head.new.flags.close ≡ false → (self.old.wanted ≡ true) ⊎ IsPassed self.new) }
         ensures lost { IfErr result (λ e. is_loss e ≡ true) }
     {
         if !self.has_to_close()? {
@@ -267,6 +268,7 @@ impl<S: TimedSource, K: TimedSink> Body<S, K> {
         ensures kept { self.old.wanted ≡ true → self.new ≡ self.old }
         ensures closes { self.old.closes ≡ true → IfOk result (λ b. b ≡ true) }
         ensures stays { self.old.closes ≡ false → (self.old.wanted ≡ true) ⊎ (may self.old.state on.drop_body ≡ false) → IfOk result (λ b. b ≡ false) }
+        ensures passed { IfOk result (λ b. b ≡ false → (self.old.wanted ≡ true) ⊎ IsPassed self.new) }
         ensures lost { IfErr result (λ e. is_loss e ≡ true) }
     {
         if self.closes {
@@ -285,6 +287,7 @@ impl<S: TimedSource, K: TimedSink> Body<S, K> {
     #[tactic(auto, using(crate::proofs::Dropped::drops_none))]
     fn pass_over_if_it_ends(&mut self) -> Result<bool, HandleError>
         ensures drops { Drops self.old self.new }
+        ensures passed { IfOk result (λ b. b ≡ true → IsPassed self.new) }
         ensures lost { IfErr result (λ e. is_loss e ≡ true) }
     {
         if self.kind == BodyKind::Raw {
@@ -301,6 +304,7 @@ impl<S: TimedSource, K: TimedSink> Body<S, K> {
     #[tactic(auto, using(crate::proofs::Dropped::drops_none, crate::proofs::Dropped::drops_then, crate::proofs::Dropped::waits_drop))]
     fn pass_over(&mut self) -> Result<bool, HandleError>
         ensures drops { Drops self.old self.new }
+        ensures passed { IfOk result (λ b. b ≡ true → IsPassed self.new) }
         ensures lost { IfErr result (λ e. is_loss e ≡ true) }
     {
         let mut left = self.limits.drop;

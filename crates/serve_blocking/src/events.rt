@@ -74,6 +74,7 @@ impl<S: TimedSource, K: TimedSink> Body<S, K> {
         requires can_drop { IsAllowed self.old.state on.drop_body }
         ensures pulls { IfOk result (λ answer. Pulls answer self.old self.new) }
         ensures drops { Drops self.old self.new }
+        ensures ended { IfOk result (λ answer. self.new.ended ≡ given_behind answer self.old.ended) }
         ensures wanted { self.new.wanted ≡ self.old.wanted }
         ensures err { OnErr result (self.new ≡ self.old) }
     {

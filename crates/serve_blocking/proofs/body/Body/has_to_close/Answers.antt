@@ -1,10 +1,10 @@
-use Rattle.std.proofs.Common.{Bool, false, refl, sym, ap, ◌∙◌, ◌≡◌}
+use Rattle.std.proofs.Common.{refl, sym, ap, ◌∙◌, inl, inr}
 use Rattle.model_h1.specs.Event as on
 use Rattle.serve_blocking.specs.Served.{Line}
-use Rattle.serve_blocking.proofs.Dropped.{does_drop, drops_then, drops_equal}
-use Rattle.serve_blocking.proofs.Results.{on_ok}
+use Rattle.serve_blocking.proofs.Answered.{seen_may}
+use Rattle.serve_blocking.proofs.Dropped.{does_drop}
 use Rattle.serve_blocking.proofs.ServedLemmas.{unchanged}
-use Rattle.serve_blocking.proofs.Settled.{never}
+use Rattle.serve_blocking.proofs.Settled.{never, passed_where}
 use Rattle.serve_blocking.proofs.body.Body.has_to_close.Goals as goal
 
 pub returns-then-closes-clause-drops : goal.returns-then-closes-clause-drops
@@ -34,3 +34,12 @@ returns-clause-stays g c = λ no left.
 
 pub returns-clause-kept : goal.returns-clause-kept
 returns-clause-kept g c = λ yes. absurd (cc (ap (λ (l : Line). l.wanted) c.self.view_is, yes, c.if-is_wanted.false))
+
+pub returns-then-is_wanted-clause-passed : goal.returns-then-is_wanted-clause-passed
+returns-then-is_wanted-clause-passed g c = λ no. inl (sym (ap (λ (l : Line). l.wanted) c.self.view_is) ∙ c.if-is_wanted.true)
+
+pub returns-then-not-can_pull-clause-passed : goal.returns-then-not-can_pull-clause-passed
+returns-then-not-can_pull-clause-passed g c = λ no. inr (inr (sym c.can_pull.ensures.value ∙ c.if-not-can_pull.true))
+
+pub returns-clause-passed : goal.returns-clause-passed
+returns-clause-passed g c = passed_where _ _ _ c.in_ok-pass_over_if_it_ends.ensures.passed

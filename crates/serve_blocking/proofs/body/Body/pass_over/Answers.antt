@@ -1,7 +1,8 @@
-use Rattle.std.proofs.Common.{sym, subst}
+use Rattle.std.proofs.Common.{refl, sym, subst, inr, ◌∙◌}
 use Rattle.serve_blocking.specs.Served.{Line}
 use Rattle.serve_blocking.specs.Acts.{Drops}
 use Rattle.serve_blocking.proofs.Dropped.{drops_then, waits_drop}
+use Rattle.serve_blocking.proofs.Settled.{ended_by}
 use Rattle.serve_blocking.proofs.body.Body.pass_over.Goals as goal
 use Rattle.serve_blocking.proofs.body.Body.pass_over.Goals.{in-Bytes+else-count-left+in-Some-1, in-Bytes+else-count-left+in-None-1, in-Pending+else-count-self+else-time_since-ge-PATIENCE+in_ok-flush-in-Pending+in_ok-fill-in-Pending+else-not-branch}
 
@@ -17,3 +18,6 @@ loop-preserved g c =
             (drops_then _ _ _ (drops_then _ _ _ pulled (waits_drop _ _ w.in_ok-flush-in-Pending.ensures.waits)) (waits_drop _ _ w.in_ok-fill-in-Pending.ensures.waits));
       }
     ]
+
+pub returns-then-not-can_pull-clause-passed : goal.returns-then-not-can_pull-clause-passed
+returns-then-not-can_pull-clause-passed g c = λ yes. inr (sym c.can_pull.ensures.value ∙ c.if-not-can_pull.true)

@@ -1,4 +1,5 @@
-use Rattle.std.proofs.Common.{refl, ap}
+use Rattle.std.proofs.Common.{refl, ap, ◌∙◌}
+use Rattle.serve_blocking.specs.Acts.{given_behind}
 use Rattle.serve_blocking.specs.Served.{Line}
 use Rattle.serve_blocking.proofs.ServedLemmas.{pulls_here, unchanged}
 use Rattle.serve_blocking.proofs.Dropped.{pulls_drop, does_drop}
@@ -11,6 +12,9 @@ pub returns-clause-drops : goal.returns-clause-drops
 returns-clause-drops g c =
     pulls_drop c.in_ok-pulled.pulled _ _
     (pulls_here _ _ _ c.in_ok-pulled.pulled c.self.view_is c.in_ok-pulled.ensures.stands refl refl refl c.is_given_behind.ensures)
+
+pub returns-clause-ended : goal.returns-clause-ended
+returns-clause-ended g c = c.is_given_behind.ensures ∙ ap (λ (l : Line). given_behind c.in_ok-pulled.pulled l.ended) c.self.view_is
 
 pub returns-clause-wanted : goal.returns-clause-wanted
 returns-clause-wanted g c = ap (λ (l : Line). l.wanted) c.self.view_is
