@@ -19,7 +19,7 @@ pub does_where : (was a b : Line) (e : Event) → Does [] was a → may was.stat
 does_where was a b e first allowed came =
     doing_then (λ (l : List Step). l ≡ []) (λ (l : List Step). l ≡ step e ∷ []) (λ (l : List Step). l ≡ where_may was.state e) was a b
     (λ xs ys none is.
-        ap (λ (l : List Step). l ++ ys) none ∙ is ∙ sym (ap (λ (m : Bool). if m then step e ∷ [] else []) allowed))
+    ap (λ (l : List Step). l ++ ys) none ∙ is ∙ sym (ap (λ (m : Bool). if m then step e ∷ [] else []) allowed))
     first came
 
 -- it wasn't

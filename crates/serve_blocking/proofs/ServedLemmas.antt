@@ -143,29 +143,29 @@ quietly_adds old new e o goes moves left given judges ended =
 -- the same of one that isn't done for a request
 pub quietly_waits : (was old new : Line) (e : Event) (o : Outcome) → old ≡ was → is_act e o ≡ false → GoesOn old.state e (Is o) new.state → Moves e o [] [] []
     → new.left ≡ old.left → new.given ≡ old.given → new.judges ≡ old.judges → new.ended ≡ given_by o old.ended → new.wanted ≡ old.wanted → Waits was new
-quietly_waits was old new e o seen no goes moves left given judges ended wanted =
-    seen_waits was old new seen (does_wait old new (adds_none e o old new no (quietly_adds old new e o goes moves left given judges ended)) wanted)
+quietly_waits was old new e o seen fails goes moves left given judges ended wanted =
+    seen_waits was old new seen (does_wait old new (adds_none e o old new fails (quietly_adds old new e o goes moves left given judges ended)) wanted)
 
 -- no event
 pub stays : (old new : Line) → new.state ≡ old.state → Consumes old.left new.left [] → Appends old.given new.given [] → new.judges ≡ old.judges
     → new.ended ≡ old.ended → Does [] old new
 stays old new state lost got judges ended = record {
   goes = λ base served. (
-      record {
-        more = [];
-        served = record {
-          trace = served.trace;
-          stands = subst (λ (s : State). Stands s served.trace) (sym state) served.stands;
-          came = subst (λ (l : List ℕ). Consumes base.left new.left l) (append-nil (taken served.trace)) (consumes_more _ _ _ _ _ served.came lost);
-          went = subst (λ (l : List ℕ). Appends base.given new.given l) (append-nil (written served.trace)) (appends_more _ _ _ _ _ served.went got);
-          handed = served.handed;
-          judges = judges ∙ served.judges;
-          ended = ended ∙ served.ended;
-        };
-        longer = refl;
-      },
-      acts_none,
-    );
+    record {
+      more = [];
+      served = record {
+        trace = served.trace;
+        stands = subst (λ (s : State). Stands s served.trace) (sym state) served.stands;
+        came = subst (λ (l : List ℕ). Consumes base.left new.left l) (append-nil (taken served.trace)) (consumes_more _ _ _ _ _ served.came lost);
+        went = subst (λ (l : List ℕ). Appends base.given new.given l) (append-nil (written served.trace)) (appends_more _ _ _ _ _ served.went got);
+        handed = served.handed;
+        judges = judges ∙ served.judges;
+        ended = ended ∙ served.ended;
+      };
+      longer = refl;
+    },
+    acts_none,
+  );
 }
 
 -- ---- what each event moves
@@ -334,8 +334,8 @@ pulls_here was old new (pulled.Trailers trailers) seen goes left given judges en
       goes = λ base served.
           let (o, says, is, stands, marked, counted) = goes served.trace served.stands in
           let x = step_behind base old new on.pull (on.trailers says.0) [] [] [] base.handed served
-              (subst (λ (y : Outcome). Stands new.state (record { event = on.pull; outcome = y } ∷ served.trace)) says.1 stands)
-              (pulled_moves (on.trailers says.0) refl refl refl) (append-nil base.handed) (keeps_left old new left) (keeps_given old new given) judges ended in
+          (subst (λ (y : Outcome). Stands new.state (record { event = on.pull; outcome = y } ∷ served.trace)) says.1 stands)
+          (pulled_moves (on.trailers says.0) refl refl refl) (append-nil base.handed) (keeps_left old new left) (keeps_given old new given) judges ended in
           (x.0, (says.0, says.2, ap acts x.1 ∙ acts_one on.pull (on.trailers says.0) refl));
     })
 pulls_here was old new pulled.End seen goes left given judges ended =

@@ -21,15 +21,15 @@ pub says_closing : (old : Line) (head sent : ResponseParts) → sent ≡ record 
     → (old.closes ≡ false → (old.wanted ≡ true) ⊎ (may old.state on.drop_body ≡ false) → true ≡ false) → Says old (answer_of head) (answer_of sent)
 says_closing old head sent is stays = record {
   is = inr (ap answer_of is);
-  closes = λ yes. ap answer_of is;
-  stays = λ no left. absurd (cc (stays no left));
+  closes = λ holds. ap answer_of is;
+  stays = λ fails left. absurd (cc (stays fails left));
 }
 
 pub says_same : (old : Line) (head sent : ResponseParts) → sent ≡ head → (old.closes ≡ true → false ≡ true) → Says old (answer_of head) (answer_of sent)
 says_same old head sent is closes = record {
   is = inl (ap answer_of is);
-  closes = λ yes. absurd (cc (closes yes));
-  stays = λ no left. ap answer_of is;
+  closes = λ holds. absurd (cc (closes holds));
+  stays = λ fails left. ap answer_of is;
 }
 
 -- the body is wanted, or nothing of it may be pulled; and it is neither
@@ -60,9 +60,9 @@ AreDropped old made = ArePulls made × (old.wanted ≡ true → made ≡ [])
 
 dropped_where : (w : Bool) (old a : Line) → old.wanted ≡ w → Drops old a → (old.wanted ≡ true → a ≡ old) → Doing (AreDropped old) old a
 dropped_where true old a is drops kept =
-    doing_as (λ (l : List Step). l ≡ []) (AreDropped old) old a (λ xs none. (no_pulls xs none, λ yes. none)) (does_equal old a (kept is))
+    doing_as (λ (l : List Step). l ≡ []) (AreDropped old) old a (λ xs none. (no_pulls xs none, λ holds. none)) (does_equal old a (kept is))
 dropped_where false old a is drops kept =
-    doing_as ArePulls (AreDropped old) old a (λ xs pulls. (pulls, λ yes. absurd (cc (yes, is)))) (drops_do old a drops)
+    doing_as ArePulls (AreDropped old) old a (λ xs pulls. (pulls, λ holds. absurd (cc (holds, is)))) (drops_do old a drops)
 
 -- the body was settled, the time was told, and then the answer came
 pub begins_here : (head sent : AnswerHead) (size : BodySize) (old a b c : Line) → Says old head sent → Drops old a → (old.wanted ≡ true → a ≡ old) → Waits a b

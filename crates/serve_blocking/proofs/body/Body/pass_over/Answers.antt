@@ -20,4 +20,4 @@ loop-preserved g c =
     ]
 
 pub returns-then-not-can_pull-clause-passed : goal.returns-then-not-can_pull-clause-passed
-returns-then-not-can_pull-clause-passed g c = λ yes. inr (sym c.can_pull.ensures.value ∙ c.if-not-can_pull.true)
+returns-then-not-can_pull-clause-passed g c = λ holds. inr (sym c.can_pull.ensures.value ∙ c.if-not-can_pull.true)

@@ -6,15 +6,15 @@ use Rattle.serve_blocking.proofs.Dropped.{pulls_drop, does_drop}
 use Rattle.serve_blocking.proofs.body.Body.pull.Goals as goal
 
 pub returns-clause-pulls : goal.returns-clause-pulls
-returns-clause-pulls g c = pulls_here _ _ _ c.in_ok-pulled.pulled c.self.view_is c.in_ok-pulled.ensures.stands refl refl refl c.is_given_behind.ensures
+returns-clause-pulls g c = pulls_here _ _ _ c.in_ok-pulled.pulled c.self.view_is c.in_ok-pulled.ensures.stands refl refl refl c.is_given_behind-self-inside.ensures
 
 pub returns-clause-drops : goal.returns-clause-drops
 returns-clause-drops g c =
     pulls_drop c.in_ok-pulled.pulled _ _
-    (pulls_here _ _ _ c.in_ok-pulled.pulled c.self.view_is c.in_ok-pulled.ensures.stands refl refl refl c.is_given_behind.ensures)
+    (pulls_here _ _ _ c.in_ok-pulled.pulled c.self.view_is c.in_ok-pulled.ensures.stands refl refl refl c.is_given_behind-self-inside.ensures)
 
 pub returns-clause-ended : goal.returns-clause-ended
-returns-clause-ended g c = c.is_given_behind.ensures ∙ ap (λ (l : Line). given_behind c.in_ok-pulled.pulled l.ended) c.self.view_is
+returns-clause-ended g c = c.is_given_behind-self-inside.ensures ∙ ap (λ (l : Line). given_behind c.in_ok-pulled.pulled l.ended) c.self.view_is
 
 pub returns-clause-wanted : goal.returns-clause-wanted
 returns-clause-wanted g c = ap (λ (l : Line). l.wanted) c.self.view_is

@@ -17,10 +17,10 @@ loop-piece-preserved g c =
       ends = tt;
       size = steps.0 ∙ c.loop-piece.invariant.size;
       sends = (
-          so_far.0 ++ piece,
-          sends_then so_far.0 piece _ _ _ so_far.1 c.in_ok-send_piece.ensures.sends,
-          append_assoc so_far.0 piece _ ∙ ap (λ (l : List ℕ). so_far.0 ++ l) (sym steps.1.0) ∙ so_far.2,
-        );
+        so_far.0 ++ piece,
+        sends_then so_far.0 piece _ _ _ so_far.1 c.in_ok-send_piece.ensures.sends,
+        append_assoc so_far.0 piece _ ∙ ap (λ (l : List ℕ). so_far.0 ++ l) (sym steps.1.0) ∙ so_far.2,
+      );
     }
 
 pub returns-in_err-send_piece-clause-some : goal.returns-in_err-send_piece-clause-some
