@@ -1,3 +1,4 @@
+mod ReasonLemmas
 mod ServedLemmas
 mod AskedLemmas
 mod CalledLemmas

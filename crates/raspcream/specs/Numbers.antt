@@ -1,6 +1,8 @@
 -- The numbers by which C names what is asked, and is told what came.
-use Rattle.std.specs.Prelude.{ℕ, ◌==◌, if◌then◌else◌}
+use Rattle.std.specs.Prelude.{ℕ, ◌==◌, Result, Ok, Err, if◌then◌else◌}
 use Rattle.model_h1.specs.Answer as answers
+use Rattle.http_framing.specs.declared.body.kind.BodyKind.{BodyKind}
+use Rattle.http_framing.specs.declared.body.kind.BodyKind.TheVariants as body
 use Rattle.h1_payload.specs.declared.pulled.Pulled.{Pulled}
 use Rattle.h1_payload.specs.declared.pulled.Pulled.TheVariants as pulled
 use Rattle.h1_client.specs.declared.event.NextAnswer.{NextAnswer}
@@ -17,6 +19,8 @@ use Rattle.h1_connection.specs.declared.connection.ticks.Expiry.{Expiry}
 use Rattle.h1_connection.specs.declared.connection.ticks.Expiry.TheVariants as expiry
 use Rattle.raspcream.specs.declared.op.Op.{Op}
 use Rattle.raspcream.specs.declared.op.Op.TheVariants as asks
+use Rattle.raspcream.specs.declared.reply.Failure.{Failure}
+use Rattle.raspcream.specs.declared.reply.Failure.TheVariants.{NoMemory, Misplaced, Invalid}
 
 -- what is asked
 abbrev pub number_of : Op → ℕ
@@ -46,7 +50,27 @@ size_said number =
     if number == 18446744073709551615 then answers.size_stream
     else (if number == 18446744073709551614 then answers.size_none else answers.size_of number)
 
+-- the code of what a call answers
+abbrev pub code_said : Result (Unit {0}) Failure → ℕ
+code_said (Ok done) = 0
+code_said (Err NoMemory) = 1
+code_said (Err Misplaced) = 2
+code_said (Err Invalid) = 3
+
 -- ---- what came
+
+-- where a body ends, and the length that is stated
+abbrev pub body_said : BodyKind → ℕ
+body_said body.None = 0
+body_said (body.Length length) = 1
+body_said body.Chunked = 2
+body_said body.Raw = 3
+
+abbrev pub length_said : BodyKind → ℕ
+length_said body.None = 0
+length_said (body.Length length) = length
+length_said body.Chunked = 0
+length_said body.Raw = 0
 
 -- where the next request, or the next answer, was asked for
 abbrev pub kind_of : NextKind → ℕ

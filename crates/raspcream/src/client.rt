@@ -1,8 +1,14 @@
 //! A client's side.
-ghost use Rattle.std.specs.Prelude.{◌≡◌, OnOk, OnErr};
+ghost use Rattle.std.specs.Prelude.{◌≡◌, ◌≤◌, ◌<◌, [], IfErr, OnOk, OnErr};
 ghost use Rattle.model_client.specs.ClientEvent as on;
+ghost use Rattle.h1_client.specs.State.{fresh_state};
+ghost use Rattle.raspcream.specs.Bits.{requests_said};
 ghost use Rattle.raspcream.specs.Numbers.{answer_kind};
-ghost use Rattle.raspcream.specs.Asked.{HasRead, HasNext, HasRequested, HasMade, HasWritten, HasPulled};
+ghost use Rattle.raspcream.specs.Refused.{MayDecline};
+ghost use Rattle.raspcream.specs.Asked.{HasRead, HasNext, HasRequested, HasMade, HasWritten, HasPulled, HasGiven, HasHeld, HasStated};
+ghost use Rattle.raspcream.specs.Shown.{ShowsAnswer, ShowsNextAnswer};
+ghost use Rattle.raspcream.specs.declared.op.Op.TheVariants as asks;
+ghost use Rattle.raspcream.specs.declared.reply.TheConstants.{MAX_FIELDS};
 
 use crate::handed::Handed;
 use crate::pointers::span_of;
@@ -34,7 +40,9 @@ impl Model for Client {
 }
 
 /// Why it ends, as a number from 1 on.
-fn end_number(end: ClientEnd) -> u32 {
+fn end_number(end: ClientEnd) -> u32
+    ensures { 0 < result }
+{
     match end {
         ClientEnd::BadAnswer => 1,
         ClientEnd::LargeAnswer => 2,
@@ -47,7 +55,10 @@ fn end_number(end: ClientEnd) -> u32 {
 }
 
 /// What a head says.
-fn tell_answer(item: &ResponseItem, out: &mut Reply) {
+fn tell_answer(item: &ResponseItem, out: &mut Reply)
+    ensures shown { ShowsAnswer item.now out.new }
+    ensures few { out.new.count ≤ MAX_FIELDS }
+{
     out.reason = u32::from(item.head.status.as_u16());
     out.method = span_of(item.reason.as_slice());
     out.minor = if item.head.version == Version::HTTP_10 {
@@ -61,7 +72,9 @@ fn tell_answer(item: &ResponseItem, out: &mut Reply) {
 
 // Spans are taken once the head lies where it stays: short texts lie inside it.
 fn keep_answer(place: &mut Option<ResponseItem>, item: ResponseItem, out: &mut Reply)
-    ensures { out.new.kind ≡ 2 }
+    ensures kind { out.new.kind ≡ 2 }
+    ensures few { out.old.count ≤ MAX_FIELDS → out.new.count ≤ MAX_FIELDS }
+    ensures shown { ShowsAnswer item out.new }
 {
     *place = Some(item);
     if let Some(item) = place {
@@ -72,7 +85,9 @@ fn keep_answer(place: &mut Option<ResponseItem>, item: ResponseItem, out: &mut R
 
 // Keeps what came, and tells it.
 fn keep_next(place: &mut Option<ResponseItem>, next: NextAnswer, out: &mut Reply)
-    ensures { out.new.kind ≡ answer_kind next }
+    ensures kind { out.new.kind ≡ answer_kind next }
+    ensures few { out.old.count ≤ MAX_FIELDS → out.new.count ≤ MAX_FIELDS }
+    ensures shown { ShowsNextAnswer next out.new }
 {
     match next {
         NextAnswer::Answer(item) => keep_answer(place, item, out),
@@ -85,7 +100,9 @@ fn keep_next(place: &mut Option<ResponseItem>, next: NextAnswer, out: &mut Reply
 
 impl Client {
     /// A fresh one.
-    pub fn new(alloc: Global, config: ServiceConfig) -> Client {
+    pub fn new(alloc: Global, config: ServiceConfig) -> Client
+        ensures { result ≡ fresh_state config }
+    {
         Client {
             alloc,
             connection: ClientConnection::new(alloc, config),
@@ -96,8 +113,11 @@ impl Client {
 
     /// A request's head.
     pub fn ask(&mut self, arg: u32, size: u64, text: &[u8], out: &mut Reply) -> Result<(), Failure>
-        ensures stands { OnOk result (HasRequested size self.old self.new) }
+        ensures stands { OnOk result (HasRequested size out.new self.old self.new) }
         ensures kept { OnErr result (self.new ≡ self.old) }
+        ensures refused { IfErr result (MayDecline asks.Head size text.now self.old) }
+        ensures quiet { OnErr result (out.new ≡ out.old) }
+        ensures few { out.old.count ≤ MAX_FIELDS → out.new.count ≤ MAX_FIELDS }
     {
         let head = request_head_of(self.alloc, arg, text)?;
         let size = size_of_number(size);
@@ -113,8 +133,11 @@ impl Client {
 
     /// A piece of the request's body.
     pub fn chunk(&mut self, input: &[u8], out: &mut Reply) -> Result<(), Failure>
-        ensures stands { OnOk result (HasMade (on.chunk input.now) self.old self.new) }
+        ensures stands { OnOk result (HasMade (on.chunk input.now) out.new self.old self.new) }
         ensures kept { OnErr result (self.new ≡ self.old) }
+        ensures refused { IfErr result (MayDecline asks.Chunk 0 input.now self.old) }
+        ensures quiet { OnErr result (out.new ≡ out.old) }
+        ensures few { out.old.count ≤ MAX_FIELDS → out.new.count ≤ MAX_FIELDS }
     {
         if !self.connection.can_chunk() {
             return Err(Failure::Misplaced);
@@ -128,8 +151,11 @@ impl Client {
 
     /// The request's body is whole.
     pub fn end(&mut self, out: &mut Reply) -> Result<(), Failure>
-        ensures stands { OnOk result (HasMade on.body_end self.old self.new) }
+        ensures stands { OnOk result (HasMade on.body_end out.new self.old self.new) }
         ensures kept { OnErr result (self.new ≡ self.old) }
+        ensures refused { IfErr result (MayDecline asks.End 0 [] self.old) }
+        ensures quiet { OnErr result (out.new ≡ out.old) }
+        ensures few { out.old.count ≤ MAX_FIELDS → out.new.count ≤ MAX_FIELDS }
     {
         if !self.connection.can_end_body() {
             return Err(Failure::Misplaced);
@@ -143,8 +169,11 @@ impl Client {
 
     /// The request's body failed.
     pub fn fail(&mut self, out: &mut Reply) -> Result<(), Failure>
-        ensures stands { OnOk result (HasMade on.body_error self.old self.new) }
+        ensures stands { OnOk result (HasMade on.body_error out.new self.old self.new) }
         ensures kept { OnErr result (self.new ≡ self.old) }
+        ensures refused { IfErr result (MayDecline asks.Fail 0 [] self.old) }
+        ensures quiet { OnErr result (out.new ≡ out.old) }
+        ensures few { out.old.count ≤ MAX_FIELDS → out.new.count ≤ MAX_FIELDS }
     {
         if !self.connection.can_end_body() {
             return Err(Failure::Misplaced);
@@ -158,6 +187,9 @@ impl Client {
     pub fn read(&mut self, input: &[u8], out: &mut Reply) -> Result<(), Failure>
         ensures stands { OnOk result (HasRead input.now out.new self.old self.new) }
         ensures kept { OnErr result (self.new ≡ self.old) }
+        ensures refused { IfErr result (MayDecline asks.Read 0 input.now self.old) }
+        ensures quiet { OnErr result (out.new ≡ out.old) }
+        ensures few { out.old.count ≤ MAX_FIELDS → out.new.count ≤ MAX_FIELDS }
     {
         if !self.connection.can_read() {
             return Err(Failure::Misplaced);
@@ -171,8 +203,11 @@ impl Client {
 
     /// The input's end.
     pub fn eof(&mut self, out: &mut Reply) -> Result<(), Failure>
-        ensures stands { OnOk result (HasMade on.eof self.old self.new) }
+        ensures stands { OnOk result (HasMade on.eof out.new self.old self.new) }
         ensures kept { OnErr result (self.new ≡ self.old) }
+        ensures refused { IfErr result (MayDecline asks.Eof 0 [] self.old) }
+        ensures quiet { OnErr result (out.new ≡ out.old) }
+        ensures few { out.old.count ≤ MAX_FIELDS → out.new.count ≤ MAX_FIELDS }
     {
         if !self.connection.can_read() {
             return Err(Failure::Misplaced);
@@ -186,6 +221,9 @@ impl Client {
     pub fn next(&mut self, out: &mut Reply) -> Result<(), Failure>
         ensures stands { OnOk result (HasNext out.new self.old self.new) }
         ensures kept { OnErr result (self.new ≡ self.old) }
+        ensures refused { IfErr result (MayDecline asks.Next 0 [] self.old) }
+        ensures quiet { OnErr result (out.new ≡ out.old) }
+        ensures few { out.old.count ≤ MAX_FIELDS → out.new.count ≤ MAX_FIELDS }
     {
         if !self.connection.can_next() {
             return Err(Failure::Misplaced);
@@ -201,6 +239,9 @@ impl Client {
     pub fn pull(&mut self, out: &mut Reply) -> Result<(), Failure>
         ensures stands { OnOk result (HasPulled out.new self.old self.new) }
         ensures kept { OnErr result (self.new ≡ self.old) }
+        ensures refused { IfErr result (MayDecline asks.Pull 0 [] self.old) }
+        ensures quiet { OnErr result (out.new ≡ out.old) }
+        ensures few { out.old.count ≤ MAX_FIELDS → out.new.count ≤ MAX_FIELDS }
     {
         if !self.connection.can_pull() {
             return Err(Failure::Misplaced);
@@ -214,8 +255,11 @@ impl Client {
 
     /// The rest of the body isn't wanted.
     pub fn drop_body(&mut self, out: &mut Reply) -> Result<(), Failure>
-        ensures stands { OnOk result (HasMade on.drop_body self.old self.new) }
+        ensures stands { OnOk result (HasMade on.drop_body out.new self.old self.new) }
         ensures kept { OnErr result (self.new ≡ self.old) }
+        ensures refused { IfErr result (MayDecline asks.DropBody 0 [] self.old) }
+        ensures quiet { OnErr result (out.new ≡ out.old) }
+        ensures few { out.old.count ≤ MAX_FIELDS → out.new.count ≤ MAX_FIELDS }
     {
         if !self.connection.can_drop_body() {
             return Err(Failure::Misplaced);
@@ -226,15 +270,23 @@ impl Client {
     }
 
     /// What is to be written next, where it lies.
-    pub fn front(&self, out: &mut Reply) -> Result<(), Failure> {
+    pub fn front(&self, out: &mut Reply) -> Result<(), Failure>
+        ensures stands { OnOk result (HasGiven out.new self.now self.now) }
+        ensures refused { IfErr result (MayDecline asks.Front 0 [] self.now) }
+        ensures quiet { OnErr result (out.new ≡ out.old) }
+        ensures few { out.old.count ≤ MAX_FIELDS → out.new.count ≤ MAX_FIELDS }
+    {
         tell_bytes(out, GIVES, self.connection.front());
         Ok(())
     }
 
     /// So many of these bytes were written.
     pub fn advance(&mut self, count: u64, out: &mut Reply) -> Result<(), Failure>
-        ensures stands { OnOk result (HasWritten count self.old self.new) }
+        ensures stands { OnOk result (HasWritten count out.new self.old self.new) }
         ensures kept { OnErr result (self.new ≡ self.old) }
+        ensures refused { IfErr result (MayDecline asks.Advance count [] self.old) }
+        ensures quiet { OnErr result (out.new ≡ out.old) }
+        ensures few { out.old.count ≤ MAX_FIELDS → out.new.count ≤ MAX_FIELDS }
     {
         let Ok(length) = usize::try_from(count) else {
             return Err(Failure::Invalid);
@@ -252,8 +304,11 @@ impl Client {
 
     /// The time.
     pub fn tick(&mut self, moment: u64, out: &mut Reply) -> Result<(), Failure>
-        ensures stands { OnOk result (HasMade (on.tick moment) self.old self.new) }
+        ensures stands { OnOk result (HasMade (on.tick moment) out.new self.old self.new) }
         ensures kept { OnErr result (self.new ≡ self.old) }
+        ensures refused { IfErr result (MayDecline asks.Tick moment [] self.old) }
+        ensures quiet { OnErr result (out.new ≡ out.old) }
+        ensures few { out.old.count ≤ MAX_FIELDS → out.new.count ≤ MAX_FIELDS }
     {
         if !self.connection.can_tick(moment) {
             return Err(Failure::Misplaced);
@@ -264,7 +319,12 @@ impl Client {
     }
 
     /// The bytes that are held, from place `start` on.
-    pub fn held(&self, start: u64, out: &mut Reply) -> Result<(), Failure> {
+    pub fn held(&self, start: u64, out: &mut Reply) -> Result<(), Failure>
+        ensures stands { OnOk result (HasHeld start out.new self.now self.now) }
+        ensures refused { IfErr result (MayDecline asks.Held start [] self.now) }
+        ensures quiet { OnErr result (out.new ≡ out.old) }
+        ensures few { out.old.count ≤ MAX_FIELDS → out.new.count ≤ MAX_FIELDS }
+    {
         let Ok(start) = usize::try_from(start) else {
             return Err(Failure::Invalid);
         };
@@ -274,7 +334,12 @@ impl Client {
     }
 
     /// What may come next, why it ends, and its numbers.
-    pub fn state(&self, out: &mut Reply) -> Result<(), Failure> {
+    pub fn state(&self, out: &mut Reply) -> Result<(), Failure>
+        ensures stands { OnOk result (HasStated out.new self.now self.now) }
+        ensures refused { IfErr result (MayDecline asks.State 0 [] self.now) }
+        ensures quiet { OnErr result (out.new ≡ out.old) }
+        ensures few { out.old.count ≤ MAX_FIELDS → out.new.count ≤ MAX_FIELDS }
+    {
         let it = &self.connection;
         out.kind = STATE;
         out.reason = match it.closing() {
@@ -295,7 +360,9 @@ impl Client {
 }
 
 // What may come next, a bit for each call: a request is asked for by `ask` itself.
-fn calls_of(it: &ClientConnection) -> u32 {
+fn calls_of(it: &ClientConnection) -> u32
+    ensures { result ≡ requests_said it.now }
+{
     bit(it.can_read(), 1)
         | bit(it.can_next(), 2)
         | bit(it.can_pull(), 4)

@@ -1,5 +1,6 @@
 //! What may be asked of a connection.
-ghost use Rattle.std.specs.Prelude.{◌≡◌, IfSome};
+ghost use Rattle.std.specs.Prelude.{◌≡◌, IfSome, IsNone};
+ghost use Rattle.raspcream.specs.Calls.{IsUnknown};
 ghost use Rattle.raspcream.specs.Numbers.{number_of};
 
 /// What is asked. The header gives each a name.
@@ -65,7 +66,8 @@ pub enum Op {
 
 /// The one of this number.
 pub fn op_of(number: u32) -> Option<Op>
-    ensures { IfSome result (λ op. number_of op ≡ number) }
+    ensures some { IfSome result (λ op. number_of op ≡ number) }
+    ensures none { IsNone result → IsUnknown number }
 {
     match number {
         0 => Some(Op::Read),

@@ -1,9 +1,15 @@
 //! A server's side.
-ghost use Rattle.std.specs.Prelude.{◌≡◌, ◌%◌, IfOk, OnOk, OnErr};
+ghost use Rattle.std.specs.Prelude.{◌≡◌, ◌≤◌, ◌<◌, ◌%◌, [], IfOk, IfErr, OnOk, OnErr};
 ghost use Rattle.h1_encoder.specs.Meaning.{answer_of};
 ghost use Rattle.model_h1.specs.Event as on;
+ghost use Rattle.h1_connection.specs.State.{fresh_state};
+ghost use Rattle.raspcream.specs.Bits.{calls_said};
 ghost use Rattle.raspcream.specs.Numbers.{kind_of, expiry_kind};
-ghost use Rattle.raspcream.specs.Served.{HasRead, HasNext, HasAnswered, HasMade, HasWritten, HasTicked, HasPulled};
+ghost use Rattle.raspcream.specs.Refused.{MayRefuse};
+ghost use Rattle.raspcream.specs.Served.{HasRead, HasNext, HasAnswered, HasMade, HasWritten, HasTicked, HasPulled, HasGiven, HasHeld, HasStated};
+ghost use Rattle.raspcream.specs.Shown.{ShowsHead, ShowsNext};
+ghost use Rattle.raspcream.specs.declared.op.Op.TheVariants as asks;
+ghost use Rattle.raspcream.specs.declared.reply.TheConstants.{MAX_FIELDS};
 
 use crate::fields::read_fields;
 use crate::handed::Handed;
@@ -32,7 +38,9 @@ pub struct Server {
 }
 
 /// Why it ends, as a number from 1 on.
-pub fn end_number(end: End) -> u32 {
+pub fn end_number(end: End) -> u32
+    ensures { 0 < result }
+{
     match end {
         End::Malformed => 1,
         End::TooLarge => 2,
@@ -51,7 +59,10 @@ pub fn end_number(end: End) -> u32 {
 }
 
 /// What a head says.
-fn tell_head(item: &HeadItem, out: &mut Reply) {
+fn tell_head(item: &HeadItem, out: &mut Reply)
+    ensures shown { ShowsHead item.now out.new }
+    ensures few { out.new.count ≤ MAX_FIELDS }
+{
     out.method = span_of(item.head.method.as_str().as_bytes());
     out.target = span_of(item.target.as_slice());
     out.minor = if item.head.version == Version::HTTP_10 {
@@ -65,7 +76,9 @@ fn tell_head(item: &HeadItem, out: &mut Reply) {
 
 /// What came.
 fn tell_next(item: &HeadItem, kind: NextKind, out: &mut Reply)
-    ensures { out.new.kind ≡ kind_of kind }
+    ensures kind { out.new.kind ≡ kind_of kind }
+    ensures few { out.old.count ≤ MAX_FIELDS → out.new.count ≤ MAX_FIELDS }
+    ensures shown { ShowsNext item.now kind out.new }
 {
     match kind {
         NextKind::Head => {
@@ -81,7 +94,8 @@ fn tell_next(item: &HeadItem, kind: NextKind, out: &mut Reply)
 
 /// What a moment brings.
 fn tell_expiry(expiry: Expiry, out: &mut Reply)
-    ensures { out.new.kind ≡ expiry_kind expiry }
+    ensures kind { out.new.kind ≡ expiry_kind expiry }
+    ensures few { out.old.count ≤ MAX_FIELDS → out.new.count ≤ MAX_FIELDS }
 {
     match expiry {
         Expiry::None => tell(out, DONE, 0),
@@ -121,7 +135,9 @@ impl Model for Server {
 
 impl Server {
     /// A fresh one.
-    pub fn new(alloc: Global, config: ServiceConfig) -> Server {
+    pub fn new(alloc: Global, config: ServiceConfig) -> Server
+        ensures { result ≡ fresh_state config }
+    {
         Server {
             alloc,
             connection: Connection::new(alloc, config),
@@ -136,6 +152,9 @@ impl Server {
     pub fn read(&mut self, input: &[u8], out: &mut Reply) -> Result<(), Failure>
         ensures stands { OnOk result (HasRead input.now out.new self.old self.new) }
         ensures kept { OnErr result (self.new ≡ self.old) }
+        ensures refused { IfErr result (MayRefuse asks.Read 0 input.now self.old) }
+        ensures quiet { OnErr result (out.new ≡ out.old) }
+        ensures few { out.old.count ≤ MAX_FIELDS → out.new.count ≤ MAX_FIELDS }
     {
         if !self.connection.can_read() {
             return Err(Failure::Misplaced);
@@ -149,8 +168,11 @@ impl Server {
 
     /// The input's end.
     pub fn eof(&mut self, out: &mut Reply) -> Result<(), Failure>
-        ensures stands { OnOk result (HasMade on.eof self.old self.new) }
+        ensures stands { OnOk result (HasMade on.eof out.new self.old self.new) }
         ensures kept { OnErr result (self.new ≡ self.old) }
+        ensures refused { IfErr result (MayRefuse asks.Eof 0 [] self.old) }
+        ensures quiet { OnErr result (out.new ≡ out.old) }
+        ensures few { out.old.count ≤ MAX_FIELDS → out.new.count ≤ MAX_FIELDS }
     {
         if !self.connection.can_read() {
             return Err(Failure::Misplaced);
@@ -164,6 +186,9 @@ impl Server {
     pub fn next(&mut self, out: &mut Reply) -> Result<(), Failure>
         ensures stands { OnOk result (HasNext out.new self.old self.new) }
         ensures kept { OnErr result (self.new ≡ self.old) }
+        ensures refused { IfErr result (MayRefuse asks.Next 0 [] self.old) }
+        ensures quiet { OnErr result (out.new ≡ out.old) }
+        ensures few { out.old.count ≤ MAX_FIELDS → out.new.count ≤ MAX_FIELDS }
     {
         if !self.connection.can_next() {
             return Err(Failure::Misplaced);
@@ -179,6 +204,9 @@ impl Server {
     pub fn pull(&mut self, out: &mut Reply) -> Result<(), Failure>
         ensures stands { OnOk result (HasPulled out.new self.old self.new) }
         ensures kept { OnErr result (self.new ≡ self.old) }
+        ensures refused { IfErr result (MayRefuse asks.Pull 0 [] self.old) }
+        ensures quiet { OnErr result (out.new ≡ out.old) }
+        ensures few { out.old.count ≤ MAX_FIELDS → out.new.count ≤ MAX_FIELDS }
     {
         if !self.connection.can_pull() {
             return Err(Failure::Misplaced);
@@ -192,8 +220,11 @@ impl Server {
 
     /// The rest of the body isn't wanted.
     pub fn drop_body(&mut self, out: &mut Reply) -> Result<(), Failure>
-        ensures stands { OnOk result (HasMade on.drop_body self.old self.new) }
+        ensures stands { OnOk result (HasMade on.drop_body out.new self.old self.new) }
         ensures kept { OnErr result (self.new ≡ self.old) }
+        ensures refused { IfErr result (MayRefuse asks.DropBody 0 [] self.old) }
+        ensures quiet { OnErr result (out.new ≡ out.old) }
+        ensures few { out.old.count ≤ MAX_FIELDS → out.new.count ≤ MAX_FIELDS }
     {
         if !self.connection.can_pull() {
             return Err(Failure::Misplaced);
@@ -205,8 +236,11 @@ impl Server {
 
     /// The client may send its body.
     pub fn go_on(&mut self, out: &mut Reply) -> Result<(), Failure>
-        ensures stands { OnOk result (HasMade on.send_continue self.old self.new) }
+        ensures stands { OnOk result (HasMade on.send_continue out.new self.old self.new) }
         ensures kept { OnErr result (self.new ≡ self.old) }
+        ensures refused { IfErr result (MayRefuse asks.Continue 0 [] self.old) }
+        ensures quiet { OnErr result (out.new ≡ out.old) }
+        ensures few { out.old.count ≤ MAX_FIELDS → out.new.count ≤ MAX_FIELDS }
     {
         if !self.connection.can_continue() {
             return Err(Failure::Misplaced);
@@ -226,8 +260,11 @@ impl Server {
         lines: &[u8],
         out: &mut Reply,
     ) -> Result<(), Failure>
-        ensures stands { OnOk result (HasAnswered arg size self.old self.new) }
+        ensures stands { OnOk result (HasAnswered arg size out.new self.old self.new) }
         ensures kept { OnErr result (self.new ≡ self.old) }
+        ensures refused { IfErr result (MayRefuse asks.Head size lines.now self.old) }
+        ensures quiet { OnErr result (out.new ≡ out.old) }
+        ensures few { out.old.count ≤ MAX_FIELDS → out.new.count ≤ MAX_FIELDS }
     {
         if !self.connection.can_answer() {
             return Err(Failure::Misplaced);
@@ -242,8 +279,11 @@ impl Server {
 
     /// A piece of the answer's body.
     pub fn chunk(&mut self, input: &[u8], out: &mut Reply) -> Result<(), Failure>
-        ensures stands { OnOk result (HasMade (on.chunk input.now) self.old self.new) }
+        ensures stands { OnOk result (HasMade (on.chunk input.now) out.new self.old self.new) }
         ensures kept { OnErr result (self.new ≡ self.old) }
+        ensures refused { IfErr result (MayRefuse asks.Chunk 0 input.now self.old) }
+        ensures quiet { OnErr result (out.new ≡ out.old) }
+        ensures few { out.old.count ≤ MAX_FIELDS → out.new.count ≤ MAX_FIELDS }
     {
         if !self.connection.can_chunk() {
             return Err(Failure::Misplaced);
@@ -257,8 +297,11 @@ impl Server {
 
     /// The answer's body is whole.
     pub fn end(&mut self, out: &mut Reply) -> Result<(), Failure>
-        ensures stands { OnOk result (HasMade on.body_end self.old self.new) }
+        ensures stands { OnOk result (HasMade on.body_end out.new self.old self.new) }
         ensures kept { OnErr result (self.new ≡ self.old) }
+        ensures refused { IfErr result (MayRefuse asks.End 0 [] self.old) }
+        ensures quiet { OnErr result (out.new ≡ out.old) }
+        ensures few { out.old.count ≤ MAX_FIELDS → out.new.count ≤ MAX_FIELDS }
     {
         if !self.connection.can_end_answer() {
             return Err(Failure::Misplaced);
@@ -272,8 +315,11 @@ impl Server {
 
     /// The answer's body failed.
     pub fn fail(&mut self, out: &mut Reply) -> Result<(), Failure>
-        ensures stands { OnOk result (HasMade on.body_error self.old self.new) }
+        ensures stands { OnOk result (HasMade on.body_error out.new self.old self.new) }
         ensures kept { OnErr result (self.new ≡ self.old) }
+        ensures refused { IfErr result (MayRefuse asks.Fail 0 [] self.old) }
+        ensures quiet { OnErr result (out.new ≡ out.old) }
+        ensures few { out.old.count ≤ MAX_FIELDS → out.new.count ≤ MAX_FIELDS }
     {
         if !self.connection.can_end_answer() {
             return Err(Failure::Misplaced);
@@ -284,15 +330,23 @@ impl Server {
     }
 
     /// What is to be written next, where it lies.
-    pub fn front(&self, out: &mut Reply) -> Result<(), Failure> {
+    pub fn front(&self, out: &mut Reply) -> Result<(), Failure>
+        ensures stands { OnOk result (HasGiven out.new self.now self.now) }
+        ensures refused { IfErr result (MayRefuse asks.Front 0 [] self.now) }
+        ensures quiet { OnErr result (out.new ≡ out.old) }
+        ensures few { out.old.count ≤ MAX_FIELDS → out.new.count ≤ MAX_FIELDS }
+    {
         tell_bytes(out, GIVES, self.connection.stretch());
         Ok(())
     }
 
     /// So many of these bytes were written.
     pub fn advance(&mut self, count: u64, out: &mut Reply) -> Result<(), Failure>
-        ensures stands { OnOk result (HasWritten count self.old self.new) }
+        ensures stands { OnOk result (HasWritten count out.new self.old self.new) }
         ensures kept { OnErr result (self.new ≡ self.old) }
+        ensures refused { IfErr result (MayRefuse asks.Advance count [] self.old) }
+        ensures quiet { OnErr result (out.new ≡ out.old) }
+        ensures few { out.old.count ≤ MAX_FIELDS → out.new.count ≤ MAX_FIELDS }
     {
         let Ok(length) = usize::try_from(count) else {
             return Err(Failure::Invalid);
@@ -312,6 +366,9 @@ impl Server {
     pub fn tick(&mut self, moment: u64, out: &mut Reply) -> Result<(), Failure>
         ensures stands { OnOk result (HasTicked moment out.new self.old self.new) }
         ensures kept { OnErr result (self.new ≡ self.old) }
+        ensures refused { IfErr result (MayRefuse asks.Tick moment [] self.old) }
+        ensures quiet { OnErr result (out.new ≡ out.old) }
+        ensures few { out.old.count ≤ MAX_FIELDS → out.new.count ≤ MAX_FIELDS }
     {
         if !self.connection.can_tick(moment) {
             return Err(Failure::Misplaced);
@@ -325,8 +382,11 @@ impl Server {
 
     /// No further request.
     pub fn drain(&mut self, out: &mut Reply) -> Result<(), Failure>
-        ensures stands { OnOk result (HasMade on.drain self.old self.new) }
+        ensures stands { OnOk result (HasMade on.drain out.new self.old self.new) }
         ensures kept { OnErr result (self.new ≡ self.old) }
+        ensures refused { IfErr result (MayRefuse asks.Drain 0 [] self.old) }
+        ensures quiet { OnErr result (out.new ≡ out.old) }
+        ensures few { out.old.count ≤ MAX_FIELDS → out.new.count ≤ MAX_FIELDS }
     {
         if !self.connection.can_drain() {
             return Err(Failure::Misplaced);
@@ -337,7 +397,12 @@ impl Server {
     }
 
     /// The bytes that are held, from place `start` on, as many as lie together.
-    pub fn held(&self, start: u64, out: &mut Reply) -> Result<(), Failure> {
+    pub fn held(&self, start: u64, out: &mut Reply) -> Result<(), Failure>
+        ensures stands { OnOk result (HasHeld start out.new self.now self.now) }
+        ensures refused { IfErr result (MayRefuse asks.Held start [] self.now) }
+        ensures quiet { OnErr result (out.new ≡ out.old) }
+        ensures few { out.old.count ≤ MAX_FIELDS → out.new.count ≤ MAX_FIELDS }
+    {
         let Ok(start) = usize::try_from(start) else {
             return Err(Failure::Invalid);
         };
@@ -346,7 +411,12 @@ impl Server {
     }
 
     /// What may come next, why it ends, and its numbers.
-    pub fn state(&self, out: &mut Reply) -> Result<(), Failure> {
+    pub fn state(&self, out: &mut Reply) -> Result<(), Failure>
+        ensures stands { OnOk result (HasStated out.new self.now self.now) }
+        ensures refused { IfErr result (MayRefuse asks.State 0 [] self.now) }
+        ensures quiet { OnErr result (out.new ≡ out.old) }
+        ensures few { out.old.count ≤ MAX_FIELDS → out.new.count ≤ MAX_FIELDS }
+    {
         let it = &self.connection;
         out.kind = STATE;
         out.reason = match it.closing() {
@@ -367,7 +437,9 @@ impl Server {
 }
 
 // What may come next, a bit for each call.
-fn calls_of(it: &Connection) -> u32 {
+fn calls_of(it: &Connection) -> u32
+    ensures { result ≡ calls_said it.now }
+{
     bit(it.can_read(), 1)
         | bit(it.can_next(), 2)
         | bit(it.can_pull(), 4 | 8)

@@ -1,8 +1,11 @@
 //! A server's side once it was upgraded to WebSocket.
-ghost use Rattle.std.specs.Prelude.{◌≡◌, string_bytes, IfOk, OnOk, OnErr};
+ghost use Rattle.std.specs.Prelude.{◌≡◌, ◌≤◌, [], string_bytes, IfOk, IfErr, OnOk, OnErr};
 ghost use Rattle.ws_frames.specs.Sent.{message_says};
 ghost use Rattle.raspcream.specs.Numbers.{accepted_kind, frame_kind, sent_kind};
+ghost use Rattle.raspcream.specs.Refused.{MayRefuse};
 ghost use Rattle.raspcream.specs.Served.{IsMessageOf, HasAccepted, HasFramed, HasSent};
+ghost use Rattle.raspcream.specs.declared.op.Op.TheVariants as asks;
+ghost use Rattle.raspcream.specs.declared.reply.TheConstants.{MAX_FIELDS};
 
 use crate::pointers::span_of;
 use crate::reply::{DONE, FRAME, Failure, PENDING, PROTOCOL, REFUSED, Reply, tell};
@@ -44,7 +47,9 @@ fn check_number(error: HandshakeError) -> u32 {
 }
 
 /// A frame: its kind in `minor`, its payload in `bytes`. Of a Close the code in `number`, 0 for none.
-fn tell_frame(frame: &Frame, out: &mut Reply) {
+fn tell_frame(frame: &Frame, out: &mut Reply)
+    ensures { out.new.count ≡ out.old.count }
+{
     out.number = 0;
     match frame {
         Frame::Text(payload) => {
@@ -68,7 +73,9 @@ fn tell_frame(frame: &Frame, out: &mut Reply) {
     }
 }
 
-fn tell_item(item: &Item, out: &mut Reply) {
+fn tell_item(item: &Item, out: &mut Reply)
+    ensures { out.new.count ≡ out.old.count }
+{
     match item {
         Item::FirstText(payload) => {
             out.minor = 17;
@@ -89,7 +96,9 @@ fn tell_item(item: &Item, out: &mut Reply) {
     }
 }
 
-fn tell_close(reason: &Option<CloseReason>, out: &mut Reply) {
+fn tell_close(reason: &Option<CloseReason>, out: &mut Reply)
+    ensures { out.new.count ≡ out.old.count }
+{
     out.minor = 8;
     out.bytes = span_of(b"");
     let Some(reason) = reason else {
@@ -162,7 +171,8 @@ fn close_of(alloc: Global, code: u64, input: &[u8]) -> Result<Message, Failure>
 
 /// How a handshake is answered.
 fn tell_accepted(accepted: Accepted, out: &mut Reply)
-    ensures { out.new.kind ≡ accepted_kind accepted }
+    ensures kind { out.new.kind ≡ accepted_kind accepted }
+    ensures few { out.old.count ≤ MAX_FIELDS → out.new.count ≤ MAX_FIELDS }
 {
     match accepted {
         Accepted::Done => tell(out, DONE, 0),
@@ -172,7 +182,8 @@ fn tell_accepted(accepted: Accepted, out: &mut Reply)
 
 /// Whether a message goes out.
 fn tell_sent(sent: Sent, out: &mut Reply)
-    ensures { out.new.kind ≡ sent_kind sent }
+    ensures kind { out.new.kind ≡ sent_kind sent }
+    ensures few { out.old.count ≤ MAX_FIELDS → out.new.count ≤ MAX_FIELDS }
 {
     match sent {
         Sent::Done => tell(out, DONE, 0),
@@ -182,7 +193,8 @@ fn tell_sent(sent: Sent, out: &mut Reply)
 
 // Keeps what came, and tells it.
 fn keep_pulled_frame(place: &mut Option<Frame>, pulled: PulledFrame, out: &mut Reply)
-    ensures { out.new.kind ≡ frame_kind pulled }
+    ensures kind { out.new.kind ≡ frame_kind pulled }
+    ensures few { out.old.count ≤ MAX_FIELDS → out.new.count ≤ MAX_FIELDS }
 {
     match pulled {
         PulledFrame::Frame(frame) => keep_frame(place, frame, out),
@@ -193,7 +205,8 @@ fn keep_pulled_frame(place: &mut Option<Frame>, pulled: PulledFrame, out: &mut R
 
 // Spans are taken once the frame lies where it stays.
 fn keep_frame(place: &mut Option<Frame>, frame: Frame, out: &mut Reply)
-    ensures { out.new.kind ≡ 13 }
+    ensures kind { out.new.kind ≡ 13 }
+    ensures few { out.old.count ≤ MAX_FIELDS → out.new.count ≤ MAX_FIELDS }
 {
     *place = Some(frame);
     if let Some(frame) = place {
@@ -207,6 +220,9 @@ impl Server {
     pub fn accept(&mut self, limit: u64, out: &mut Reply) -> Result<(), Failure>
         ensures stands { OnOk result (HasAccepted limit out.new self.old self.new) }
         ensures kept { OnErr result (self.new ≡ self.old) }
+        ensures refused { IfErr result (MayRefuse asks.Accept limit [] self.old) }
+        ensures quiet { OnErr result (out.new ≡ out.old) }
+        ensures few { out.old.count ≤ MAX_FIELDS → out.new.count ≤ MAX_FIELDS }
     {
         let Ok(length) = usize::try_from(limit) else {
             return Err(Failure::Invalid);
@@ -225,6 +241,9 @@ impl Server {
     pub fn frame(&mut self, out: &mut Reply) -> Result<(), Failure>
         ensures stands { OnOk result (HasFramed out.new self.old self.new) }
         ensures kept { OnErr result (self.new ≡ self.old) }
+        ensures refused { IfErr result (MayRefuse asks.Frame 0 [] self.old) }
+        ensures quiet { OnErr result (out.new ≡ out.old) }
+        ensures few { out.old.count ≤ MAX_FIELDS → out.new.count ≤ MAX_FIELDS }
     {
         if !self.connection.can_pull_frame() {
             return Err(Failure::Misplaced);
@@ -246,6 +265,9 @@ impl Server {
     ) -> Result<(), Failure>
         ensures stands { OnOk result (HasSent kind code input.now out.new self.old self.new) }
         ensures kept { OnErr result (self.new ≡ self.old) }
+        ensures refused { IfErr result (MayRefuse asks.Send code input.now self.old) }
+        ensures quiet { OnErr result (out.new ≡ out.old) }
+        ensures few { out.old.count ≤ MAX_FIELDS → out.new.count ≤ MAX_FIELDS }
     {
         if !self.connection.can_send() {
             return Err(Failure::Misplaced);

@@ -3,7 +3,7 @@ use Rattle.raspcream.proofs.AskedLemmas.{has_written}
 use Rattle.raspcream.proofs.client.Client.advance.Goals as goal
 
 pub returns-clause-stands : goal.returns-clause-stands
-returns-clause-stands c = has_written _ _ _ _ _ c.self.view_is (search rules) c.advance.ensures.stands
+returns-clause-stands c = has_written _ _ _ _ _ _ c.self.view_is c.tell.ensures.kind (search rules) (search rules) c.advance.ensures.stands
 
 pub advance-requires-clause-can_write : goal.advance-requires-clause-can_write
 advance-requires-clause-can_write c = sym (c.can_write.ensures c.in-Ok.length) ∙ c.if-not-can_write.false

@@ -3,7 +3,7 @@ use Rattle.raspcream.proofs.AskedLemmas.{has_made}
 use Rattle.raspcream.proofs.client.Client.chunk.Goals as goal
 
 pub returns-clause-stands : goal.returns-clause-stands
-returns-clause-stands c = has_made _ _ _ _ c.self.view_is c.in-Ok.ensures.stands
+returns-clause-stands c = has_made _ _ _ _ _ c.self.view_is c.tell.ensures.kind c.in-Ok.ensures.stands
 
 pub chunk-requires : goal.chunk-requires
 chunk-requires c = record { can_chunk = sym (c.can_chunk.ensures c.args.input.now) ∙ c.if-not-can_chunk.false }

@@ -2,4 +2,4 @@ use Rattle.raspcream.proofs.AskedLemmas.{has_made}
 use Rattle.raspcream.proofs.client.Client.fail.Goals as goal
 
 pub returns-clause-stands : goal.returns-clause-stands
-returns-clause-stands c = has_made _ _ _ _ c.self.view_is c.fail_body.ensures.stands
+returns-clause-stands c = has_made _ _ _ _ _ c.self.view_is c.tell.ensures.kind c.fail_body.ensures.stands

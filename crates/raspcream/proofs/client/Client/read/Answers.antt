@@ -2,4 +2,4 @@ use Rattle.raspcream.proofs.AskedLemmas.{has_read}
 use Rattle.raspcream.proofs.client.Client.read.Goals as goal
 
 pub returns-clause-stands : goal.returns-clause-stands
-returns-clause-stands c = has_read _ _ _ _ _ _ c.self.view_is c.tell_number.ensures c.in-Ok.ensures.stands
+returns-clause-stands c = has_read _ _ _ _ _ _ c.self.view_is c.tell_number.ensures.kind c.tell_number.ensures.number c.in-Ok.ensures.stands

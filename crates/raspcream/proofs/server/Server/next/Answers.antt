@@ -2,4 +2,4 @@ use Rattle.raspcream.proofs.ServedLemmas.{has_next}
 use Rattle.raspcream.proofs.server.Server.next.Goals as goal
 
 pub returns-clause-stands : goal.returns-clause-stands
-returns-clause-stands c = has_next _ _ _ _ _ _ c.self.view_is c.tell_next.ensures c.in-Ok.ensures.stands
+returns-clause-stands c = has_next _ _ _ _ _ _ c.self.view_is c.tell_next.ensures.kind c.tell_next.ensures.shown c.in-Ok.ensures.stands
