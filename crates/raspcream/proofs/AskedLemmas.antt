@@ -3,15 +3,16 @@ use Rattle.std.proofs.Common.{◌≡◌, ◌≤◌, ◌-◌, ◌∙◌, ℕ, Boo
 use Rattle.model_h1.specs.Answer as answers
 use Rattle.model_client.specs.ClientEvent as on
 use Rattle.model_client.specs.ClientEvent.{ClientRequest}
-use Rattle.model_client.specs.ClientKept.{client_allows}
+use Rattle.model_client.specs.ClientKept.{client_allows, client_closing}
 use Rattle.h1_payload.specs.declared.pulled.Pulled.{Pulled}
 use Rattle.h1_client.specs.Answers.{SaysNext}
 use Rattle.h1_client.specs.Bodies.{SaysPulled}
 use Rattle.h1_client.specs.ClientMeaning.{setting_of}
 use Rattle.h1_client.specs.State.{State, GoesOn, Is}
 use Rattle.h1_client.specs.declared.event.NextAnswer.{NextAnswer}
-use Rattle.raspcream.specs.Numbers.{size_said, answer_kind, pulled_kind}
-use Rattle.raspcream.specs.Asked.{HasMade, HasRead, HasNext, HasPulled, HasRequested, HasWritten, HasGiven, HasHeld, HasStated}
+use Rattle.raspcream.specs.Named.{NamesRequest}
+use Rattle.raspcream.specs.Numbers.{size_said, client_reason_said, answer_kind, pulled_kind}
+use Rattle.raspcream.specs.Asked.{HasMade, HasRead, HasNext, HasPulled, HasRequested, HasWritten, HasGiven, HasHeld, AreNumbersOf, HasStated}
 use Rattle.raspcream.specs.Refused.{IsOut}
 use Rattle.raspcream.specs.Shown.{ShowsNextAnswer, ShowsPulled}
 use Rattle.raspcream.specs.declared.reply.Reply.{Reply}
@@ -34,10 +35,10 @@ pub has_pulled : (before seen after : State) (reply : Reply) (answer : Pulled) �
 has_pulled before seen after reply answer is told shown stands =
     subst (λ (s : State). HasPulled reply s after) is (record { answer = answer; told = told; shown = shown; stands = stands })
 
-pub has_requested : (before seen after : State) (number : ℕ) (reply : Reply) (request : ClientRequest) (size : answers.BodySize) → before ≡ seen → reply.kind ≡ 0 → size ≡ size_said number
-    → GoesOn before (on.ask request size) (Is on.done) after → HasRequested number reply seen after
-has_requested before seen after number reply request size is told said stands =
-    subst (λ (s : State). HasRequested number reply s after) is (record { told = told; request = request; size = size; said = said; stands = stands })
+pub has_requested : (before seen after : State) (arg number : ℕ) (input : List ℕ) (reply : Reply) (request : ClientRequest) (size : answers.BodySize) → before ≡ seen → reply.kind ≡ 0
+    → NamesRequest arg input request → size ≡ size_said number → GoesOn before (on.ask request size) (Is on.done) after → HasRequested arg number input reply seen after
+has_requested before seen after arg number input reply request size is told named said stands =
+    subst (λ (s : State). HasRequested arg number input reply s after) is (record { told = told; request = request; named = named; size = size; said = said; stands = stands })
 
 pub has_written : (before seen after : State) (number count : ℕ) (reply : Reply) → before ≡ seen → reply.kind ≡ 0 → count ≡ number → count ≤ length before.kept.buffered
     → GoesOn before (on.write count) (Is (on.gave (take count before.kept.buffered))) after → HasWritten number reply seen after
@@ -57,5 +58,15 @@ has_held before seen place start reply is kind said len =
 pub barred : (before seen : State) (event : on.ClientEvent) (answer : Bool) → before ≡ seen → answer ≡ client_allows (setting_of before.settings) before.kept event → answer ≡ false → IsOut seen event
 barred before seen event answer is says not = subst (λ (s : State). IsOut s event) is (sym says ∙ not)
 
-pub has_stated : (before seen : State) (reply : Reply) → before ≡ seen → HasStated reply before before → HasStated reply seen seen
-has_stated before seen reply is all = subst (λ (s : State). HasStated reply s s) is all
+-- the request that is named may not come
+pub misasked : (before seen : State) (arg number : ℕ) (input : List ℕ) (request : ClientRequest) (size : answers.BodySize) (answer : Bool) → before ≡ seen → NamesRequest arg input request
+    → size ≡ size_said number → answer ≡ client_allows (setting_of before.settings) before.kept (on.ask request size) → answer ≡ false
+    → (named : ClientRequest) × NamesRequest arg input named × IsOut seen (on.ask named (size_said number))
+misasked before seen arg number input request size answer is named said says not =
+    (request, named, subst (λ (z : answers.BodySize). IsOut seen (on.ask request z)) said (barred before seen (on.ask request size) answer is says not))
+
+pub has_stated : (before seen : State) (reply : Reply) → before ≡ seen → reply.kind ≡ 16 → reply.reason ≡ client_reason_said (client_closing before.kept) → AreNumbersOf before reply.state
+    → HasStated reply seen seen
+has_stated before seen reply is kind reason numbers =
+    let all : HasStated reply before before = record { same = refl; kind = kind; reason = reason; numbers = numbers } in
+    subst (λ (s : State). HasStated reply s s) is all

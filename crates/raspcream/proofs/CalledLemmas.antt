@@ -32,35 +32,35 @@ pub asked_did : (before after : client.State) (machine : Machine) (asked : Op) (
 asked_did before after machine asked arg number input code reply is done good =
     subst (λ (m : Machine). Did asked arg number input reply m (Client after)) (sym is) (done good)
 
-pub served_code : (before : server.State) (machine : Machine) (asked : Op) (number : ℕ) (input : List ℕ) (code : ℕ) → machine ≡ Server before
-    → IsCode (MayRefuse asked number input before) code → IsCode (MayFail asked number input machine) code
-served_code before machine asked number input code is reason = subst (λ (m : Machine). IsCode (MayFail asked number input m) code) (sym is) reason
+pub served_code : (before : server.State) (machine : Machine) (asked : Op) (arg number : ℕ) (input : List ℕ) (code : ℕ) → machine ≡ Server before
+    → IsCode (MayRefuse asked arg number input before) code → IsCode (MayFail asked arg number input machine) code
+served_code before machine asked arg number input code is reason = subst (λ (m : Machine). IsCode (MayFail asked arg number input m) code) (sym is) reason
 
-pub asked_code : (before : client.State) (machine : Machine) (asked : Op) (number : ℕ) (input : List ℕ) (code : ℕ) → machine ≡ Client before
-    → IsCode (MayDecline asked number input before) code → IsCode (MayFail asked number input machine) code
-asked_code before machine asked number input code is reason = subst (λ (m : Machine). IsCode (MayFail asked number input m) code) (sym is) reason
+pub asked_code : (before : client.State) (machine : Machine) (asked : Op) (arg number : ℕ) (input : List ℕ) (code : ℕ) → machine ≡ Client before
+    → IsCode (MayDecline asked arg number input before) code → IsCode (MayFail asked arg number input machine) code
+asked_code before machine asked arg number input code is reason = subst (λ (m : Machine). IsCode (MayFail asked arg number input m) code) (sym is) reason
 
 -- the code of an answer has the answer's reason
 pub code_of_answer : (P : Failure → Type 0) (answer : Result (Unit {0}) Failure) → IfErr answer P → IsCode P (code_said answer)
-code_of_answer P (Ok done) why = record { known = lit≤ tt; wanting = λ e. cc; misplaced = λ e. cc; invalid = λ e. cc }
-code_of_answer P (Err NoMemory) why = record { known = lit≤ tt; wanting = λ e. why; misplaced = λ e. cc; invalid = λ e. cc }
-code_of_answer P (Err Misplaced) why = record { known = lit≤ tt; wanting = λ e. cc; misplaced = λ e. why; invalid = λ e. cc }
-code_of_answer P (Err Invalid) why = record { known = lit≤ tt; wanting = λ e. cc; misplaced = λ e. cc; invalid = λ e. why }
+code_of_answer P (Ok done) why = record { known = lit≤ tt; wanting = λ e. absurd (omega arith); misplaced = λ e. absurd (omega arith); invalid = λ e. absurd (omega arith) }
+code_of_answer P (Err NoMemory) why = record { known = lit≤ tt; wanting = λ e. why; misplaced = λ e. absurd (omega arith); invalid = λ e. absurd (omega arith) }
+code_of_answer P (Err Misplaced) why = record { known = lit≤ tt; wanting = λ e. absurd (omega arith); misplaced = λ e. why; invalid = λ e. absurd (omega arith) }
+code_of_answer P (Err Invalid) why = record { known = lit≤ tt; wanting = λ e. absurd (omega arith); misplaced = λ e. absurd (omega arith); invalid = λ e. why }
 
 pub code_with : (P : Failure → Type 0) (answer : Result (Unit {0}) Failure) (code : ℕ) → code ≡ code_said answer → IfErr answer P → IsCode P code
 code_with P answer code is why = subst (λ (n : ℕ). IsCode P n) (sym is) (code_of_answer P answer why)
 
-pub code_named : (op number : ℕ) (input : List ℕ) (before : Machine) (asked : Op) (code : ℕ) → number_of asked ≡ op % 256 → IsCode (MayFail asked number input before) code
+pub code_named : (op number : ℕ) (input : List ℕ) (before : Machine) (asked : Op) (code : ℕ) → number_of asked ≡ op % 256 → IsCode (MayFail asked (op / 256) number input before) code
     → IsCode (MayFailAt op number input before) code
 code_named op number input before asked code named reason = record {
   known = reason.known;
-  wanting = λ e. inl (asked, (named, reason.wanting e));
-  misplaced = λ e. inl (asked, (named, reason.misplaced e));
-  invalid = λ e. inl (asked, (named, reason.invalid e));
+  wanting = λ e. inl (asked, named, reason.wanting e);
+  misplaced = λ e. inl (asked, named, reason.misplaced e);
+  invalid = λ e. inl (asked, named, reason.invalid e);
 }
 
 pub called : (before after : Machine) (asked : Op) (op number : ℕ) (input : List ℕ) (code : ℕ) (clear reply : Reply) → number_of asked ≡ op % 256
-    → (code ≢ 0 → after ≡ before) → IsCode (MayFail asked number input before) code → (code ≢ 0 → reply ≡ clear) → (clear.count ≤ MAX_FIELDS → reply.count ≤ MAX_FIELDS) → IsCleared clear
+    → (code ≢ 0 → after ≡ before) → IsCode (MayFail asked (op / 256) number input before) code → (code ≢ 0 → reply ≡ clear) → (clear.count ≤ MAX_FIELDS → reply.count ≤ MAX_FIELDS) → IsCleared clear
     → (code ≡ 0 → Did asked (op / 256) number input reply before after) → IsCalled op number input before code reply after
 called before after asked op number input code clear reply named kept reason quiet few cleared done = record {
   kept = kept;
@@ -73,8 +73,8 @@ called before after asked op number input code clear reply named kept reason qui
 pub not_called : (machine : Machine) (op number : ℕ) (input : List ℕ) (reply : Reply) → IsUnknown (op % 256) → IsCleared reply → IsCalled op number input machine 3 reply machine
 not_called machine op number input reply unknown cleared = record {
   kept = λ bad. refl;
-  done = λ good. cc;
-  reason = record { known = lit≤ tt; wanting = λ e. cc; misplaced = λ e. cc; invalid = λ e. inr (refl, unknown) };
+  done = λ good. absurd (omega arith);
+  reason = record { known = lit≤ tt; wanting = λ e. absurd (omega arith); misplaced = λ e. absurd (omega arith); invalid = λ e. inr (refl, unknown) };
   cleared = λ bad. cleared;
   few = subst (λ (n : ℕ). n ≤ MAX_FIELDS) (sym cleared.fields) (lit≤ tt);
 }

@@ -1,4 +1,6 @@
-mod ReasonLemmas
+mod PackedLemmas
+mod NamedLemmas
 mod ServedLemmas
 mod AskedLemmas
 mod CalledLemmas
+mod OpenLemmas

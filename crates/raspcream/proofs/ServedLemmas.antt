@@ -1,10 +1,10 @@
 -- A step of a server's connection is one of what a clause sees.
-use Rattle.std.proofs.Common.{◌≡◌, ◌≤◌, ◌<◌, ◌-◌, ◌%◌, ◌∙◌, ℕ, Bool, List, false, length, take, drop, ap, refl, sym, subst, length-drop}
+use Rattle.std.proofs.Common.{◌≡◌, ◌≤◌, ◌<◌, ◌-◌, ◌∙◌, ℕ, Bool, List, false, length, take, drop, ap, refl, sym, subst, length-drop}
 use Rattle.model_h1.specs.Answer as answers
 use Rattle.model_h1.specs.Event as on
 use Rattle.model_h1.specs.Frame.{Message}
 use Rattle.model_state.specs.Kept.{is_free}
-use Rattle.model_state.specs.Local.{allowed_by}
+use Rattle.model_state.specs.Local.{allowed_by, closing_by}
 use Rattle.h1_decoder.specs.declared.decoder.HeadItem.{HeadItem}
 use Rattle.h1_payload.specs.Rests.{SaysPulled}
 use Rattle.h1_payload.specs.declared.pulled.Pulled.{Pulled}
@@ -19,10 +19,11 @@ use Rattle.h1_connection.specs.declared.connection.frames.PulledFrame.{PulledFra
 use Rattle.h1_connection.specs.declared.connection.frames.Sent.{Sent}
 use Rattle.h1_connection.specs.declared.connection.heads.NextKind.{NextKind}
 use Rattle.h1_connection.specs.declared.connection.ticks.Expiry.{Expiry}
-use Rattle.raspcream.specs.Numbers.{kind_of, size_said, expiry_kind, pulled_kind, accepted_kind, frame_kind, sent_kind}
+use Rattle.raspcream.specs.Named.{NamesAnswer}
+use Rattle.raspcream.specs.Numbers.{kind_of, size_said, reason_said, expiry_kind, pulled_kind, accepted_kind, frame_kind, sent_kind}
 use Rattle.raspcream.specs.Refused.{IsBarred, MayWant}
-use Rattle.raspcream.specs.Served.{HasMade, HasRead, HasNext, HasPulled, HasAnswered, HasWritten, HasTicked, HasAccepted, HasFramed, HasSent, HasGiven, HasHeld, HasStated, IsMessageOf}
-use Rattle.raspcream.specs.Shown.{ShowsNext, ShowsPulled}
+use Rattle.raspcream.specs.Served.{HasMade, HasRead, HasNext, HasPulled, HasAnswered, HasWritten, HasTicked, HasAccepted, HasFramed, HasSent, HasGiven, HasHeld, AreNumbersOf, HasStated, IsMessageOf}
+use Rattle.raspcream.specs.Shown.{ShowsNext, ShowsPulled, ShowsExpiry, ShowsAccepted, ShowsPulledFrame, ShowsSent}
 use Rattle.raspcream.specs.declared.reply.Reply.{Reply}
 
 pub has_made : (before seen after : State) (event : on.Event) (reply : Reply) → before ≡ seen → reply.kind ≡ 0 → GoesOn before event (Is on.done) after → HasMade event reply seen after
@@ -43,35 +44,35 @@ pub has_pulled : (before seen after : State) (reply : Reply) (answer : Pulled) �
 has_pulled before seen after reply answer is told shown stands =
     subst (λ (s : State). HasPulled reply s after) is (record { answer = answer; told = told; shown = shown; stands = stands })
 
-pub has_answered : (before seen after : State) (arg number : ℕ) (reply : Reply) (head : answers.AnswerHead) (size : answers.BodySize) → before ≡ seen → reply.kind ≡ 0 → head.status ≡ arg % 1024 → size ≡ size_said number
-    → GoesOn before (on.answer head size) (Is on.done) after → HasAnswered arg number reply seen after
-has_answered before seen after arg number reply head size is told named said stands =
-    subst (λ (s : State). HasAnswered arg number reply s after) is (record { told = told; head = head; named = named; size = size; said = said; stands = stands })
+pub has_answered : (before seen after : State) (arg number : ℕ) (input : List ℕ) (reply : Reply) (head : answers.AnswerHead) (size : answers.BodySize) → before ≡ seen → reply.kind ≡ 0 → NamesAnswer arg input head
+    → size ≡ size_said number → GoesOn before (on.answer head size) (Is on.done) after → HasAnswered arg number input reply seen after
+has_answered before seen after arg number input reply head size is told named said stands =
+    subst (λ (s : State). HasAnswered arg number input reply s after) is (record { told = told; head = head; named = named; size = size; said = said; stands = stands })
 
 pub has_written : (before seen after : State) (number count : ℕ) (reply : Reply) → before ≡ seen → reply.kind ≡ 0 → count ≡ number → count ≤ length before.kept.buffered
     → GoesOn before (on.write count) (Is (on.gave (take count before.kept.buffered))) after → HasWritten number reply seen after
 has_written before seen after number count reply is told said fits stands =
     subst (λ (s : State). HasWritten number reply s after) is (record { told = told; count = count; said = said; fits = fits; stands = stands })
 
-pub has_ticked : (before seen after : State) (reply : Reply) (moment : ℕ) (expiry : Expiry) → before ≡ seen → reply.kind ≡ expiry_kind expiry
+pub has_ticked : (before seen after : State) (reply : Reply) (moment : ℕ) (expiry : Expiry) → before ≡ seen → reply.kind ≡ expiry_kind expiry → ShowsExpiry expiry reply
     → GoesOn before (on.tick moment) (Is (expiry_of expiry)) after → HasTicked moment reply seen after
-has_ticked before seen after reply moment expiry is told stands =
-    subst (λ (s : State). HasTicked moment reply s after) is (record { expiry = expiry; told = told; stands = stands })
+has_ticked before seen after reply moment expiry is told shown stands =
+    subst (λ (s : State). HasTicked moment reply s after) is (record { expiry = expiry; told = told; shown = shown; stands = stands })
 
-pub has_accepted : (before seen after : State) (reply : Reply) (number limit : ℕ) (answer : Accepted) → before ≡ seen → limit ≡ number → reply.kind ≡ accepted_kind answer
+pub has_accepted : (before seen after : State) (reply : Reply) (number limit : ℕ) (answer : Accepted) → before ≡ seen → limit ≡ number → reply.kind ≡ accepted_kind answer → ShowsAccepted answer reply
     → GoesOn before (on.accept limit) (Is (accepted_of answer)) after → HasAccepted number reply seen after
-has_accepted before seen after reply number limit answer is said told stands =
-    subst (λ (s : State). HasAccepted number reply s after) is (record { limit = limit; said = said; answer = answer; told = told; stands = stands })
+has_accepted before seen after reply number limit answer is said told shown stands =
+    subst (λ (s : State). HasAccepted number reply s after) is (record { limit = limit; said = said; answer = answer; told = told; shown = shown; stands = stands })
 
-pub has_framed : (before seen after : State) (reply : Reply) (answer : PulledFrame) → before ≡ seen → reply.kind ≡ frame_kind answer
+pub has_framed : (before seen after : State) (reply : Reply) (answer : PulledFrame) → before ≡ seen → reply.kind ≡ frame_kind answer → ShowsPulledFrame answer reply
     → GoesOn before on.pull (SaysFrame answer) after → HasFramed reply seen after
-has_framed before seen after reply answer is told stands =
-    subst (λ (s : State). HasFramed reply s after) is (record { answer = answer; told = told; stands = stands })
+has_framed before seen after reply answer is told shown stands =
+    subst (λ (s : State). HasFramed reply s after) is (record { answer = answer; told = told; shown = shown; stands = stands })
 
 pub has_sent : (before seen after : State) (arg number : ℕ) (input : List ℕ) (reply : Reply) (message : Message) (answer : Sent) → before ≡ seen
-    → IsMessageOf arg number input message → reply.kind ≡ sent_kind answer → GoesOn before (on.send message) (SaysSent answer) after → HasSent arg number input reply seen after
-has_sent before seen after arg number input reply message answer is named told stands =
-    subst (λ (s : State). HasSent arg number input reply s after) is (record { message = message; named = named; answer = answer; told = told; stands = stands })
+    → IsMessageOf arg number input message → reply.kind ≡ sent_kind answer → ShowsSent answer reply → GoesOn before (on.send message) (SaysSent answer) after → HasSent arg number input reply seen after
+has_sent before seen after arg number input reply message answer is named told shown stands =
+    subst (λ (s : State). HasSent arg number input reply s after) is (record { message = message; named = named; answer = answer; told = told; shown = shown; stands = stands })
 
 pub has_given : (before seen : State) (reply : Reply) (told : ℕ) → before ≡ seen → reply.kind ≡ 10 → reply.bytes.len ≡ told → told ≤ length before.kept.buffered
     → (told ≡ 0 → length before.kept.buffered ≡ 0) → HasGiven reply seen seen
@@ -99,6 +100,11 @@ has_held before seen place start reply told is kind said len fits some whole =
 pub barred : (before seen : State) (event : on.Event) (answer : Bool) → before ≡ seen → answer ≡ allowed_by (setting_of before.settings) before.kept event → answer ≡ false → IsBarred seen event
 barred before seen event answer is says not = subst (λ (s : State). IsBarred s event) is (sym says ∙ not)
 
+pub barred_accept : (before seen : State) (number limit : ℕ) (answer : Bool) → before ≡ seen → limit ≡ number → answer ≡ allowed_by (setting_of before.settings) before.kept (on.accept limit)
+    → answer ≡ false → IsBarred seen (on.accept number)
+barred_accept before seen number limit answer is said says not =
+    subst (λ (n : ℕ). IsBarred seen (on.accept n)) said (barred before seen (on.accept limit) answer is says not)
+
 pub wants : (before seen : State) (event : on.Event) → before ≡ seen → (TakesNoMemory before event → ⊥) → MayWant seen event
 wants before seen event is may = subst (λ (s : State). MayWant s event) is may
 
@@ -110,5 +116,8 @@ pub barred_frame : (before seen : State) (answer : Bool) → before ≡ seen →
     → frame_allowed (setting_of seen.settings) seen.kept ≡ false
 barred_frame before seen answer is says not = subst (λ (s : State). frame_allowed (setting_of s.settings) s.kept ≡ false) is (sym says ∙ not)
 
-pub has_stated : (before seen : State) (reply : Reply) → before ≡ seen → HasStated reply before before → HasStated reply seen seen
-has_stated before seen reply is all = subst (λ (s : State). HasStated reply s s) is all
+pub has_stated : (before seen : State) (reply : Reply) → before ≡ seen → reply.kind ≡ 16 → reply.reason ≡ reason_said (closing_by (setting_of before.settings) before.kept)
+    → AreNumbersOf before reply.state → HasStated reply seen seen
+has_stated before seen reply is kind reason numbers =
+    let all : HasStated reply before before = record { same = refl; kind = kind; reason = reason; numbers = numbers } in
+    subst (λ (s : State). HasStated reply s s) is all

@@ -1,5 +1,5 @@
 -- What a client's side has done at a call.
-use Rattle.std.specs.Prelude.{◌≡◌, ◌↔◌, ◌≤◌, ◌-◌, ℕ, List, length, take, min, None}
+use Rattle.std.specs.Prelude.{◌≡◌, ◌≤◌, ◌-◌, ℕ, List, length, take, min}
 use Rattle.model_h1.specs.Answer as answers
 use Rattle.model_client.specs.ClientEvent as on
 use Rattle.model_client.specs.ClientEvent.{ClientRequest}
@@ -10,10 +10,12 @@ use Rattle.h1_client.specs.Bodies.{SaysPulled}
 use Rattle.h1_client.specs.State.{State, GoesOn, Is}
 use Rattle.h1_client.specs.declared.event.NextAnswer.{NextAnswer}
 use Rattle.raspcream.specs.Bits.{requests_said}
-use Rattle.raspcream.specs.Numbers.{size_said, answer_kind, pulled_kind}
+use Rattle.raspcream.specs.Named.{NamesRequest}
+use Rattle.raspcream.specs.Numbers.{size_said, client_reason_said, answer_kind, pulled_kind}
 use Rattle.raspcream.specs.Shown.{ShowsNextAnswer, ShowsPulled}
 use Rattle.raspcream.specs.declared.op.Op.{Op}
 use Rattle.raspcream.specs.declared.op.Op.TheVariants as asks
+use Rattle.raspcream.specs.declared.reply.Numbers.{Numbers}
 use Rattle.raspcream.specs.declared.reply.Reply.{Reply}
 
 -- the event's step, whose outcome says no more, and so the reply
@@ -42,10 +44,11 @@ pub record HasPulled (reply : Reply) (before after : State) : Type 0 where
   pub shown : ShowsPulled answer reply
   pub stands : GoesOn before on.pull (SaysPulled answer) after
 
--- a request's, with some head, and with the size that the number names
-pub record HasRequested (number : ℕ) (reply : Reply) (before after : State) : Type 0 where
+-- a request's, with the head that is named, and with the size that the number names
+pub record HasRequested (arg number : ℕ) (input : List ℕ) (reply : Reply) (before after : State) : Type 0 where
   pub told : reply.kind ≡ 0
   pub request : ClientRequest
+  pub named : NamesRequest arg input request
   pub size : answers.BodySize
   pub said : size ≡ size_said number
   pub stands : GoesOn before (on.ask request size) (Is on.done) after
@@ -72,18 +75,22 @@ pub record HasHeld (place : ℕ) (reply : Reply) (before after : State) : Type 0
   pub said : start ≡ place
   pub whole : reply.bytes.len ≡ length before.kept.unread - start
 
--- that for what may come next and for the numbers: a client's side counts no time
+-- the numbers of a connection, and which calls may come next: a client's side counts no time
+pub record AreNumbersOf (c : State) (numbers : Numbers) : Type 0 where
+  pub calls : numbers.can ≡ requests_said c
+  pub waiting : numbers.waiting ≡ min (length c.kept.waiting) 4294967295
+  pub buffered : numbers.buffered ≡ length c.kept.buffered
+  pub write_room : numbers.write_room ≡ c.settings.h1_write_buffer_size - length c.kept.buffered
+  pub held : numbers.held ≡ length c.kept.unread
+  pub read_room : numbers.read_room ≡ c.settings.h1_hold_size - length c.kept.unread
+  pub deadline : numbers.deadline ≡ 18446744073709551615
+
+-- that for these numbers, and for why the connection is to end
 pub record HasStated (reply : Reply) (before after : State) : Type 0 where
   pub same : after ≡ before
   pub kind : reply.kind ≡ 16
-  pub runs : reply.reason ≡ 0 ↔ client_closing before.kept ≡ None
-  pub calls : reply.state.can ≡ requests_said before
-  pub waiting : reply.state.waiting ≡ min (length before.kept.waiting) 4294967295
-  pub buffered : reply.state.buffered ≡ length before.kept.buffered
-  pub write_room : reply.state.write_room ≡ before.settings.h1_write_buffer_size - length before.kept.buffered
-  pub held : reply.state.held ≡ length before.kept.unread
-  pub read_room : reply.state.read_room ≡ before.settings.h1_hold_size - length before.kept.unread
-  pub deadline : reply.state.deadline ≡ 18446744073709551615
+  pub reason : reply.reason ≡ client_reason_said (client_closing before.kept)
+  pub numbers : AreNumbersOf before reply.state
 
 -- Each call's. A question changes nothing, and what a server alone may be asked is never done.
 abbrev pub HasAsked : Op → ℕ → ℕ → List ℕ → Reply → State → State → Type 0
@@ -93,7 +100,7 @@ HasAsked asks.Next arg number input reply before after = HasNext reply before af
 HasAsked asks.Pull arg number input reply before after = HasPulled reply before after
 HasAsked asks.DropBody arg number input reply before after = HasMade on.drop_body reply before after
 HasAsked asks.Continue arg number input reply before after = ⊥
-HasAsked asks.Head arg number input reply before after = HasRequested number reply before after
+HasAsked asks.Head arg number input reply before after = HasRequested arg number input reply before after
 HasAsked asks.Chunk arg number input reply before after = HasMade (on.chunk input) reply before after
 HasAsked asks.End arg number input reply before after = HasMade on.body_end reply before after
 HasAsked asks.Fail arg number input reply before after = HasMade on.body_error reply before after

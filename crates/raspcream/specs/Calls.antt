@@ -26,9 +26,9 @@ pub record HasDone (op number : ℕ) (input : List ℕ) (reply : Reply) (before 
   pub did : Did asked (op / 256) number input reply before after
 
 -- why a machine may refuse what is asked
-abbrev pub MayFail : Op → ℕ → List ℕ → Machine → Failure → Type 0
-MayFail asked number input (Server s) why = MayRefuse asked number input s why
-MayFail asked number input (Client c) why = MayDecline asked number input c why
+abbrev pub MayFail : Op → ℕ → ℕ → List ℕ → Machine → Failure → Type 0
+MayFail asked arg number input (Server s) why = MayRefuse asked arg number input s why
+MayFail asked arg number input (Client c) why = MayDecline asked arg number input c why
 
 -- no call has the number
 abbrev pub IsUnknown : ℕ → Type 0
@@ -37,7 +37,7 @@ IsUnknown number = (asked : Op) → number_of asked ≢ number
 -- what is asked may be refused for the reason, or nothing has the number
 abbrev pub MayFailAt : ℕ → ℕ → List ℕ → Machine → Failure → Type 0
 MayFailAt op number input before why =
-    ((asked : Op) × (number_of asked ≡ op % 256) × MayFail asked number input before why) ⊎ ((why ≡ Invalid) × IsUnknown (op % 256))
+    ((asked : Op) × (number_of asked ≡ op % 256) × MayFail asked (op / 256) number input before why) ⊎ ((why ≡ Invalid) × IsUnknown (op % 256))
 
 -- the reply tells nothing
 pub record IsCleared (reply : Reply) : Type 0 where

@@ -1,5 +1,7 @@
 pub mod Numbers
 pub mod Bits
+pub mod Packed
+pub mod Named
 pub mod Refused
 pub mod Shown
 pub mod Settings

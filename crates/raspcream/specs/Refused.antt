@@ -14,6 +14,7 @@ use Rattle.h1_client.specs.Bodies as bodies
 use Rattle.h1_client.specs.ClientMeaning as meaning
 use Rattle.h1_client.specs.Requests as requests
 use Rattle.h1_client.specs.State as client
+use Rattle.raspcream.specs.Named.{NamesRequest, IsNoAnswer, IsRequestText, IsSendable}
 use Rattle.raspcream.specs.Numbers.{size_said}
 use Rattle.raspcream.specs.declared.op.Op.{Op}
 use Rattle.raspcream.specs.declared.op.Op.TheVariants as asks
@@ -25,6 +26,10 @@ abbrev pub OneOf : Type 0 → Type 0 → Type 0 → Failure → Type 0
 OneOf Wanting Barred Wrong NoMemory = Wanting
 OneOf Wanting Barred Wrong Misplaced = Barred
 OneOf Wanting Barred Wrong Invalid = Wrong
+
+-- memory ran out, or what is handed in is wrong, and then this holds
+abbrev pub FailsBy : Type 0 → Failure → Type 0
+FailsBy Wrong why = OneOf ⊤ ⊥ Wrong why
 
 -- ---- a server's side
 
@@ -79,57 +84,58 @@ WantsMemory asks.Send number input s = ⊤
 WantsMemory asks.State number input s = ⊥
 WantsMemory asks.Held number input s = ⊥
 
--- An argument may be wrong: of a head its status or its lines, of a message its opcode, its code or its text; and more
--- can't be written than waits.
-abbrev pub IsWrong : Op → ℕ → server.State → Type 0
-IsWrong asks.Read number s = ⊥
-IsWrong asks.Eof number s = ⊥
-IsWrong asks.Next number s = ⊥
-IsWrong asks.Pull number s = ⊥
-IsWrong asks.DropBody number s = ⊥
-IsWrong asks.Continue number s = ⊥
-IsWrong asks.Head number s = ⊤
-IsWrong asks.Chunk number s = ⊥
-IsWrong asks.End number s = ⊥
-IsWrong asks.Fail number s = ⊥
-IsWrong asks.Front number s = ⊥
-IsWrong asks.Advance number s = length s.kept.buffered < number
-IsWrong asks.Tick number s = ⊥
-IsWrong asks.Drain number s = ⊥
-IsWrong asks.Accept number s = ⊥
-IsWrong asks.Frame number s = ⊥
-IsWrong asks.Send number s = ⊤
-IsWrong asks.State number s = ⊥
-IsWrong asks.Held number s = ⊥
+-- An argument is wrong: of a head its status or its lines, of a message its opcode, its code or its text; and more can't be
+-- written than waits.
+abbrev pub IsWrong : Op → ℕ → ℕ → List ℕ → server.State → Type 0
+IsWrong asks.Read arg number input s = ⊥
+IsWrong asks.Eof arg number input s = ⊥
+IsWrong asks.Next arg number input s = ⊥
+IsWrong asks.Pull arg number input s = ⊥
+IsWrong asks.DropBody arg number input s = ⊥
+IsWrong asks.Continue arg number input s = ⊥
+IsWrong asks.Head arg number input s = IsNoAnswer arg input
+IsWrong asks.Chunk arg number input s = ⊥
+IsWrong asks.End arg number input s = ⊥
+IsWrong asks.Fail arg number input s = ⊥
+IsWrong asks.Front arg number input s = ⊥
+IsWrong asks.Advance arg number input s = length s.kept.buffered < number
+IsWrong asks.Tick arg number input s = ⊥
+IsWrong asks.Drain arg number input s = ⊥
+IsWrong asks.Accept arg number input s = ⊥
+IsWrong asks.Frame arg number input s = ⊥
+IsWrong asks.Send arg number input s = IsSendable arg number input → ⊥
+IsWrong asks.State arg number input s = ⊥
+IsWrong asks.Held arg number input s = ⊥
 
-abbrev pub MayRefuse : Op → ℕ → List ℕ → server.State → Failure → Type 0
-MayRefuse asked number input s = OneOf (WantsMemory asked number input s) (IsMisplaced asked number input s) (IsWrong asked number s)
+abbrev pub MayRefuse : Op → ℕ → ℕ → List ℕ → server.State → Failure → Type 0
+MayRefuse asked arg number input s = OneOf (WantsMemory asked number input s) (IsMisplaced asked number input s) (IsWrong asked arg number input s)
 
 -- ---- a client's side
 
 abbrev pub IsOut : client.State → asking.ClientEvent → Type 0
 IsOut c event = client_allows (meaning.setting_of c.settings) c.kept event ≡ false
 
-abbrev pub IsMisasked : Op → ℕ → List ℕ → client.State → Type 0
-IsMisasked asks.Read number input c = IsOut c (asking.read input)
-IsMisasked asks.Eof number input c = IsOut c asking.eof
-IsMisasked asks.Next number input c = IsOut c asking.next
-IsMisasked asks.Pull number input c = IsOut c asking.pull
-IsMisasked asks.DropBody number input c = IsOut c asking.drop_body
-IsMisasked asks.Continue number input c = ⊥
-IsMisasked asks.Head number input c = (request : asking.ClientRequest) × IsOut c (asking.ask request (size_said number))
-IsMisasked asks.Chunk number input c = IsOut c (asking.chunk input)
-IsMisasked asks.End number input c = IsOut c asking.body_end
-IsMisasked asks.Fail number input c = IsOut c asking.body_error
-IsMisasked asks.Front number input c = ⊥
-IsMisasked asks.Advance number input c = IsOut c (asking.write number)
-IsMisasked asks.Tick number input c = IsOut c (asking.tick number)
-IsMisasked asks.Drain number input c = ⊥
-IsMisasked asks.Accept number input c = ⊥
-IsMisasked asks.Frame number input c = ⊥
-IsMisasked asks.Send number input c = ⊥
-IsMisasked asks.State number input c = ⊥
-IsMisasked asks.Held number input c = ⊥
+abbrev pub IsMisasked : Op → ℕ → ℕ → List ℕ → client.State → Type 0
+IsMisasked asks.Read arg number input c = IsOut c (asking.read input)
+IsMisasked asks.Eof arg number input c = IsOut c asking.eof
+IsMisasked asks.Next arg number input c = IsOut c asking.next
+IsMisasked asks.Pull arg number input c = IsOut c asking.pull
+IsMisasked asks.DropBody arg number input c = IsOut c asking.drop_body
+IsMisasked asks.Continue arg number input c = ⊥
+IsMisasked asks.Head arg number input c =
+    (request : asking.ClientRequest) × NamesRequest arg input request × IsOut c (asking.ask request (size_said number))
+IsMisasked asks.Chunk arg number input c = IsOut c (asking.chunk input)
+IsMisasked asks.End arg number input c = IsOut c asking.body_end
+IsMisasked asks.Fail arg number input c = IsOut c asking.body_error
+IsMisasked asks.Front arg number input c = ⊥
+IsMisasked asks.Advance arg number input c = IsOut c (asking.write number)
+IsMisasked asks.Tick arg number input c = IsOut c (asking.tick number)
+IsMisasked asks.Drain arg number input c = ⊥
+IsMisasked asks.Accept arg number input c = ⊥
+IsMisasked asks.Frame arg number input c = ⊥
+IsMisasked asks.Send arg number input c = ⊥
+IsMisasked asks.State arg number input c = ⊥
+IsMisasked asks.Held arg number input c = ⊥
 
 abbrev pub AsksForMemory : Op → List ℕ → client.State → Type 0
 AsksForMemory asks.Read input c = ⊤
@@ -152,30 +158,31 @@ AsksForMemory asks.Send input c = ⊥
 AsksForMemory asks.State input c = ⊥
 AsksForMemory asks.Held input c = ⊥
 
--- what a server alone may be asked is wrong of a client
-abbrev pub IsWronglyAsked : Op → ℕ → client.State → Type 0
-IsWronglyAsked asks.Read number c = ⊥
-IsWronglyAsked asks.Eof number c = ⊥
-IsWronglyAsked asks.Next number c = ⊥
-IsWronglyAsked asks.Pull number c = ⊥
-IsWronglyAsked asks.DropBody number c = ⊥
-IsWronglyAsked asks.Continue number c = ⊤
-IsWronglyAsked asks.Head number c = ⊤
-IsWronglyAsked asks.Chunk number c = ⊥
-IsWronglyAsked asks.End number c = ⊥
-IsWronglyAsked asks.Fail number c = ⊥
-IsWronglyAsked asks.Front number c = ⊥
-IsWronglyAsked asks.Advance number c = length c.kept.buffered < number
-IsWronglyAsked asks.Tick number c = ⊥
-IsWronglyAsked asks.Drain number c = ⊤
-IsWronglyAsked asks.Accept number c = ⊤
-IsWronglyAsked asks.Frame number c = ⊤
-IsWronglyAsked asks.Send number c = ⊤
-IsWronglyAsked asks.State number c = ⊥
-IsWronglyAsked asks.Held number c = ⊥
+-- An argument is wrong: of a head its method, its target or its lines; more can't be written than waits; and what a server
+-- alone may be asked is wrong of a client.
+abbrev pub IsWronglyAsked : Op → ℕ → List ℕ → client.State → Type 0
+IsWronglyAsked asks.Read number input c = ⊥
+IsWronglyAsked asks.Eof number input c = ⊥
+IsWronglyAsked asks.Next number input c = ⊥
+IsWronglyAsked asks.Pull number input c = ⊥
+IsWronglyAsked asks.DropBody number input c = ⊥
+IsWronglyAsked asks.Continue number input c = ⊤
+IsWronglyAsked asks.Head number input c = IsRequestText input → ⊥
+IsWronglyAsked asks.Chunk number input c = ⊥
+IsWronglyAsked asks.End number input c = ⊥
+IsWronglyAsked asks.Fail number input c = ⊥
+IsWronglyAsked asks.Front number input c = ⊥
+IsWronglyAsked asks.Advance number input c = length c.kept.buffered < number
+IsWronglyAsked asks.Tick number input c = ⊥
+IsWronglyAsked asks.Drain number input c = ⊤
+IsWronglyAsked asks.Accept number input c = ⊤
+IsWronglyAsked asks.Frame number input c = ⊤
+IsWronglyAsked asks.Send number input c = ⊤
+IsWronglyAsked asks.State number input c = ⊥
+IsWronglyAsked asks.Held number input c = ⊥
 
-abbrev pub MayDecline : Op → ℕ → List ℕ → client.State → Failure → Type 0
-MayDecline asked number input c = OneOf (AsksForMemory asked input c) (IsMisasked asked number input c) (IsWronglyAsked asked number c)
+abbrev pub MayDecline : Op → ℕ → ℕ → List ℕ → client.State → Failure → Type 0
+MayDecline asked arg number input c = OneOf (AsksForMemory asked input c) (IsMisasked asked arg number input c) (IsWronglyAsked asked number input c)
 
 -- ---- the code
 

@@ -1,5 +1,5 @@
 -- What a server's side has done at a call.
-use Rattle.std.specs.Prelude.{◌≡◌, ◌≢◌, ◌↔◌, ◌≤◌, ◌<◌, ◌-◌, ◌%◌, ℕ, List, length, take, Some, None, false, unwrap_or}
+use Rattle.std.specs.Prelude.{◌≡◌, ◌≢◌, ◌≤◌, ◌<◌, ◌-◌, ℕ, List, length, take, Some, None, false, unwrap_or}
 use Rattle.model_h1.specs.Answer as answers
 use Rattle.model_h1.specs.Event as on
 use Rattle.model_h1.specs.Frame.{CloseReason, Frame, Message, text, binary, first_text, first_binary, continuation, last, ping, pong, close, frame, nop}
@@ -22,10 +22,12 @@ use Rattle.h1_connection.specs.declared.connection.frames.Sent.{Sent}
 use Rattle.h1_connection.specs.declared.connection.heads.NextKind.{NextKind}
 use Rattle.h1_connection.specs.declared.connection.ticks.Expiry.{Expiry}
 use Rattle.raspcream.specs.Bits.{calls_said}
-use Rattle.raspcream.specs.Numbers.{size_said, kind_of, pulled_kind, expiry_kind, accepted_kind, frame_kind, sent_kind}
-use Rattle.raspcream.specs.Shown.{ShowsNext, ShowsPulled}
+use Rattle.raspcream.specs.Named.{NamesAnswer}
+use Rattle.raspcream.specs.Numbers.{size_said, reason_said, kind_of, pulled_kind, expiry_kind, accepted_kind, frame_kind, sent_kind}
+use Rattle.raspcream.specs.Shown.{ShowsNext, ShowsPulled, ShowsExpiry, ShowsAccepted, ShowsPulledFrame, ShowsSent}
 use Rattle.raspcream.specs.declared.op.Op.{Op}
 use Rattle.raspcream.specs.declared.op.Op.TheVariants as asks
+use Rattle.raspcream.specs.declared.reply.Numbers.{Numbers}
 use Rattle.raspcream.specs.declared.reply.Reply.{Reply}
 
 -- the event's step, whose outcome says no more, and so the reply
@@ -55,11 +57,11 @@ pub record HasPulled (reply : Reply) (before after : State) : Type 0 where
   pub shown : ShowsPulled answer reply
   pub stands : GoesOn before on.pull (SaysPulled answer) after
 
--- an answer's, with a head of the status that is named, and with the size that the number names
-pub record HasAnswered (arg number : ℕ) (reply : Reply) (before after : State) : Type 0 where
+-- an answer's, with the head that is named, and with the size that the number names
+pub record HasAnswered (arg number : ℕ) (input : List ℕ) (reply : Reply) (before after : State) : Type 0 where
   pub told : reply.kind ≡ 0
   pub head : answers.AnswerHead
-  pub named : head.status ≡ arg % 1024
+  pub named : NamesAnswer arg input head
   pub size : answers.BodySize
   pub said : size ≡ size_said number
   pub stands : GoesOn before (on.answer head size) (Is on.done) after
@@ -76,6 +78,7 @@ pub record HasWritten (number : ℕ) (reply : Reply) (before after : State) : Ty
 pub record HasTicked (moment : ℕ) (reply : Reply) (before after : State) : Type 0 where
   pub expiry : Expiry
   pub told : reply.kind ≡ expiry_kind expiry
+  pub shown : ShowsExpiry expiry reply
   pub stands : GoesOn before (on.tick moment) (Is (expiry_of expiry)) after
 
 -- that of an upgrade to WebSocket
@@ -84,12 +87,14 @@ pub record HasAccepted (number : ℕ) (reply : Reply) (before after : State) : T
   pub said : limit ≡ number
   pub answer : Accepted
   pub told : reply.kind ≡ accepted_kind answer
+  pub shown : ShowsAccepted answer reply
   pub stands : GoesOn before (on.accept limit) (Is (accepted_of answer)) after
 
 -- a frame's
 pub record HasFramed (reply : Reply) (before after : State) : Type 0 where
   pub answer : PulledFrame
   pub told : reply.kind ≡ frame_kind answer
+  pub shown : ShowsPulledFrame answer reply
   pub stands : GoesOn before on.pull (SaysFrame answer) after
 
 -- the reason of a Close, by its code and its text
@@ -120,6 +125,7 @@ pub record HasSent (arg number : ℕ) (input : List ℕ) (reply : Reply) (before
   pub named : IsMessageOf arg number input message
   pub answer : Sent
   pub told : reply.kind ≡ sent_kind answer
+  pub shown : ShowsSent answer reply
   pub stands : GoesOn before (on.send message) (SaysSent answer) after
 
 -- the question what is to be written: it tells some of what waits, and nothing only where nothing does
@@ -139,18 +145,22 @@ pub record HasHeld (place : ℕ) (reply : Reply) (before after : State) : Type 0
   pub some : start < length before.kept.unread → 0 < reply.bytes.len
   pub whole : is_free before.kept ≡ false → before.ahead ≡ 0 → reply.bytes.len ≡ length before.kept.unread - start
 
--- that for what may come next and for the numbers
+-- the numbers of a connection, and which calls may come next
+pub record AreNumbersOf (s : State) (numbers : Numbers) : Type 0 where
+  pub calls : numbers.can ≡ calls_said s
+  pub waiting : numbers.waiting ≡ s.ahead
+  pub buffered : numbers.buffered ≡ length s.kept.buffered
+  pub write_room : numbers.write_room ≡ s.settings.h1_write_buffer_size - length s.kept.buffered
+  pub held : numbers.held ≡ length s.kept.unread
+  pub read_room : numbers.read_room ≡ s.settings.h1_hold_size - length s.kept.unread
+  pub deadline : numbers.deadline ≡ unwrap_or (deadline_by (setting_of s.settings) s.kept) 18446744073709551615
+
+-- that for these numbers, and for why the connection is to end
 pub record HasStated (reply : Reply) (before after : State) : Type 0 where
   pub same : after ≡ before
   pub kind : reply.kind ≡ 16
-  pub runs : reply.reason ≡ 0 ↔ closing_by (setting_of before.settings) before.kept ≡ None
-  pub calls : reply.state.can ≡ calls_said before
-  pub waiting : reply.state.waiting ≡ before.ahead
-  pub buffered : reply.state.buffered ≡ length before.kept.buffered
-  pub write_room : reply.state.write_room ≡ before.settings.h1_write_buffer_size - length before.kept.buffered
-  pub held : reply.state.held ≡ length before.kept.unread
-  pub read_room : reply.state.read_room ≡ before.settings.h1_hold_size - length before.kept.unread
-  pub deadline : reply.state.deadline ≡ unwrap_or (deadline_by (setting_of before.settings) before.kept) 18446744073709551615
+  pub reason : reply.reason ≡ reason_said (closing_by (setting_of before.settings) before.kept)
+  pub numbers : AreNumbersOf before reply.state
 
 -- Each call's. A question changes nothing.
 abbrev pub HasServed : Op → ℕ → ℕ → List ℕ → Reply → State → State → Type 0
@@ -160,7 +170,7 @@ HasServed asks.Next arg number input reply before after = HasNext reply before a
 HasServed asks.Pull arg number input reply before after = HasPulled reply before after
 HasServed asks.DropBody arg number input reply before after = HasMade on.drop_body reply before after
 HasServed asks.Continue arg number input reply before after = HasMade on.send_continue reply before after
-HasServed asks.Head arg number input reply before after = HasAnswered arg number reply before after
+HasServed asks.Head arg number input reply before after = HasAnswered arg number input reply before after
 HasServed asks.Chunk arg number input reply before after = HasMade (on.chunk input) reply before after
 HasServed asks.End arg number input reply before after = HasMade on.body_end reply before after
 HasServed asks.Fail arg number input reply before after = HasMade on.body_error reply before after

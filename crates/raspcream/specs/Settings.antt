@@ -1,11 +1,11 @@
 -- The connection that C's settings name.
-use Rattle.std.specs.Prelude.{◌≡◌, ◌<◌, ◌⊎◌, ℕ, if◌then◌else◌}
+use Rattle.std.specs.Prelude.{◌≡◌, ◌<◌, ◌⊎◌, if◌then◌else◌}
 use Rattle.http_config.specs.Config.{Settings, default_settings}
 use Rattle.http_config.specs.KeepAlive.{normalized}
 use Rattle.http_config.specs.declared.hold_size.TheConstants.{MIN_HOLD_SIZE, MAX_HOLD_SIZE}
 use Rattle.http_config.specs.declared.keep_alive.KeepAlive.TheVariants.{Timeout}
-use Rattle.h1_connection.specs.State as server
-use Rattle.h1_client.specs.State as client
+use Rattle.h1_connection.specs.State as serving
+use Rattle.h1_client.specs.State as asking
 use Rattle.raspcream.specs.declared.config.Config.{Config}
 use Rattle.raspcream.specs.declared.machine.Machine.{Machine}
 use Rattle.raspcream.specs.declared.machine.Machine.TheVariants.{Server, Client}
@@ -27,4 +27,4 @@ CannotBe c = (c.write_buffer ≡ 0) ⊎ ((c.hold_size < MIN_HOLD_SIZE) ⊎ (MAX_
 
 -- the side that C names, to which nothing has come
 abbrev pub fresh_machine : Config → Machine
-fresh_machine c = if c.client then Client (client.fresh_state (set_by c)) else Server (server.fresh_state (set_by c))
+fresh_machine c = if c.client then Client (asking.fresh_state (set_by c)) else Server (serving.fresh_state (set_by c))

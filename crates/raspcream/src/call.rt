@@ -21,7 +21,7 @@ fn on_server(
     out: &mut Reply,
 ) -> Result<(), Failure>
     ensures kept { OnErr result (it.new ≡ it.old) }
-    ensures refused { IfErr result (MayRefuse op number input.now it.old) }
+    ensures refused { IfErr result (MayRefuse op arg number input.now it.old) }
     ensures quiet { OnErr result (out.new ≡ out.old) }
     ensures few { out.old.count ≤ MAX_FIELDS → out.new.count ≤ MAX_FIELDS }
     ensures done { OnOk result (HasServed op arg number input.now out.new it.old it.new) }
@@ -58,7 +58,7 @@ fn on_client(
     out: &mut Reply,
 ) -> Result<(), Failure>
     ensures kept { OnErr result (it.new ≡ it.old) }
-    ensures refused { IfErr result (MayDecline op number input.now it.old) }
+    ensures refused { IfErr result (MayDecline op arg number input.now it.old) }
     ensures quiet { OnErr result (out.new ≡ out.old) }
     ensures few { out.old.count ≤ MAX_FIELDS → out.new.count ≤ MAX_FIELDS }
     ensures done { OnOk result (HasAsked op arg number input.now out.new it.old it.new) }
@@ -84,7 +84,7 @@ fn on_client(
 
 fn serve(it: &mut Server, op: Op, arg: u32, number: u64, input: &[u8], out: &mut Reply) -> u32
     ensures kept { result ≢ 0 → it.new ≡ it.old }
-    ensures reason { IsCode (MayRefuse op number input.now it.old) result }
+    ensures reason { IsCode (MayRefuse op arg number input.now it.old) result }
     ensures quiet { result ≢ 0 → out.new ≡ out.old }
     ensures few { out.old.count ≤ MAX_FIELDS → out.new.count ≤ MAX_FIELDS }
     ensures done { result ≡ 0 → HasServed op arg number input.now out.new it.old it.new }
@@ -94,7 +94,7 @@ fn serve(it: &mut Server, op: Op, arg: u32, number: u64, input: &[u8], out: &mut
 
 fn request(it: &mut Client, op: Op, arg: u32, number: u64, input: &[u8], out: &mut Reply) -> u32
     ensures kept { result ≢ 0 → it.new ≡ it.old }
-    ensures reason { IsCode (MayDecline op number input.now it.old) result }
+    ensures reason { IsCode (MayDecline op arg number input.now it.old) result }
     ensures quiet { result ≢ 0 → out.new ≡ out.old }
     ensures few { out.old.count ≤ MAX_FIELDS → out.new.count ≤ MAX_FIELDS }
     ensures done { result ≡ 0 → HasAsked op arg number input.now out.new it.old it.new }
@@ -104,7 +104,7 @@ fn request(it: &mut Client, op: Op, arg: u32, number: u64, input: &[u8], out: &m
 
 fn step(machine: &mut Machine, op: Op, arg: u32, number: u64, input: &[u8], out: &mut Reply) -> u32
     ensures kept { result ≢ 0 → machine.new ≡ machine.old }
-    ensures reason { IsCode (MayFail op number input.now machine.old) result }
+    ensures reason { IsCode (MayFail op arg number input.now machine.old) result }
     ensures quiet { result ≢ 0 → out.new ≡ out.old }
     ensures few { out.old.count ≤ MAX_FIELDS → out.new.count ≤ MAX_FIELDS }
     ensures done { result ≡ 0 → Did op arg number input.now out.new machine.old machine.new }

@@ -1,11 +1,14 @@
 //! A client's side.
-ghost use Rattle.std.specs.Prelude.{◌≡◌, ◌≤◌, ◌<◌, [], IfErr, OnOk, OnErr};
+ghost use Rattle.std.specs.Prelude.{◌≡◌, ◌≤◌, [], IfErr, OnOk, OnErr};
 ghost use Rattle.model_client.specs.ClientEvent as on;
+ghost use Rattle.model_client.specs.ClientKept.{client_closing};
+ghost use Rattle.h1_client.specs.ClientMeaning.{end_of};
+ghost use Rattle.h1_client.specs.HeadMeaning.{fault_of};
 ghost use Rattle.h1_client.specs.State.{fresh_state};
 ghost use Rattle.raspcream.specs.Bits.{requests_said};
-ghost use Rattle.raspcream.specs.Numbers.{answer_kind};
+ghost use Rattle.raspcream.specs.Numbers.{answer_kind, head_fault_said, client_end_said, client_reason_said};
 ghost use Rattle.raspcream.specs.Refused.{MayDecline};
-ghost use Rattle.raspcream.specs.Asked.{HasRead, HasNext, HasRequested, HasMade, HasWritten, HasPulled, HasGiven, HasHeld, HasStated};
+ghost use Rattle.raspcream.specs.Asked.{HasRead, HasNext, HasRequested, HasMade, HasWritten, HasPulled, HasGiven, HasHeld, HasStated, AreNumbersOf};
 ghost use Rattle.raspcream.specs.Shown.{ShowsAnswer, ShowsNextAnswer};
 ghost use Rattle.raspcream.specs.declared.op.Op.TheVariants as asks;
 ghost use Rattle.raspcream.specs.declared.reply.TheConstants.{MAX_FIELDS};
@@ -17,8 +20,9 @@ use crate::reply::{
     size_of_number, tell, tell_body, tell_bytes, tell_fields, tell_number,
 };
 use crate::request::request_head_of;
+use crate::told::minor_number;
 use h1_client::{AnswerFault, ClientConnection, ClientEnd, NextAnswer, ResponseItem};
-use http_types::{ServiceConfig, Version};
+use http_types::ServiceConfig;
 use std::alloc::Global;
 use std::marker::Model;
 
@@ -41,7 +45,7 @@ impl Model for Client {
 
 /// Why it ends, as a number from 1 on.
 fn end_number(end: ClientEnd) -> u32
-    ensures { 0 < result }
+    ensures { result ≡ client_end_said (end_of end) }
 {
     match end {
         ClientEnd::BadAnswer => 1,
@@ -54,6 +58,16 @@ fn end_number(end: ClientEnd) -> u32
     }
 }
 
+/// What is wrong with a head, as a number.
+fn fault_number(fault: AnswerFault) -> u32
+    ensures { result ≡ head_fault_said (fault_of fault) }
+{
+    match fault {
+        AnswerFault::Malformed => 1,
+        AnswerFault::TooLarge => 2,
+    }
+}
+
 /// What a head says.
 fn tell_answer(item: &ResponseItem, out: &mut Reply)
     ensures shown { ShowsAnswer item.now out.new }
@@ -61,11 +75,7 @@ fn tell_answer(item: &ResponseItem, out: &mut Reply)
 {
     out.reason = u32::from(item.head.status.as_u16());
     out.method = span_of(item.reason.as_slice());
-    out.minor = if item.head.version == Version::HTTP_10 {
-        0
-    } else {
-        1
-    };
+    out.minor = minor_number(item.head.version);
     tell_body(item.body, out);
     tell_fields(&item.head.headers, out);
 }
@@ -91,8 +101,7 @@ fn keep_next(place: &mut Option<ResponseItem>, next: NextAnswer, out: &mut Reply
 {
     match next {
         NextAnswer::Answer(item) => keep_answer(place, item, out),
-        NextAnswer::Fault(AnswerFault::Malformed) => tell(out, FAULT, 1),
-        NextAnswer::Fault(AnswerFault::TooLarge) => tell(out, FAULT, 2),
+        NextAnswer::Fault(fault) => tell(out, FAULT, fault_number(fault)),
         NextAnswer::Pending => tell(out, PENDING, 0),
         NextAnswer::Closed(end) => tell(out, CLOSED, end_number(end)),
     }
@@ -113,9 +122,9 @@ impl Client {
 
     /// A request's head.
     pub fn ask(&mut self, arg: u32, size: u64, text: &[u8], out: &mut Reply) -> Result<(), Failure>
-        ensures stands { OnOk result (HasRequested size out.new self.old self.new) }
+        ensures stands { OnOk result (HasRequested arg size text.now out.new self.old self.new) }
         ensures kept { OnErr result (self.new ≡ self.old) }
-        ensures refused { IfErr result (MayDecline asks.Head size text.now self.old) }
+        ensures refused { IfErr result (MayDecline asks.Head arg size text.now self.old) }
         ensures quiet { OnErr result (out.new ≡ out.old) }
         ensures few { out.old.count ≤ MAX_FIELDS → out.new.count ≤ MAX_FIELDS }
     {
@@ -135,7 +144,7 @@ impl Client {
     pub fn chunk(&mut self, input: &[u8], out: &mut Reply) -> Result<(), Failure>
         ensures stands { OnOk result (HasMade (on.chunk input.now) out.new self.old self.new) }
         ensures kept { OnErr result (self.new ≡ self.old) }
-        ensures refused { IfErr result (MayDecline asks.Chunk 0 input.now self.old) }
+        ensures refused { IfErr result (MayDecline asks.Chunk 0 0 input.now self.old) }
         ensures quiet { OnErr result (out.new ≡ out.old) }
         ensures few { out.old.count ≤ MAX_FIELDS → out.new.count ≤ MAX_FIELDS }
     {
@@ -153,7 +162,7 @@ impl Client {
     pub fn end(&mut self, out: &mut Reply) -> Result<(), Failure>
         ensures stands { OnOk result (HasMade on.body_end out.new self.old self.new) }
         ensures kept { OnErr result (self.new ≡ self.old) }
-        ensures refused { IfErr result (MayDecline asks.End 0 [] self.old) }
+        ensures refused { IfErr result (MayDecline asks.End 0 0 [] self.old) }
         ensures quiet { OnErr result (out.new ≡ out.old) }
         ensures few { out.old.count ≤ MAX_FIELDS → out.new.count ≤ MAX_FIELDS }
     {
@@ -171,7 +180,7 @@ impl Client {
     pub fn fail(&mut self, out: &mut Reply) -> Result<(), Failure>
         ensures stands { OnOk result (HasMade on.body_error out.new self.old self.new) }
         ensures kept { OnErr result (self.new ≡ self.old) }
-        ensures refused { IfErr result (MayDecline asks.Fail 0 [] self.old) }
+        ensures refused { IfErr result (MayDecline asks.Fail 0 0 [] self.old) }
         ensures quiet { OnErr result (out.new ≡ out.old) }
         ensures few { out.old.count ≤ MAX_FIELDS → out.new.count ≤ MAX_FIELDS }
     {
@@ -187,7 +196,7 @@ impl Client {
     pub fn read(&mut self, input: &[u8], out: &mut Reply) -> Result<(), Failure>
         ensures stands { OnOk result (HasRead input.now out.new self.old self.new) }
         ensures kept { OnErr result (self.new ≡ self.old) }
-        ensures refused { IfErr result (MayDecline asks.Read 0 input.now self.old) }
+        ensures refused { IfErr result (MayDecline asks.Read 0 0 input.now self.old) }
         ensures quiet { OnErr result (out.new ≡ out.old) }
         ensures few { out.old.count ≤ MAX_FIELDS → out.new.count ≤ MAX_FIELDS }
     {
@@ -205,7 +214,7 @@ impl Client {
     pub fn eof(&mut self, out: &mut Reply) -> Result<(), Failure>
         ensures stands { OnOk result (HasMade on.eof out.new self.old self.new) }
         ensures kept { OnErr result (self.new ≡ self.old) }
-        ensures refused { IfErr result (MayDecline asks.Eof 0 [] self.old) }
+        ensures refused { IfErr result (MayDecline asks.Eof 0 0 [] self.old) }
         ensures quiet { OnErr result (out.new ≡ out.old) }
         ensures few { out.old.count ≤ MAX_FIELDS → out.new.count ≤ MAX_FIELDS }
     {
@@ -221,7 +230,7 @@ impl Client {
     pub fn next(&mut self, out: &mut Reply) -> Result<(), Failure>
         ensures stands { OnOk result (HasNext out.new self.old self.new) }
         ensures kept { OnErr result (self.new ≡ self.old) }
-        ensures refused { IfErr result (MayDecline asks.Next 0 [] self.old) }
+        ensures refused { IfErr result (MayDecline asks.Next 0 0 [] self.old) }
         ensures quiet { OnErr result (out.new ≡ out.old) }
         ensures few { out.old.count ≤ MAX_FIELDS → out.new.count ≤ MAX_FIELDS }
     {
@@ -239,7 +248,7 @@ impl Client {
     pub fn pull(&mut self, out: &mut Reply) -> Result<(), Failure>
         ensures stands { OnOk result (HasPulled out.new self.old self.new) }
         ensures kept { OnErr result (self.new ≡ self.old) }
-        ensures refused { IfErr result (MayDecline asks.Pull 0 [] self.old) }
+        ensures refused { IfErr result (MayDecline asks.Pull 0 0 [] self.old) }
         ensures quiet { OnErr result (out.new ≡ out.old) }
         ensures few { out.old.count ≤ MAX_FIELDS → out.new.count ≤ MAX_FIELDS }
     {
@@ -257,7 +266,7 @@ impl Client {
     pub fn drop_body(&mut self, out: &mut Reply) -> Result<(), Failure>
         ensures stands { OnOk result (HasMade on.drop_body out.new self.old self.new) }
         ensures kept { OnErr result (self.new ≡ self.old) }
-        ensures refused { IfErr result (MayDecline asks.DropBody 0 [] self.old) }
+        ensures refused { IfErr result (MayDecline asks.DropBody 0 0 [] self.old) }
         ensures quiet { OnErr result (out.new ≡ out.old) }
         ensures few { out.old.count ≤ MAX_FIELDS → out.new.count ≤ MAX_FIELDS }
     {
@@ -272,7 +281,7 @@ impl Client {
     /// What is to be written next, where it lies.
     pub fn front(&self, out: &mut Reply) -> Result<(), Failure>
         ensures stands { OnOk result (HasGiven out.new self.now self.now) }
-        ensures refused { IfErr result (MayDecline asks.Front 0 [] self.now) }
+        ensures refused { IfErr result (MayDecline asks.Front 0 0 [] self.now) }
         ensures quiet { OnErr result (out.new ≡ out.old) }
         ensures few { out.old.count ≤ MAX_FIELDS → out.new.count ≤ MAX_FIELDS }
     {
@@ -284,7 +293,7 @@ impl Client {
     pub fn advance(&mut self, count: u64, out: &mut Reply) -> Result<(), Failure>
         ensures stands { OnOk result (HasWritten count out.new self.old self.new) }
         ensures kept { OnErr result (self.new ≡ self.old) }
-        ensures refused { IfErr result (MayDecline asks.Advance count [] self.old) }
+        ensures refused { IfErr result (MayDecline asks.Advance 0 count [] self.old) }
         ensures quiet { OnErr result (out.new ≡ out.old) }
         ensures few { out.old.count ≤ MAX_FIELDS → out.new.count ≤ MAX_FIELDS }
     {
@@ -306,7 +315,7 @@ impl Client {
     pub fn tick(&mut self, moment: u64, out: &mut Reply) -> Result<(), Failure>
         ensures stands { OnOk result (HasMade (on.tick moment) out.new self.old self.new) }
         ensures kept { OnErr result (self.new ≡ self.old) }
-        ensures refused { IfErr result (MayDecline asks.Tick moment [] self.old) }
+        ensures refused { IfErr result (MayDecline asks.Tick 0 moment [] self.old) }
         ensures quiet { OnErr result (out.new ≡ out.old) }
         ensures few { out.old.count ≤ MAX_FIELDS → out.new.count ≤ MAX_FIELDS }
     {
@@ -321,7 +330,7 @@ impl Client {
     /// The bytes that are held, from place `start` on.
     pub fn held(&self, start: u64, out: &mut Reply) -> Result<(), Failure>
         ensures stands { OnOk result (HasHeld start out.new self.now self.now) }
-        ensures refused { IfErr result (MayDecline asks.Held start [] self.now) }
+        ensures refused { IfErr result (MayDecline asks.Held 0 start [] self.now) }
         ensures quiet { OnErr result (out.new ≡ out.old) }
         ensures few { out.old.count ≤ MAX_FIELDS → out.new.count ≤ MAX_FIELDS }
     {
@@ -336,26 +345,39 @@ impl Client {
     /// What may come next, why it ends, and its numbers.
     pub fn state(&self, out: &mut Reply) -> Result<(), Failure>
         ensures stands { OnOk result (HasStated out.new self.now self.now) }
-        ensures refused { IfErr result (MayDecline asks.State 0 [] self.now) }
+        ensures refused { IfErr result (MayDecline asks.State 0 0 [] self.now) }
         ensures quiet { OnErr result (out.new ≡ out.old) }
         ensures few { out.old.count ≤ MAX_FIELDS → out.new.count ≤ MAX_FIELDS }
     {
-        let it = &self.connection;
         out.kind = STATE;
-        out.reason = match it.closing() {
-            Some(end) => end_number(end),
-            None => 0,
-        };
-        out.state = Numbers {
-            can: calls_of(it),
-            waiting: u32::try_from(it.waiting()).unwrap_or(u32::MAX),
-            buffered: it.front().len() as u64,
-            write_room: it.write_room() as u64,
-            held: it.held_bytes().len() as u64,
-            read_room: it.read_room() as u64,
-            deadline: u64::MAX,
-        };
+        out.reason = reason_of(&self.connection);
+        out.state = numbers_of(&self.connection);
         Ok(())
+    }
+}
+
+// Why it is to end, as a number; 0 where it isn't.
+fn reason_of(it: &ClientConnection) -> u32
+    ensures { result ≡ client_reason_said (client_closing it.now.kept) }
+{
+    match it.closing() {
+        Some(end) => end_number(end),
+        None => 0,
+    }
+}
+
+// Its numbers.
+fn numbers_of(it: &ClientConnection) -> Numbers
+    ensures { AreNumbersOf it.now result }
+{
+    Numbers {
+        can: calls_of(it),
+        waiting: u32::try_from(it.waiting()).unwrap_or(u32::MAX),
+        buffered: it.front().len() as u64,
+        write_room: it.write_room() as u64,
+        held: it.held_bytes().len() as u64,
+        read_room: it.read_room() as u64,
+        deadline: u64::MAX,
     }
 }
 

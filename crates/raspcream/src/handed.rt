@@ -1,5 +1,5 @@
 //! What was handed out of a body.
-ghost use Rattle.std.specs.Prelude.{◌≡◌, ◌≤◌, length};
+ghost use Rattle.std.specs.Prelude.{◌≡◌, ◌≤◌, length, min};
 ghost use Rattle.http_map.specs.HeaderMap.{value_count};
 ghost use Rattle.raspcream.specs.Numbers.{pulled_kind};
 ghost use Rattle.raspcream.specs.Shown.{ShowsPulled};
@@ -58,7 +58,7 @@ impl Handed {
     fn keep_trailers(&mut self, trailers: HeaderMap, out: &mut Reply)
         ensures kind { out.new.kind ≡ 7 }
         ensures few { out.old.count ≤ MAX_FIELDS → out.new.count ≤ MAX_FIELDS }
-        ensures shown { value_count trailers ≤ MAX_FIELDS → out.new.count ≡ value_count trailers }
+        ensures shown { out.new.count ≡ min (value_count trailers) MAX_FIELDS }
     {
         self.trailers = Some(trailers);
         if let Some(trailers) = &self.trailers {

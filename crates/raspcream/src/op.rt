@@ -1,6 +1,5 @@
 //! What may be asked of a connection.
-ghost use Rattle.std.specs.Prelude.{◌≡◌, IfSome, IsNone};
-ghost use Rattle.raspcream.specs.Calls.{IsUnknown};
+ghost use Rattle.std.specs.Prelude.{◌≡◌, ◌<◌, IfSome, IsNone};
 ghost use Rattle.raspcream.specs.Numbers.{number_of};
 
 /// What is asked. The header gives each a name.
@@ -67,7 +66,7 @@ pub enum Op {
 /// The one of this number.
 pub fn op_of(number: u32) -> Option<Op>
     ensures some { IfSome result (λ op. number_of op ≡ number) }
-    ensures none { IsNone result → IsUnknown number }
+    ensures none { IsNone result → 18 < number }
 {
     match number {
         0 => Some(Op::Read),

@@ -1,10 +1,11 @@
 //! What a call tells C.
-ghost use Rattle.std.specs.Prelude.{◌≡◌, ◌≤◌, ◌↔◌, length, IsOk};
+ghost use Rattle.std.specs.Prelude.{◌≡◌, ◌≤◌, ◌↔◌, length, min, IsOk};
 ghost use Rattle.http_map.specs.HeaderMap.{value_count};
 ghost use Rattle.h1_encoder.specs.Meaning.{size_of};
+ghost use Rattle.h1_payload.specs.Rests.{fault_of};
 ghost use Rattle.raspcream.specs.Bits.{bit_said};
 ghost use Rattle.raspcream.specs.Calls.{IsCleared};
-ghost use Rattle.raspcream.specs.Numbers.{size_said, code_said, body_said, length_said};
+ghost use Rattle.raspcream.specs.Numbers.{size_said, code_said, body_said, length_said, body_fault_said};
 ghost use Rattle.raspcream.specs.Shown.{KeepsRest};
 ghost use Rattle.raspcream.specs.declared.reply.TheConstants.{MAX_FIELDS};
 
@@ -141,9 +142,10 @@ pub fn clear(out: &mut Reply)
     };
 }
 
-/// The kind alone.
+/// The kind, and the reason that goes with it.
 pub fn tell(out: &mut Reply, kind: u32, reason: u32)
     ensures kind { out.new.kind ≡ kind }
+    ensures reason { out.new.reason ≡ reason }
     ensures count { out.new.count ≡ out.old.count }
 {
     out.kind = kind;
@@ -172,9 +174,9 @@ pub fn tell_bytes(out: &mut Reply, kind: u32, bytes: &[u8])
 
 /// Header lines, of which those of one name stand together: as many as there is room for.
 pub fn tell_fields(map: &HeaderMap, out: &mut Reply)
+    ensures count { out.new.count ≡ min (value_count map.now) MAX_FIELDS }
     ensures few { out.new.count ≤ MAX_FIELDS }
     ensures rest { KeepsRest out.old out.new }
-    ensures count { value_count map.now ≤ MAX_FIELDS → out.new.count ≡ value_count map.now }
 {
     for (index, (name, value)) in map.iter().enumerate() {
         if index < MAX_FIELDS {
@@ -194,6 +196,7 @@ pub fn tell_body(body: BodyKind, out: &mut Reply)
     ensures method { out.new.method ≡ out.old.method }
     ensures target { out.new.target ≡ out.old.target }
     ensures reason { out.new.reason ≡ out.old.reason }
+    ensures minor { out.new.minor ≡ out.old.minor }
     ensures count { out.new.count ≡ out.old.count }
 {
     out.number = 0;
@@ -222,7 +225,9 @@ pub fn size_of_number(number: u64) -> BodySize
 }
 
 /// What is wrong with a body, as a number.
-pub fn fault_number(fault: BodyFault) -> u32 {
+pub fn fault_number(fault: BodyFault) -> u32
+    ensures { result ≡ body_fault_said (fault_of fault) }
+{
     match fault {
         BodyFault::Corrupted => 1,
         BodyFault::Incomplete => 2,

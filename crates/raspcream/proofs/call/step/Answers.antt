@@ -14,7 +14,7 @@ pub returns-in-Client-clause-done : goal.returns-in-Client-clause-done
 returns-in-Client-clause-done c = asked_did _ _ _ _ _ _ _ _ _ c.in-Client.is c.request.ensures.done
 
 pub returns-in-Server-clause-reason : goal.returns-in-Server-clause-reason
-returns-in-Server-clause-reason c = served_code _ _ _ _ _ _ c.in-Server.is c.serve.ensures.reason
+returns-in-Server-clause-reason c = served_code _ _ _ _ _ _ _ c.in-Server.is c.serve.ensures.reason
 
 pub returns-in-Client-clause-reason : goal.returns-in-Client-clause-reason
-returns-in-Client-clause-reason c = asked_code _ _ _ _ _ _ c.in-Client.is c.request.ensures.reason
+returns-in-Client-clause-reason c = asked_code _ _ _ _ _ _ _ c.in-Client.is c.request.ensures.reason

@@ -3,4 +3,4 @@ use Rattle.raspcream.proofs.ServedLemmas.{has_accepted}
 use Rattle.raspcream.proofs.server.Server.accept.Goals as goal
 
 pub returns-clause-stands : goal.returns-clause-stands
-returns-clause-stands c = has_accepted _ _ _ _ _ _ _ c.self.view_is (search rules) c.tell_accepted.ensures.kind c.in-Ok-accept.ensures.stands
+returns-clause-stands c = has_accepted _ _ _ _ _ _ _ c.self.view_is (search rules) c.tell_accepted.ensures.kind c.tell_accepted.ensures.shown c.in-Ok-accept.ensures.stands
