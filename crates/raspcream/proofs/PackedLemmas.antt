@@ -1,5 +1,5 @@
 -- Lines one behind the other, read from the front.
-use Rattle.std.proofs.Common.{◌≡◌, ◌≤◌, ◌<◌, ◌∙◌, ℕ, List, [], ◌∷◌, ◌++◌, length, map, take, drop, ap, refl, sym, subst, arith, append_assoc, length-append}
+use Rattle.std.proofs.Common.{◌≡◌, ◌≤◌, ◌<◌, ◌∙◌, ℕ, List, [], ◌∷◌, ◌++◌, length, map, take, drop, ap, refl, sym, subst, arith, append_assoc, length-append, length-drop}
 use Rattle.std.proofs.lemmas.List.{append-nil, take_at, drop_at, map_push, nil_from_length}
 use Rattle.std.proofs.lemmas.List.Sums.{fold-append}
 use Rattle.http_header.specs.FieldName.{IsFieldName}
@@ -37,6 +37,11 @@ fits_first text first second rest p = omega (arith, ap length p.parts, length-ap
 
 pub fits_second : (text first second rest : List ℕ) → IsPair text first second rest → length first + length second ≤ length (drop 8 text)
 fits_second text first second rest p = omega (arith, ap length p.parts, length-append first (second ++ rest), length-append second rest)
+
+-- what follows a pair is shorter
+pub shrinks : (text first second rest : List ℕ) → IsPair text first second rest → length rest < length text
+shrinks text first second rest p =
+    omega (arith, p.lengths, ap length p.parts, length-drop 8 text, length-append first (second ++ rest), length-append second rest)
 
 pub none_first : (text parts : List ℕ) → parts ≡ drop 8 text → length parts < number_at text 0 → (first second rest : List ℕ) → IsPair text first second rest → ⊥
 none_first text parts are above first second rest p = omega (arith, ap length are, fits_first text first second rest p, p.first_len, above)

@@ -14,7 +14,7 @@ use Rattle.h1_encoder.specs.RequestMeaning.{target_of}
 use Rattle.model_h1.specs.Answer.{AnswerHead}
 use Rattle.model_h1.specs.Request as model
 use Rattle.model_client.specs.ClientEvent.{ClientRequest}
-use Rattle.raspcream.specs.Packed.{IsPair, Packs}
+use Rattle.raspcream.specs.Packed.{IsPair, Packs, AreNoLines}
 
 -- ---- what becomes of the connection
 
@@ -52,7 +52,7 @@ pub record NamesAnswer (arg : ℕ) (packed : List ℕ) (head : AnswerHead) : Typ
 
 -- no answer has such a status, or the text isn't lines
 abbrev pub IsNoAnswer : ℕ → List ℕ → Type 0
-IsNoAnswer arg packed = ((arg % 1024 < 100) ⊎ (999 < arg % 1024)) ⊎ ((lines : List Line) → Packs packed lines → ⊥)
+IsNoAnswer arg packed = ((arg % 1024 < 100) ⊎ (999 < arg % 1024)) ⊎ AreNoLines packed
 
 -- A request's: the first pair is its method and its target, the others are lines. The lowest bit of the argument says that
 -- it is of HTTP/1.0, and two bits above the lowest ten what becomes of the connection.

@@ -1,5 +1,5 @@
 -- The connection that C's settings name.
-use Rattle.std.specs.Prelude.{◌≡◌, ◌<◌, ◌⊎◌, if◌then◌else◌}
+use Rattle.std.specs.Prelude.{◌≡◌, ◌<◌, ◌⊎◌, [], if◌then◌else◌}
 use Rattle.http_config.specs.Config.{Settings, default_settings}
 use Rattle.http_config.specs.KeepAlive.{normalized}
 use Rattle.http_config.specs.declared.hold_size.TheConstants.{MIN_HOLD_SIZE, MAX_HOLD_SIZE}
@@ -28,3 +28,8 @@ CannotBe c = (c.write_buffer ≡ 0) ⊎ ((c.hold_size < MIN_HOLD_SIZE) ⊎ (MAX_
 -- the side that C names, to which nothing has come
 abbrev pub fresh_machine : Config → Machine
 fresh_machine c = if c.client then Client (asking.fresh_state (set_by c)) else Server (serving.fresh_state (set_by c))
+
+-- nothing has happened to it: what is said of whole traces begins there
+abbrev pub StandsForNothing : Machine → Type 0
+StandsForNothing (Server s) = serving.Stands s []
+StandsForNothing (Client c) = asking.Stands c []

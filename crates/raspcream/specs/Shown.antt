@@ -99,6 +99,7 @@ ShowsSent (sent.Protocol error) reply = reply.reason ≡ rule_said error
 
 -- all but the lines is kept
 pub record KeepsRest (before after : Reply) : Type 0 where
+  pub kind : after.kind ≡ before.kind
   pub reason : after.reason ≡ before.reason
   pub number : after.number ≡ before.number
   pub method : after.method ≡ before.method

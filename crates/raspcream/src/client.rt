@@ -4,7 +4,7 @@ ghost use Rattle.model_client.specs.ClientEvent as on;
 ghost use Rattle.model_client.specs.ClientKept.{client_closing};
 ghost use Rattle.h1_client.specs.ClientMeaning.{end_of};
 ghost use Rattle.h1_client.specs.HeadMeaning.{fault_of};
-ghost use Rattle.h1_client.specs.State.{fresh_state};
+ghost use Rattle.h1_client.specs.State.{fresh_state, Stands};
 ghost use Rattle.raspcream.specs.Bits.{requests_said};
 ghost use Rattle.raspcream.specs.Numbers.{answer_kind, head_fault_said, client_end_said, client_reason_said};
 ghost use Rattle.raspcream.specs.Refused.{MayDecline};
@@ -70,6 +70,7 @@ fn fault_number(fault: AnswerFault) -> u32
 
 /// What a head says.
 fn tell_answer(item: &ResponseItem, out: &mut Reply)
+    ensures kind { out.new.kind ≡ out.old.kind }
     ensures shown { ShowsAnswer item.now out.new }
     ensures few { out.new.count ≤ MAX_FIELDS }
 {
@@ -86,11 +87,9 @@ fn keep_answer(place: &mut Option<ResponseItem>, item: ResponseItem, out: &mut R
     ensures few { out.old.count ≤ MAX_FIELDS → out.new.count ≤ MAX_FIELDS }
     ensures shown { ShowsAnswer item out.new }
 {
-    *place = Some(item);
-    if let Some(item) = place {
-        tell_answer(item, out);
-    }
+    let item = place.insert(item);
     out.kind = HEAD;
+    tell_answer(item, out);
 }
 
 // Keeps what came, and tells it.
@@ -110,7 +109,8 @@ fn keep_next(place: &mut Option<ResponseItem>, next: NextAnswer, out: &mut Reply
 impl Client {
     /// A fresh one.
     pub fn new(alloc: Global, config: ServiceConfig) -> Client
-        ensures { result ≡ fresh_state config }
+        ensures value { result ≡ fresh_state config }
+        ensures stands { Stands result [] }
     {
         Client {
             alloc,
@@ -372,7 +372,7 @@ fn numbers_of(it: &ClientConnection) -> Numbers
 {
     Numbers {
         can: calls_of(it),
-        waiting: u32::try_from(it.waiting()).unwrap_or(u32::MAX),
+        waiting: it.waiting().min(u32::MAX as usize) as u32,
         buffered: it.front().len() as u64,
         write_room: it.write_room() as u64,
         held: it.held_bytes().len() as u64,

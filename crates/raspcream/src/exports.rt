@@ -1,7 +1,7 @@
 //! The functions that C calls.
 ghost use Rattle.std.specs.Prelude.{◌≡◌, ◌≢◌, ◌⊎◌, ◌↔◌, IsOk, IfOk, IfErr};
 ghost use Rattle.raspcream.specs.Calls.{IsCalled};
-ghost use Rattle.raspcream.specs.Settings.{fresh_machine, CannotBe};
+ghost use Rattle.raspcream.specs.Settings.{fresh_machine, StandsForNothing, CannotBe};
 ghost use Rattle.std.specs.Borrow.{sem};
 ghost use Rattle.std.specs.Ptr.{points_to, room_at};
 ghost use Rattle.raspcream.specs.contracts.machine.Machine.{the_row as machine_row};
@@ -28,6 +28,7 @@ pub extern "C" fn raspcream_abi() -> u32
 // A machine to which nothing has come, or the code why there is none.
 fn made(alloc: Global, config: &Config) -> Result<Box<Machine>, u32>
     ensures fresh { IfOk result (λ machine. machine.value ≡ fresh_machine config.now) }
+    ensures stands { IfOk result (λ machine. StandsForNothing machine.value) }
     ensures can_be { IsOk result → CannotBe config.now → ⊥ }
     ensures code { IfErr result (λ code. ((code ≡ 1) × (CannotBe config.now → ⊥)) ⊎ ((code ≡ 3) × CannotBe config.now)) }
 {

@@ -48,11 +48,8 @@ impl Handed {
         ensures few { out.old.count ≤ MAX_FIELDS → out.new.count ≤ MAX_FIELDS }
         ensures shown { out.new.bytes.len ≡ length bytes }
     {
-        self.piece = Some(bytes);
-        if let Some(bytes) = &self.piece {
-            tell_bytes(out, PIECE, bytes.as_slice());
-        }
-        out.kind = PIECE;
+        let bytes = self.piece.insert(bytes);
+        tell_bytes(out, PIECE, bytes.as_slice());
     }
 
     fn keep_trailers(&mut self, trailers: HeaderMap, out: &mut Reply)
@@ -60,10 +57,8 @@ impl Handed {
         ensures few { out.old.count ≤ MAX_FIELDS → out.new.count ≤ MAX_FIELDS }
         ensures shown { out.new.count ≡ min (value_count trailers) MAX_FIELDS }
     {
-        self.trailers = Some(trailers);
-        if let Some(trailers) = &self.trailers {
-            tell_fields(trailers, out);
-        }
+        let trailers = self.trailers.insert(trailers);
         out.kind = TRAILERS;
+        tell_fields(trailers, out);
     }
 }

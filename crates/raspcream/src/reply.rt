@@ -191,6 +191,7 @@ pub fn tell_fields(map: &HeaderMap, out: &mut Reply)
 
 /// How a body ends.
 pub fn tell_body(body: BodyKind, out: &mut Reply)
+    ensures kind { out.new.kind ≡ out.old.kind }
     ensures body { out.new.body ≡ body_said body }
     ensures number { out.new.number ≡ length_said body }
     ensures method { out.new.method ≡ out.old.method }

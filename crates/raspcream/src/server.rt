@@ -1,7 +1,7 @@
 //! A server's side.
 ghost use Rattle.std.specs.Prelude.{◌≡◌, ◌≤◌, [], IfErr, OnOk, OnErr};
 ghost use Rattle.model_h1.specs.Event as on;
-ghost use Rattle.h1_connection.specs.State.{fresh_state};
+ghost use Rattle.h1_connection.specs.State.{fresh_state, Stands};
 ghost use Rattle.raspcream.specs.Refused.{MayRefuse};
 ghost use Rattle.raspcream.specs.Served.{HasRead, HasNext, HasAnswered, HasMade, HasWritten, HasTicked, HasPulled, HasGiven, HasHeld, HasStated};
 ghost use Rattle.raspcream.specs.declared.op.Op.TheVariants as asks;
@@ -39,7 +39,8 @@ impl Model for Server {
 impl Server {
     /// A fresh one.
     pub fn new(alloc: Global, config: ServiceConfig) -> Server
-        ensures { result ≡ fresh_state config }
+        ensures value { result ≡ fresh_state config }
+        ensures stands { Stands result [] }
     {
         Server {
             alloc,

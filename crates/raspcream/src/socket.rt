@@ -58,6 +58,7 @@ fn check_number(error: HandshakeError) -> u32
 
 /// A frame: its kind in `minor`, its payload in `bytes`. Of a Close the code in `number`, 0 for none.
 fn tell_frame(frame: &Frame, out: &mut Reply)
+    ensures kind { out.new.kind ≡ out.old.kind }
     ensures shown { ShowsFrame (frame_says frame.now) out.new }
     ensures count { out.new.count ≡ out.old.count }
 {
@@ -76,6 +77,7 @@ fn tell_payload(out: &mut Reply, opcode: u32, code: u64, payload: &[u8])
     ensures opcode { out.new.minor ≡ opcode }
     ensures code { out.new.number ≡ code }
     ensures payload { out.new.bytes.len ≡ length payload.now }
+    ensures kind { out.new.kind ≡ out.old.kind }
     ensures count { out.new.count ≡ out.old.count }
 {
     out.minor = opcode;
@@ -84,6 +86,7 @@ fn tell_payload(out: &mut Reply, opcode: u32, code: u64, payload: &[u8])
 }
 
 fn tell_item(item: &Item, out: &mut Reply)
+    ensures kind { out.new.kind ≡ out.old.kind }
     ensures shown { ShowsFrame (item_says item.now) out.new }
     ensures count { out.new.count ≡ out.old.count }
 {
@@ -96,6 +99,7 @@ fn tell_item(item: &Item, out: &mut Reply)
 }
 
 fn tell_close(reason: &Option<CloseReason>, out: &mut Reply)
+    ensures kind { out.new.kind ≡ out.old.kind }
     ensures shown { ShowsFrame (close (option_map reason_says reason.now)) out.new }
     ensures count { out.new.count ≡ out.old.count }
 {
@@ -106,6 +110,7 @@ fn tell_close(reason: &Option<CloseReason>, out: &mut Reply)
 }
 
 fn tell_reason(reason: &CloseReason, out: &mut Reply)
+    ensures kind { out.new.kind ≡ out.old.kind }
     ensures shown { ShowsFrame (close (Some (reason_says reason.now))) out.new }
     ensures count { out.new.count ≡ out.old.count }
 {
@@ -222,11 +227,9 @@ fn keep_frame(place: &mut Option<Frame>, frame: Frame, out: &mut Reply)
     ensures shown { ShowsFrame (frame_says frame) out.new }
     ensures few { out.old.count ≤ MAX_FIELDS → out.new.count ≤ MAX_FIELDS }
 {
-    *place = Some(frame);
-    if let Some(frame) = place {
-        tell_frame(frame, out);
-    }
+    let frame = place.insert(frame);
     out.kind = FRAME;
+    tell_frame(frame, out);
 }
 
 impl Server {

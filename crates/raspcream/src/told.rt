@@ -56,6 +56,7 @@ pub fn minor_number(version: Version) -> u32
 
 /// What a head says.
 fn tell_head(item: &HeadItem, out: &mut Reply)
+    ensures kind { out.new.kind ≡ out.old.kind }
     ensures shown { ShowsHead item.now out.new }
     ensures few { out.new.count ≤ MAX_FIELDS }
 {
@@ -74,8 +75,8 @@ pub fn tell_next(item: &HeadItem, kind: NextKind, out: &mut Reply)
 {
     match kind {
         NextKind::Head => {
-            tell_head(item, out);
             out.kind = HEAD;
+            tell_head(item, out);
         }
         NextKind::Fault(fault) => tell(out, FAULT, fault_number(fault)),
         NextKind::Pending => tell(out, PENDING, 0),

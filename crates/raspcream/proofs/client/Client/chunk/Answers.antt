@@ -1,5 +1,5 @@
 use Rattle.std.proofs.Common.{sym, ◌∙◌}
-use Rattle.raspcream.proofs.AskedLemmas.{has_made}
+use Rattle.raspcream.proofs.AskedLemmas.{has_made, barred}
 use Rattle.raspcream.proofs.client.Client.chunk.Goals as goal
 
 pub returns-clause-stands : goal.returns-clause-stands
@@ -7,3 +7,6 @@ returns-clause-stands c = has_made _ _ _ _ _ c.self.view_is c.tell.ensures.kind 
 
 pub chunk-requires : goal.chunk-requires
 chunk-requires c = record { can_chunk = sym (c.can_chunk.ensures c.args.input.now) ∙ c.if-not-can_chunk.false }
+
+pub returns-then-not-can_chunk-clause-refused : goal.returns-then-not-can_chunk-clause-refused
+returns-then-not-can_chunk-clause-refused c = barred _ _ _ _ c.self.view_is (c.can_chunk.ensures c.args.input.now) c.if-not-can_chunk.true

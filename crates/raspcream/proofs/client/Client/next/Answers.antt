@@ -1,5 +1,8 @@
-use Rattle.raspcream.proofs.AskedLemmas.{has_next}
+use Rattle.raspcream.proofs.AskedLemmas.{has_next, barred}
 use Rattle.raspcream.proofs.client.Client.next.Goals as goal
 
 pub returns-clause-stands : goal.returns-clause-stands
 returns-clause-stands c = has_next _ _ _ _ _ c.self.view_is c.keep_next.ensures.kind c.keep_next.ensures.shown c.in-Ok.ensures.stands
+
+pub returns-then-not-can_next-clause-refused : goal.returns-then-not-can_next-clause-refused
+returns-then-not-can_next-clause-refused c = barred _ _ _ _ c.self.view_is c.can_next.ensures c.if-not-can_next.true
