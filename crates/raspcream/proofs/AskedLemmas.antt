@@ -1,5 +1,5 @@
 -- A step of a client's connection is one of what a clause sees.
-use Rattle.std.proofs.Common.{◌≡◌, ◌≤◌, ◌-◌, ◌∙◌, ℕ, Bool, List, false, length, take, ap, refl, sym, subst}
+use Rattle.std.proofs.Common.{◌≡◌, ◌≤◌, ◌-◌, ◌∙◌, ℕ, Bool, List, true, false, length, take, ap, refl, sym, subst}
 use Rattle.model_h1.specs.Answer as answers
 use Rattle.model_client.specs.ClientEvent as on
 use Rattle.model_client.specs.ClientEvent.{ClientRequest}
@@ -57,6 +57,13 @@ has_held before seen place start reply is kind said len =
 
 pub barred : (before seen : State) (event : on.ClientEvent) (answer : Bool) → before ≡ seen → answer ≡ client_allows (setting_of before.settings) before.kept event → answer ≡ false → IsOut seen event
 barred before seen event answer is says not = subst (λ (s : State). IsOut s event) is (sym says ∙ not)
+
+is_not : false ≡ true → ⊥
+is_not e = cc
+
+-- it takes memory, since what takes none doesn't fail
+pub wants : (P : State → Type 0) (before seen : State) → before ≡ seen → (P before → false ≡ true) → P seen → ⊥
+wants P before seen is fails = subst (λ (s : State). P s → ⊥) is (λ light. is_not (fails light))
 
 -- the request that is named may not come
 pub misasked : (before seen : State) (arg number : ℕ) (input : List ℕ) (request : ClientRequest) (size : answers.BodySize) (answer : Bool) → before ≡ seen → NamesRequest arg input request

@@ -1,5 +1,5 @@
 -- A step of a server's connection is one of what a clause sees.
-use Rattle.std.proofs.Common.{◌≡◌, ◌≤◌, ◌<◌, ◌-◌, ◌∙◌, ℕ, Bool, List, false, length, take, drop, ap, refl, sym, subst, length-drop}
+use Rattle.std.proofs.Common.{◌≡◌, ◌≤◌, ◌<◌, ◌-◌, ◌∙◌, ℕ, Bool, List, true, false, length, take, drop, ap, refl, sym, subst, length-drop}
 use Rattle.model_h1.specs.Answer as answers
 use Rattle.model_h1.specs.Event as on
 use Rattle.model_h1.specs.Frame.{Message}
@@ -105,8 +105,11 @@ pub barred_accept : (before seen : State) (number limit : ℕ) (answer : Bool) �
 barred_accept before seen number limit answer is said says not =
     subst (λ (n : ℕ). IsBarred seen (on.accept n)) said (barred before seen (on.accept limit) answer is says not)
 
-pub wants : (before seen : State) (event : on.Event) → before ≡ seen → (TakesNoMemory before event → ⊥) → MayWant seen event
-wants before seen event is may = subst (λ (s : State). MayWant s event) is may
+is_not : false ≡ true → ⊥
+is_not e = cc
+
+pub wants : (before seen : State) (event : on.Event) → before ≡ seen → (TakesNoMemory before event → false ≡ true) → MayWant seen event
+wants before seen event is fails = subst (λ (s : State). MayWant s event) is (λ light. is_not (fails light))
 
 pub barred_next : (before seen : State) (answer : Bool) → before ≡ seen → answer ≡ next_allowed (setting_of before.settings) before.kept → answer ≡ false
     → next_allowed (setting_of seen.settings) seen.kept ≡ false

@@ -1,12 +1,12 @@
 use Rattle.http_uri.specs.declared.uri.Uri.{Uri}
 use Rattle.http_uri.specs.Uri.{Spells}
-use Rattle.std.proofs.Common.{◌∙◌, sym, subst}
+use Rattle.std.proofs.Common.{◌∙◌, refl, sym, subst}
 use Rattle.raspcream.proofs.NamedLemmas.{fails_too, no_method, no_target, no_lines, names_request}
 use Rattle.std.proofs.lemmas.Result.{err_from_is_err_and}
 use Rattle.raspcream.proofs.request.request_head_of.Goals as goal
 
 pub returns-in_default-clause-why : goal.returns-in_default-clause-why
-returns-in_default-clause-why c = λ text. c.in_default.ensures.none tt _ _ _ text.pair
+returns-in_default-clause-why c = λ text. c.in_default.ensures.none refl _ _ _ text.pair
 
 pub returns-in_err-method-clause-why : goal.returns-in_err-method-clause-why
 returns-in_err-method-clause-why c = let p = err_from_is_err_and c.from_residual.result c.from_residual.ensures.1 in rw (p.1, p.2) (fails_too _ _ _ (no_method _ _ _ _ c.in-Some.ensures.some) c.in_err-method.ensures.why)

@@ -1,4 +1,6 @@
-use Rattle.raspcream.proofs.AskedLemmas.{has_made, barred}
+use Rattle.h1_client.specs.Requests.{SendsNoEnd}
+use Rattle.h1_client.specs.State.{State}
+use Rattle.raspcream.proofs.AskedLemmas.{has_made, barred, wants}
 use Rattle.raspcream.proofs.client.Client.end.Goals as goal
 
 pub returns-clause-stands : goal.returns-clause-stands
@@ -6,3 +8,6 @@ returns-clause-stands c = has_made _ _ _ _ _ c.self.view_is c.tell.ensures.kind 
 
 pub returns-then-not-can_end_body-clause-refused : goal.returns-then-not-can_end_body-clause-refused
 returns-then-not-can_end_body-clause-refused c = barred _ _ _ _ c.self.view_is c.can_end_body.ensures.ends c.if-not-can_end_body.true
+
+pub returns-in_default-clause-refused : goal.returns-in_default-clause-refused
+returns-in_default-clause-refused c = wants (λ (s : State). SendsNoEnd s.kept.sending) _ _ c.self.view_is c.in_default.ensures.no_memory_needed
