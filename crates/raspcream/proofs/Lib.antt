@@ -1,3 +1,4 @@
+mod ShownLemmas
 mod PackedLemmas
 mod NamedLemmas
 mod ServedLemmas

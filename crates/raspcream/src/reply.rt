@@ -179,14 +179,22 @@ pub fn tell_fields(map: &HeaderMap, out: &mut Reply)
     ensures rest { KeepsRest out.old out.new }
 {
     for (index, (name, value)) in map.iter().enumerate() {
-        if index < MAX_FIELDS {
-            out.fields[index] = Header {
-                name: span_of(name.as_bytes()),
-                value: span_of(value.as_bytes()),
-            };
-        }
+        let line = Header {
+            name: span_of(name.as_bytes()),
+            value: span_of(value.as_bytes()),
+        };
+        put_field(out, index, line);
     }
     out.count = map.len().min(MAX_FIELDS);
+}
+
+// The line at this place, where there is room for it.
+fn put_field(out: &mut Reply, index: usize, line: Header)
+    ensures { KeepsRest out.old out.new }
+{
+    if index < MAX_FIELDS {
+        out.fields[index] = line;
+    }
 }
 
 /// How a body ends.
