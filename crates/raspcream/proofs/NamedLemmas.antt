@@ -1,5 +1,5 @@
 -- What is handed in names a head or a message, or nothing does.
-use Rattle.std.proofs.Common.{◌≡◌, ◌<◌, ◌≤◌, ◌⊎◌, ◌∙◌, ◌/◌, ◌%◌, ◌==◌, ℕ, Bool, List, Option, None, true, false, map, ap, refl, sym, subst, inl, inr, arith, if◌then◌else◌}
+use Rattle.std.proofs.Common.{◌≡◌, ◌≢◌, ◌<◌, ◌≤◌, ◌⊎◌, ◌∙◌, ◌/◌, ◌%◌, ◌==◌, ℕ, Bool, List, Option, None, true, false, map, ap, refl, sym, subst, inl, inr, arith, if◌then◌else◌}
 use Rattle.std.specs.Prelude.{unwrap_or, IsUtf8, ⊤}
 use Rattle.std.proofs.lemmas.Bool.{cases_lt}
 use Rattle.http.specs.declared.version.Version.{Version}
@@ -167,14 +167,19 @@ no_close opcode code input eight not (inl w) = absurd (omega (arith, w.0))
 no_close opcode code input eight not (inr (inl w)) = not w.1
 no_close opcode code input eight not (inr (inr plain)) = not_eight opcode eight plain
 
--- an opcode that there is
-abbrev pub IsOpcode : ℕ → Type 0
-IsOpcode opcode = (opcode ≡ 1) ⊎ ((opcode ≡ 8) ⊎ IsPlainOpcode opcode)
+pub no_bytes : (opcode code : ℕ) (input : List ℕ) → (opcode ≡ 1 → ⊥) → (opcode ≡ 8 → ⊥) → (IsPlainOpcode opcode → ⊥) → IsSendable opcode code input → ⊥
+no_bytes opcode code input one eight plain (inl w) = one w.0
+no_bytes opcode code input one eight plain (inr (inl w)) = eight w.0
+no_bytes opcode code input one eight plain (inr (inr p)) = plain p
 
-pub no_opcode : (opcode code : ℕ) (input : List ℕ) → (IsOpcode opcode → ⊥) → IsSendable opcode code input → ⊥
-no_opcode opcode code input not (inl w) = not (inl w.0)
-no_opcode opcode code input not (inr (inl w)) = not (inr (inl w.0))
-no_opcode opcode code input not (inr (inr plain)) = not (inr (inr plain))
+pub no_plain : (n : ℕ) → n ≢ 0 → n ≢ 2 → n ≢ 9 → n ≢ 10 → n ≢ 16 → n ≢ 17 → n ≢ 18 → IsPlainOpcode n → ⊥
+no_plain n a b c d e f g (inl is) = a is
+no_plain n a b c d e f g (inr (inl is)) = b is
+no_plain n a b c d e f g (inr (inr (inl is))) = c is
+no_plain n a b c d e f g (inr (inr (inr (inl is)))) = d is
+no_plain n a b c d e f g (inr (inr (inr (inr (inl is))))) = e is
+no_plain n a b c d e f g (inr (inr (inr (inr (inr (inl is)))))) = f is
+no_plain n a b c d e f g (inr (inr (inr (inr (inr (inr is)))))) = g is
 
 pub no_code : (code : ℕ) (input : List ℕ) → (code ≡ 0 → ⊥) → (code < 65536 → ⊥) → IsCloseText code input → ⊥
 no_code code input some wide (inl none) = some none

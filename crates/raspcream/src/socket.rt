@@ -1,11 +1,11 @@
 //! A server's side once it was upgraded to WebSocket.
-ghost use Rattle.std.specs.Prelude.{◌≡◌, ◌≤◌, [], length, string_bytes, option_map, IfOk, IfErr, OnOk, OnErr, IsUtf8};
-ghost use Rattle.model_h1.specs.Frame.{close};
+ghost use Rattle.std.specs.Prelude.{◌≡◌, ◌≤◌, ℕ, [], length, string_bytes, option_map, IfOk, IfErr, OnOk, OnErr, IsUtf8};
+ghost use Rattle.model_h1.specs.Frame as frames;
 ghost use Rattle.ws_frames.specs.Close.{reason_says};
 ghost use Rattle.ws_frames.specs.Codec.{item_says, frame_says};
 ghost use Rattle.ws_frames.specs.Sent.{message_says};
 ghost use Rattle.h1_connection.specs.EventMeaning.{failing_of};
-ghost use Rattle.raspcream.specs.Named.{IsCloseText, IsSendable};
+ghost use Rattle.raspcream.specs.Named.{IsPlainOpcode, IsCloseText, IsSendable};
 ghost use Rattle.raspcream.specs.Numbers.{accepted_kind, frame_kind, sent_kind, rule_said, check_said};
 ghost use Rattle.raspcream.specs.Refused.{FailsBy, MayRefuse};
 ghost use Rattle.raspcream.specs.Served.{IsMessageOf, HasAccepted, HasFramed, HasSent};
@@ -100,7 +100,7 @@ fn tell_item(item: &Item, out: &mut Reply)
 
 fn tell_close(reason: &Option<CloseReason>, out: &mut Reply)
     ensures kind { out.new.kind ≡ out.old.kind }
-    ensures shown { ShowsFrame (close (option_map reason_says reason.now)) out.new }
+    ensures shown { ShowsFrame (frames.close (option_map reason_says reason.now)) out.new }
     ensures count { out.new.count ≡ out.old.count }
 {
     match reason {
@@ -111,7 +111,7 @@ fn tell_close(reason: &Option<CloseReason>, out: &mut Reply)
 
 fn tell_reason(reason: &CloseReason, out: &mut Reply)
     ensures kind { out.new.kind ≡ out.old.kind }
-    ensures shown { ShowsFrame (close (Some (reason_says reason.now))) out.new }
+    ensures shown { ShowsFrame (frames.close (Some (reason_says reason.now))) out.new }
     ensures count { out.new.count ≡ out.old.count }
 {
     let code = u64::from(u16::from(reason.code));
@@ -149,16 +149,42 @@ fn message_of(alloc: Global, kind: u32, code: u64, input: &[u8]) -> Result<Messa
     ensures ok { IfOk result (λ message. IsMessageOf kind code input.now (message_says message)) }
     ensures why { IfErr result (FailsBy (¬ (IsSendable kind code input.now))) }
 {
+    if kind == 1 {
+        return text_message(alloc, input);
+    }
+    if kind == 8 {
+        return close_of(alloc, code, input);
+    }
+    bytes_message(alloc, kind, input)
+}
+
+fn text_message(alloc: Global, input: &[u8]) -> Result<Message, Failure>
+    ensures ok { IfOk result (λ message. message_says message ≡ frames.frame (frames.text input.now)) }
+    ensures why { IfErr result (FailsBy (¬ (IsUtf8 input.now))) }
+{
+    match text_of(alloc, input) {
+        Ok(words) => Ok(Message::Text(words)),
+        Err(failure) => Err(failure),
+    }
+}
+
+// One of bytes without a rule of their own.
+fn bytes_message(alloc: Global, kind: u32, input: &[u8]) -> Result<Message, Failure>
+    ensures ok { IfOk result (λ message. (code : ℕ) → IsMessageOf kind code input.now (message_says message)) }
+    ensures why { IfErr result (FailsBy (¬ (IsPlainOpcode kind))) }
+{
+    let payload = match copied(alloc, input) {
+        Ok(payload) => payload,
+        Err(failure) => return Err(failure),
+    };
     match kind {
-        1 => Ok(Message::Text(text_of(alloc, input)?)),
-        2 => Ok(Message::Binary(copied(alloc, input)?)),
-        9 => Ok(Message::Ping(copied(alloc, input)?)),
-        10 => Ok(Message::Pong(copied(alloc, input)?)),
-        17 => Ok(Message::Continuation(Item::FirstText(copied(alloc, input)?))),
-        18 => Ok(Message::Continuation(Item::FirstBinary(copied(alloc, input)?))),
-        16 => Ok(Message::Continuation(Item::Continue(copied(alloc, input)?))),
-        0 => Ok(Message::Continuation(Item::Last(copied(alloc, input)?))),
-        8 => close_of(alloc, code, input),
+        2 => Ok(Message::Binary(payload)),
+        9 => Ok(Message::Ping(payload)),
+        10 => Ok(Message::Pong(payload)),
+        17 => Ok(Message::Continuation(Item::FirstText(payload))),
+        18 => Ok(Message::Continuation(Item::FirstBinary(payload))),
+        16 => Ok(Message::Continuation(Item::Continue(payload))),
+        0 => Ok(Message::Continuation(Item::Last(payload))),
         _ => Err(Failure::Invalid),
     }
 }
