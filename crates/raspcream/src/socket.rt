@@ -173,18 +173,14 @@ fn bytes_message(alloc: Global, kind: u32, input: &[u8]) -> Result<Message, Fail
     ensures ok { IfOk result (λ message. (code : ℕ) → IsMessageOf kind code input.now (message_says message)) }
     ensures why { IfErr result (FailsBy (¬ (IsPlainOpcode kind))) }
 {
-    let payload = match copied(alloc, input) {
-        Ok(payload) => payload,
-        Err(failure) => return Err(failure),
-    };
     match kind {
-        2 => Ok(Message::Binary(payload)),
-        9 => Ok(Message::Ping(payload)),
-        10 => Ok(Message::Pong(payload)),
-        17 => Ok(Message::Continuation(Item::FirstText(payload))),
-        18 => Ok(Message::Continuation(Item::FirstBinary(payload))),
-        16 => Ok(Message::Continuation(Item::Continue(payload))),
-        0 => Ok(Message::Continuation(Item::Last(payload))),
+        2 => Ok(Message::Binary(copied(alloc, input)?)),
+        9 => Ok(Message::Ping(copied(alloc, input)?)),
+        10 => Ok(Message::Pong(copied(alloc, input)?)),
+        17 => Ok(Message::Continuation(Item::FirstText(copied(alloc, input)?))),
+        18 => Ok(Message::Continuation(Item::FirstBinary(copied(alloc, input)?))),
+        16 => Ok(Message::Continuation(Item::Continue(copied(alloc, input)?))),
+        0 => Ok(Message::Continuation(Item::Last(copied(alloc, input)?))),
         _ => Err(Failure::Invalid),
     }
 }

@@ -4,6 +4,3 @@ use Rattle.raspcream.proofs.socket.bytes_message.Goals as goal
 
 pub returns-in_default-clause-why : goal.returns-in_default-clause-why
 returns-in_default-clause-why c = no_plain _ (λ e. absurd (omega arith)) (λ e. absurd (omega arith)) (λ e. absurd (omega arith)) (λ e. absurd (omega arith)) (λ e. absurd (omega arith)) (λ e. absurd (omega arith)) (λ e. absurd (omega arith))
-
-pub returns-in-Err-clause-why : goal.returns-in-Err-clause-why
-returns-in-Err-clause-why c = fails_too _ _ _ (λ none. absurd none) c.in-Err.ensures.why
