@@ -1,5 +1,6 @@
+use Rattle.raspcream.specs.Settings.{StandsForNothing}
 use Rattle.raspcream.proofs.OpenLemmas.{is_some_none}
-use Rattle.std.proofs.Common.{refl, inl, inr}
+use Rattle.std.proofs.Common.{refl, inl, inr, sym, subst}
 use Rattle.raspcream.proofs.exports.made.Goals as goal
 
 pub returns-in_default-clause-code : goal.returns-in_default-clause-code
@@ -10,3 +11,6 @@ returns-in-Err-clause-code c = inl (refl, λ never. is_some_none (c.in-Some.ensu
 
 pub returns-in-Ok-clause-can_be : goal.returns-in-Ok-clause-can_be
 returns-in-Ok-clause-can_be c = λ made never. is_some_none (c.in-Some.ensures.none.1 never)
+
+pub returns-in-Ok-clause-stands : goal.returns-in-Ok-clause-stands
+returns-in-Ok-clause-stands c = subst StandsForNothing (sym c.in-Ok.ensures.ok) c.in-Some.ensures.stands
