@@ -1,5 +1,5 @@
 -- A step of a client's connection is one of what a clause sees.
-use Rattle.std.proofs.Common.{◌≡◌, ◌≤◌, ◌-◌, ◌∙◌, ℕ, Bool, List, true, false, length, take, ap, refl, sym, subst}
+use Rattle.std.proofs.Common.{◌≡◌, ◌≤◌, ◌-◌, ◌∙◌, ℕ, Bool, List, true, false, length, take, drop, min, ap, refl, sym, subst, arith, length-drop}
 use Rattle.model_h1.specs.Answer as answers
 use Rattle.model_client.specs.ClientEvent as on
 use Rattle.model_client.specs.ClientEvent.{ClientRequest}
@@ -52,6 +52,10 @@ has_given before seen reply told is kind len whole =
 pub has_held : (before seen : State) (place start : ℕ) (reply : Reply) → before ≡ seen → reply.kind ≡ 17 → start ≡ place → reply.bytes.len ≡ length before.kept.unread - start → HasHeld place reply seen seen
 has_held before seen place start reply is kind said len =
     let all : HasHeld place reply before before = record { same = refl; kind = kind; start = start; said = said; whole = len } in subst (λ (s : State). HasHeld place reply s s) is all
+
+-- how many bytes are left behind a place
+pub left_over : (held unread : List ℕ) (start at : ℕ) → held ≡ unread → at ≡ min start (length held) → length (drop at held) ≡ length unread - start
+left_over held unread start at is least = omega (arith, length-drop at held, ap length is, least)
 
 -- ---- refusals
 
