@@ -72,19 +72,19 @@ no_status n not = out_of_range n not (cases_lt n 100) (cases_lt n 1000)
 pub names_answer : (arg : ℕ) (packed : List ℕ) (entries : Entries) (head : ResponseParts) → head.status ≡ arg % 1024 → head.headers ≡ entries → head.reason ≡ None
     → head.flags ≡ flags_with ((arg / 1024) % 4) no_flags → IsFilled packed entries → NamesAnswer arg packed (answer_of head)
 names_answer arg packed entries head status headers reason flags filled =
-  let keep = (arg / 1024) % 4 in
-  record {
-  status = status;
-  closes = ap (λ (f : Flags). f.close) flags;
-  keeps_alive = ap (λ (f : Flags). f.keep_alive) flags;
-  upgrades = ap (λ (f : Flags). f.upgrade) flags;
-  reason = reason;
-  chunked = ap (λ (f : Flags). f.no_chunking) flags ∙ in_chunks (keep == 1) (keep == 2) (keep == 3);
-  plain = ap (λ (f : Flags). f.in_camel_case) flags ∙ in_lower_case (keep == 1) (keep == 2) (keep == 3);
-  lines = filled.0;
-  packs = filled.1;
-  headers = ap headers_of (headers ∙ filled.2);
-}
+    let keep = (arg / 1024) % 4 in
+    record {
+      status = status;
+      closes = ap (λ (f : Flags). f.close) flags;
+      keeps_alive = ap (λ (f : Flags). f.keep_alive) flags;
+      upgrades = ap (λ (f : Flags). f.upgrade) flags;
+      reason = reason;
+      chunked = ap (λ (f : Flags). f.no_chunking) flags ∙ in_chunks (keep == 1) (keep == 2) (keep == 3);
+      plain = ap (λ (f : Flags). f.in_camel_case) flags ∙ in_lower_case (keep == 1) (keep == 2) (keep == 3);
+      lines = filled.0;
+      packs = filled.1;
+      headers = ap headers_of (headers ∙ filled.2);
+    }
 
 -- ---- a request's head
 

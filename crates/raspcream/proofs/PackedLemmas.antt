@@ -20,8 +20,7 @@ only_pair text first second rest first' second' rest' p q =
     let long : length first' ≡ length first = q.first_len ∙ sym p.first_len in
     let deep : length second' ≡ length second = q.second_len ∙ sym p.second_len in
     let behind : second ++ rest ≡ second' ++ rest' =
-    sym (drop_at first (second ++ rest) (length first) refl) ∙ ap (drop (length first)) whole ∙ drop_at first' (second' ++ rest') (length first) long in
-    (
+    sym (drop_at first (second ++ rest) (length first) refl) ∙ ap (drop (length first)) whole ∙ drop_at first' (second' ++ rest') (length first) long in (
       sym (take_at first (second ++ rest) (length first) refl) ∙ ap (take (length first)) whole ∙ take_at first' (second' ++ rest') (length first) long,
       sym (take_at second rest (length second) refl) ∙ ap (take (length second)) behind ∙ take_at second' rest' (length second) deep,
       sym (drop_at second rest (length second) refl) ∙ ap (drop (length second)) behind ∙ drop_at second' rest' (length second) deep,
@@ -88,18 +87,17 @@ line_read text rest name value behind before after read pair named valued put = 
   front = read.front ++ (name, value) ∷ [];
   in_map = put ∙ ap (λ (m : Entries). append m (lowercase name) (plain_value value)) read.in_map ∙ sym (put_more read.front (name, value));
   so_far = λ others packs.
-    subst (λ (l : List Line). Packs text l) (sym (append_assoc read.front ((name, value) ∷ []) others))
-    (read.so_far ((name, value) ∷ others) (one_line rest behind (name, value) others pair (named, valued) packs));
+      subst (λ (l : List Line). Packs text l) (sym (append_assoc read.front ((name, value) ∷ []) others))
+      (read.so_far ((name, value) ∷ others) (one_line rest behind (name, value) others pair (named, valued) packs));
   only = λ lines packs. let left = read.only lines packs in let line = first_line left.1 name value behind pair in line.2;
 }
 
 pub all_read : (text rest : List ℕ) (entries : Entries) → HasReadTo text rest entries → length rest ≡ 0 → IsFilled text entries
-all_read text rest entries read empty =
-    (
-      read.front,
-      subst (λ (l : List Line). Packs text l) (append-nil read.front) (read.so_far [] (subst (λ (t : List ℕ). Packs t []) (sym (nil_from_length rest empty)) no_line)),
-      read.in_map,
-    )
+all_read text rest entries read empty = (
+  read.front,
+  subst (λ (l : List Line). Packs text l) (append-nil read.front) (read.so_far [] (subst (λ (t : List ℕ). Packs t []) (sym (nil_from_length rest empty)) no_line)),
+  read.in_map,
+)
 
 pub stuck : (text rest : List ℕ) (entries : Entries) → HasReadTo text rest entries → 0 < length rest → ((first second behind : List ℕ) → IsPair rest first second behind → ⊥) → AreNoLines text
 stuck text rest entries read some none = λ lines packs. no_pair (read.only lines packs).1 some none

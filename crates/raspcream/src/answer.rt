@@ -39,12 +39,7 @@ fn mark(head: &mut ResponseHead, keep: u32)
 }
 
 // The head with these parts.
-fn head_with(
-    alloc: Global,
-    status: StatusCode,
-    keep: u32,
-    headers: HeaderMap,
-) -> ResponseHead
+fn head_with(alloc: Global, status: StatusCode, keep: u32, headers: HeaderMap) -> ResponseHead
     ensures status { result.status ≡ status }
     ensures headers { result.headers ≡ headers }
     ensures reason { result.reason ≡ None }
