@@ -8,7 +8,7 @@ here = os.path.dirname(os.path.abspath(__file__))
 library = os.environ.get("RASPCREAM_LIB_DIR", os.path.join(here, "..", "c", "out"))
 header = os.environ.get("RASPCREAM_INCLUDE_DIR", os.path.join(here, "..", "..", "include"))
 
-# The wheel has the licences of what it contains in its metadata: setuptools takes files of these names from here.
+# The wheel has the licences of what it contains in its metadata, as pyproject.toml says: they stand at the top of the repository.
 licences = os.environ.get("RASPCREAM_LICENSE_DIR", os.path.join(here, "..", ".."))
 for name in ("NOTICE", "LICENSE-APACHE", "LICENSE-MIT"):
     if not os.path.exists(os.path.join(here, name)):
