@@ -1,5 +1,5 @@
 -- Lines one behind the other, read from the front.
-use Rattle.std.proofs.Common.{◌≡◌, ◌≤◌, ◌<◌, ◌∙◌, ℕ, List, [], ◌∷◌, ◌++◌, length, map, take, drop, ap, refl, sym, subst, arith, append_assoc, length-append, length-drop}
+use Rattle.std.proofs.Common.{◌≡◌, ◌+◌, ◌≤◌, ◌<◌, ◌∙◌, ℕ, List, [], ◌∷◌, ◌++◌, length, map, take, drop, ap, refl, sym, subst, arith, append_assoc, length-append, length-drop}
 use Rattle.std.proofs.lemmas.List.{append-nil, take_at, drop_at, map_push, nil_from_length}
 use Rattle.std.proofs.lemmas.List.Sums.{fold-append}
 use Rattle.http_header.specs.FieldName.{IsFieldName}

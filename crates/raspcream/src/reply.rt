@@ -178,12 +178,14 @@ pub fn tell_fields(map: &HeaderMap, out: &mut Reply)
     ensures few { out.new.count ≤ MAX_FIELDS }
     ensures rest { KeepsRest out.old out.new }
 {
-    for (index, (name, value)) in map.iter().enumerate() {
+    let mut index: usize = 0;
+    for (name, value) in map.iter() {
         let line = Header {
             name: span_of(name.as_bytes()),
             value: span_of(value.as_bytes()),
         };
         put_field(out, index, line);
+        index = index.saturating_add(1);
     }
     out.count = map.len().min(MAX_FIELDS);
 }

@@ -18,4 +18,4 @@ pub returns-in_err-headers-clause-why : goal.returns-in_err-headers-clause-why
 returns-in_err-headers-clause-why c = let p = err_from_is_err_and c.from_residual-in_err-headers.result c.from_residual-in_err-headers.ensures.1 in rw (p.1, p.2) (fails_too _ _ _ (no_lines _ _ _ _ c.in-Some.ensures.some) c.in_err-headers.ensures.why)
 
 pub returns-clause-ok : goal.returns-clause-ok
-returns-clause-ok c = names_request _ _ _ _ _ _ _ c.in-Some.ensures.some (c.head_with.ensures.method ∙ c.in_ok-method.ensures.ok) (subst (λ (u : Uri). Spells c.in-Some.first.value.now u) (sym c.head_with.ensures.uri) c.in_ok-uri.ensures.ok) (c.head_with.ensures.version ∙ c.version_of-version.ensures) c.head_with.ensures.headers c.head_with.ensures.flags c.in_ok-headers.ensures.ok
+returns-clause-ok c = names_request _ _ _ _ _ _ c.head_with.result c.in-Some.ensures.some (c.head_with.ensures.method ∙ c.in_ok-method.ensures.ok) (subst (λ (u : Uri). Spells c.in-Some.first.value.now u) (sym c.head_with.ensures.uri) c.in_ok-uri.ensures.ok) (c.head_with.ensures.version ∙ c.version_of-version.ensures) c.head_with.ensures.headers c.head_with.ensures.flags c.in_ok-headers.ensures.ok

@@ -1,3 +1,4 @@
+use Rattle.std.proofs.Common.{refl}
 use Rattle.raspcream.proofs.AskedLemmas.{has_stated}
 use Rattle.raspcream.proofs.client.Client.state.Goals as goal
 

@@ -1,3 +1,6 @@
+use Rattle.raspcream.specs.Named.{IsNoAnswer}
+use Rattle.raspcream.specs.Refused.{IsMisplaced}
+use Rattle.raspcream.specs.declared.op.Op.TheVariants as asks
 use Rattle.raspcream.proofs.NamedLemmas.{refused_so}
 use Rattle.std.proofs.lemmas.Result.{err_from_is_err_and}
 use Rattle.raspcream.proofs.ServedLemmas.{has_answered, barred}
@@ -10,4 +13,4 @@ pub returns-then-not-can_answer-clause-refused : goal.returns-then-not-can_answe
 returns-then-not-can_answer-clause-refused c = λ head size. barred _ _ _ _ c.self.view_is (c.can_answer.ensures head size) c.if-not-can_answer.true
 
 pub returns-in_err-head-clause-refused : goal.returns-in_err-head-clause-refused
-returns-in_err-head-clause-refused c = let p = err_from_is_err_and c.from_residual.result c.from_residual.ensures.1 in rw (p.1, p.2) (refused_so _ _ _ c.in_err-head.ensures.why)
+returns-in_err-head-clause-refused c = let p = err_from_is_err_and c.from_residual.result c.from_residual.ensures.1 in rw (p.1, p.2) (refused_so (IsMisplaced asks.Head c.args.size c.args.lines.now c.args.self.now) (IsNoAnswer c.args.arg c.args.lines.now) _ c.in_err-head.ensures.why)

@@ -1,3 +1,4 @@
+use Rattle.std.proofs.Common.{refl}
 use Rattle.raspcream.proofs.ServedLemmas.{has_stated}
 use Rattle.raspcream.proofs.server.Server.state.Goals as goal
 
