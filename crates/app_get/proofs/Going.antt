@@ -1,11 +1,12 @@
 -- An exchange that goes on twice goes on.
-use Rattle.std.specs.Prelude.{◌≡◌, ℕ, List, [], ◌∷◌, ◌++◌, Option, Result, Ok, Err, OnOk}
+use Rattle.std.specs.Prelude.{◌≡◌, ℕ, Bool, true, false, ◌||◌, List, [], ◌∷◌, ◌++◌, Option, Some, None, Result, Ok, Err, OnOk}
 use Rattle.std.proofs.Common.{refl, sym, ap, subst, ◌∙◌, append_assoc, append-nil}
 use Rattle.std.specs.Io.KnownBytes.{Consumes, Appends}
 use Rattle.std.proofs.KnownBytes.{Consumes-nil, Appends-nil, Consumes-trans, Appends-trans}
 use Rattle.h1_client.specs.State.{Stands}
 use Rattle.model_client.specs.ClientTrace.{Happened, taken, taken_by, written, given as gave}
-use Rattle.app_get.specs.Exchange.{Ends, Goes, handed, handed_by, given, given_by, noted, noted_by}
+use Rattle.model_client.specs.ClientEvent.{ClientEvent}
+use Rattle.app_get.specs.Exchange.{Ends, Goes, handed, handed_by, given, given_by, noted, noted_by, has_event, ends_input, ends_body, drops_rest, Empties}
 
 -- ---- sums of what happened first and then
 
@@ -29,6 +30,54 @@ noted_then : (ys xs : List Happened) (status : Option ℕ) → noted (ys ++ xs) 
 noted_then [] xs status = refl
 noted_then (y ∷ ys) xs status = ap (noted_by y.outcome) (noted_then ys xs status)
 
+-- ---- ends that are told first or then
+
+or_none : (a : Bool) → a ≡ (a || false)
+or_none true = refl
+or_none false = refl
+
+or_assoc : (a b c : Bool) → ((a || b) || c) ≡ (a || (b || c))
+or_assoc true b c = refl
+or_assoc false b c = refl
+
+or_neither : (a b : Bool) → a ≡ false → b ≡ false → (a || b) ≡ false
+or_neither true b first second = first
+or_neither false b first second = second
+
+or_either : {P : Type 0} (a b : Bool) → (a || b) ≡ true → (a ≡ true → P) → (b ≡ true → P) → P
+or_either true b is first second = first refl
+or_either false b is first second = second is
+
+has_then : (is_such : ClientEvent → Bool) (ys xs : List Happened) → has_event is_such (ys ++ xs) ≡ (has_event is_such xs || has_event is_such ys)
+has_then is_such [] xs = or_none (has_event is_such xs)
+has_then is_such (y ∷ ys) xs =
+    ap (λ (b : Bool). b || is_such y.event) (has_then is_such ys xs) ∙ or_assoc (has_event is_such xs) (has_event is_such ys) (is_such y.event)
+
+none_behind : (xs ys : List ℕ) → [] ≡ xs ++ ys → ys ≡ []
+none_behind [] ys is = sym is
+none_behind (x ∷ xs) ys is = absurd (cc is)
+
+-- what is empty stays so
+emptied_then : (a b c : Option (List ℕ)) (bytes : List ℕ) → Empties a b → Consumes b c bytes → Empties a c
+emptied_then None b c bytes empty then_ = tt
+emptied_then (Some xs) None c bytes empty then_ = absurd (cc empty)
+emptied_then (Some xs) (Some ys) None bytes empty then_ = absurd then_
+emptied_then (Some xs) (Some ys) (Some zs) bytes empty then_ =
+    let none : ys ≡ [] = cc empty in
+    ap (λ (l : List ℕ). Some l) (none_behind bytes zs (sym none ∙ then_))
+
+then_emptied : (a b c : Option (List ℕ)) (bytes : List ℕ) → Consumes a b bytes → Empties b c → Empties a c
+then_emptied None b c bytes first empty = tt
+then_emptied (Some xs) None c bytes first empty = absurd first
+then_emptied (Some xs) (Some ys) c bytes first empty = empty
+
+-- the end is told by one of two, the first or the second
+ends_then : (is_such : ClientEvent → Bool) (ys xs : List Happened) (a b c : Option (List ℕ)) (first second : List ℕ) → Consumes a b first → Consumes b c second
+    → (has_event is_such xs ≡ true → Empties a b) → (has_event is_such ys ≡ true → Empties b c) → has_event is_such (ys ++ xs) ≡ true → Empties a c
+ends_then is_such ys xs a b c first second lost then_lost by_first by_second told =
+    or_either (has_event is_such xs) (has_event is_such ys) (sym (has_then is_such ys xs) ∙ told)
+    (λ is. emptied_then a b c second (by_first is) then_lost) (λ is. then_emptied a b c first lost (by_second is))
+
 -- ---- going on
 
 -- nothing has happened
@@ -40,6 +89,9 @@ goes_none a = record {
   sent = Appends-nil a.sent;
   file = Consumes-nil a.file;
   out = λ _. Appends-nil a.out;
+  input_end = λ told. absurd (cc told);
+  body_end = λ told. absurd (cc told);
+  none_dropped = refl;
   status = refl;
   shows = refl;
 }
@@ -61,6 +113,11 @@ goes_then a b c first second = record {
   out = λ hides.
       subst (Appends a.out c.out) (sym (given_then second.more first.more))
       (Appends-trans a.out b.out c.out _ _ (first.out hides) (second.out (first.shows ∙ hides)));
+  input_end = ends_then ends_input second.more first.more a.came b.came c.came _ _ first.came second.came first.input_end second.input_end;
+  body_end = ends_then ends_body second.more first.more a.file b.file c.file _ _ first.file second.file first.body_end second.body_end;
+  none_dropped =
+      has_then drops_rest second.more first.more
+      ∙ or_neither (has_event drops_rest first.more) (has_event drops_rest second.more) first.none_dropped second.none_dropped;
   status = second.status ∙ ap (noted second.more) first.status ∙ sym (noted_then second.more first.more a.status);
   shows = second.shows ∙ first.shows;
 }

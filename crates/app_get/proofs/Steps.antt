@@ -11,7 +11,7 @@ use Rattle.h1_client.specs.declared.event.NextAnswer.TheVariants as next
 use Rattle.model_client.specs.ClientEvent as on
 use Rattle.model_client.specs.ClientEvent.{ClientEvent, ClientOutcome}
 use Rattle.model_client.specs.ClientTrace.{taken_by, given as gave}
-use Rattle.app_get.specs.Exchange.{Ends, Goes, handed_by, given_by, noted_by}
+use Rattle.app_get.specs.Exchange.{Ends, Goes, handed_by, given_by, noted_by, ends_input, ends_body, drops_rest, Empties}
 
 -- ---- an event
 
@@ -24,12 +24,30 @@ pub record Moves (e : ClientEvent) (o : ClientOutcome) (came sent file out : Lis
   pub shows : given_by o ≡ out
   pub notes : after ≡ noted_by o before
 
+-- the event tells an end only where nothing is left, and drops nothing
+pub record EndsWhole (e : ClientEvent) (old new : Ends) : Type 0 where
+  pub input : ends_input e ≡ true → Empties old.came new.came
+  pub body : ends_body e ≡ true → Empties old.file new.file
+  pub keeps_rest : drops_rest e ≡ false
+
+pub ends_none : (e : ClientEvent) (old new : Ends) → ends_input e ≡ false → ends_body e ≡ false → drops_rest e ≡ false → EndsWhole e old new
+ends_none e old new input body rest = record { input = λ told. absurd (cc (told, input)); body = λ told. absurd (cc (told, body)); keeps_rest = rest }
+
+pub emptied : (a b : Option (List ℕ)) (bytes : List ℕ) → Consumes a b bytes → IsAtEnd b → Empties a b
+emptied None b bytes came end = tt
+emptied (Some xs) None bytes came end = absurd came
+emptied (Some xs) (Some ys) bytes came end = ap (λ (l : List ℕ). Some l) end
+
+pub emptied_all : (a : Option (List ℕ)) → Empties a (Some [])
+emptied_all None = tt
+emptied_all (Some xs) = refl
+
 -- one event more
 pub one_step : (was old new : Ends) (e : ClientEvent) (Says : ClientOutcome → Type 0) (came sent file out : List ℕ) → old ≡ was
     → GoesOn old.state e Says new.state → ((o : ClientOutcome) → Says o → Moves e o came sent file out old.status new.status)
     → Consumes old.came new.came came → Appends old.sent new.sent sent → Consumes old.file new.file file
-    → (old.shows ≡ false → Appends old.out new.out out) → new.shows ≡ old.shows → Goes was new
-one_step was old new e Says came sent file out seen goes moves lost got handed told shows =
+    → (old.shows ≡ false → Appends old.out new.out out) → EndsWhole e old new → new.shows ≡ old.shows → Goes was new
+one_step was old new e Says came sent file out seen goes moves lost got handed told ends shows =
     subst (λ (l : Ends). Goes l new) seen
     (let m = moves goes.outcome goes.says in
     record {
@@ -39,6 +57,9 @@ one_step was old new e Says came sent file out seen goes moves lost got handed t
       sent = subst (Appends old.sent new.sent) (sym m.gives) got;
       file = subst (Consumes old.file new.file) (sym m.hands) handed;
       out = λ hides. subst (Appends old.out new.out) (sym m.shows) (told hides);
+      input_end = ends.input;
+      body_end = ends.body;
+      none_dropped = ends.keeps_rest;
       status = m.notes;
       shows = shows;
     })
@@ -65,6 +86,9 @@ no_step was old new seen state came sent file out status shows =
       sent = kept_appends old.sent new.sent sent;
       file = file;
       out = out;
+      input_end = λ told. absurd (cc told);
+      body_end = λ told. absurd (cc told);
+      none_dropped = refl;
       status = status;
       shows = shows;
     })

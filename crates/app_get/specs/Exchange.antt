@@ -1,11 +1,11 @@
 -- What moves in an exchange: from the connection to the server and back, out of the file that is sent, and to the output.
-use Rattle.std.specs.Prelude.{◌≡◌, ℕ, Bool, true, false, List, [], ◌++◌, ◌∷◌, if◌then◌else◌, Option, Some, None, ⊤}
+use Rattle.std.specs.Prelude.{◌≡◌, ℕ, Bool, true, false, ◌||◌, List, [], ◌++◌, ◌∷◌, if◌then◌else◌, Option, Some, None, ⊤}
 use Rattle.std.specs.Io.KnownBytes.{Consumes, Appends}
 use Rattle.h1_client.specs.ClientMeaning.{setting_of}
 use Rattle.h1_client.specs.State.{State, Stands}
 use Rattle.model_client.specs.ClientEvent as on
 use Rattle.model_client.specs.ClientEvent.{ClientEvent, ClientOutcome, ClientEnd}
-use Rattle.model_client.specs.ClientKept.{client_allows, client_closing}
+use Rattle.model_client.specs.ClientKept.{client_allows, client_closing, is_free}
 use Rattle.model_client.specs.ClientTrace.{Happened, taken, written}
 use Rattle.model_client.specs.AnswerParse.{is_interim}
 use Rattle.app_get.specs.declared.answer.Taken.{Taken}
@@ -56,11 +56,39 @@ abbrev pub noted : List Happened → Option ℕ → Option ℕ
 noted [] status = status
 noted (s ∷ before) status = noted_by s.outcome (noted before status)
 
+-- ---- the ends that are told
+
+-- the server has sent all
+abbrev pub ends_input : ClientEvent → Bool
+ends_input on.eof = true
+ends_input _ = false
+
+-- the request's body is whole
+abbrev pub ends_body : ClientEvent → Bool
+ends_body on.body_end = true
+ends_body _ = false
+
+-- the rest of the answer's body isn't wanted
+abbrev pub drops_rest : ClientEvent → Bool
+drops_rest on.drop_body = true
+drops_rest _ = false
+
+-- one of the events is such a one
+abbrev pub has_event : (ClientEvent → Bool) → List Happened → Bool
+has_event is_such [] = false
+has_event is_such (s ∷ before) = has_event is_such before || is_such s.event
+
+-- bytes that were known were taken to the last one
+abbrev pub Empties : Option (List ℕ) → Option (List ℕ) → Type 0
+Empties None new = ⊤
+Empties (Some bytes) new = new ≡ Some []
+
 -- ---- what moves
 
 -- It goes on by these events: the bytes that came are those that the connection took, the bytes that were sent are those
 -- that it gave to be written, what was handed in comes out of the file, and the bytes of the answer's body, and nothing
--- else, are written out, unless the answer's head is written too.
+-- else, are written out, unless the answer's head is written too. The input's end is told only once nothing is left to come,
+-- and the body's end only once nothing is left of the file. No body is dropped.
 pub record Goes (old new : Ends) : Type 0 where
   pub more : List Happened
   pub stands : (before : List Happened) → Stands old.state before → Stands new.state (more ++ before)
@@ -68,6 +96,9 @@ pub record Goes (old new : Ends) : Type 0 where
   pub sent : Appends old.sent new.sent (written more)
   pub file : Consumes old.file new.file (handed more)
   pub out : old.shows ≡ false → Appends old.out new.out (given more)
+  pub input_end : has_event ends_input more ≡ true → Empties old.came new.came
+  pub body_end : has_event ends_body more ≡ true → Empties old.file new.file
+  pub none_dropped : has_event drops_rest more ≡ false
   pub status : new.status ≡ noted more old.status
   pub shows : new.shows ≡ old.shows
 
@@ -81,10 +112,12 @@ is_failure (Some on.broken_answer) = true
 is_failure (Some on.failed_request) = true
 is_failure _ = false
 
--- nothing more of the answer's body is to come, and the connection hasn't failed
+-- Nothing more of the answer's body is to come, and the connection hasn't failed. By each trace that it stands for it is free:
+-- the answer was handed out to its end.
 pub record IsWhole (state : State) : Type 0 where
   pub nothing_left : client_allows (setting_of state.settings) state.kept on.pull ≡ false
   pub unbroken : is_failure (client_closing state.kept) ≡ false
+  pub free : (trace : List Happened) → Stands state trace → is_free state.kept ≡ true
 
 -- what was taken of an answer: where it is the rest, the answer is whole and has this status
 abbrev pub IsTaken : Taken → Ends → Type 0

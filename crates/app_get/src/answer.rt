@@ -127,12 +127,12 @@ impl<S: TimedSource + Drop, K: TimedSink + Drop, B: Source + Drop, O: Sink + Dro
         ensures { IfOk result (λ taken. IsTaken taken self.now) }
     {
         match self.connection.closing() {
-            None => Ok(Taken::Whole(status)),
+            None if self.connection.can_next() => Ok(Taken::Whole(status)),
             Some(ClientEnd::Asked) => Ok(Taken::Whole(status)),
             Some(ClientEnd::Unasked) => Ok(Taken::Whole(status)),
             Some(ClientEnd::InputEnded) => Ok(Taken::Whole(status)),
             Some(ClientEnd::FailedRequest) => Err(GetError::ShortFile),
-            Some(_) => Err(GetError::Lost),
+            _ => Err(GetError::Lost),
         }
     }
 

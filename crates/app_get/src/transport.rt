@@ -1,5 +1,5 @@
 // Both directions of the connection's socket.
-ghost use Rattle.std.specs.Prelude.{ℕ, List, OnOk};
+ghost use Rattle.std.specs.Prelude.{◌<◌, ℕ, List, length, OnOk};
 ghost use Rattle.h1_client.specs.State.{IsAllowed};
 ghost use Rattle.model_client.specs.ClientEvent as on;
 ghost use Rattle.app_get.specs.Exchange.{Goes};
@@ -86,6 +86,7 @@ impl<S: TimedSource + Drop, K: TimedSink + Drop, B: Source + Drop, O: Sink + Dro
     fn read_into(&mut self, piece: &mut [u8]) -> Result<bool, GetError>
         requires can_read { (bytes : List ℕ) → IsAllowed self.old.state (on.read bytes) }
         requires can_end { IsAllowed self.old.state on.eof }
+        requires room { 0 < length piece.old }
         ensures { OnOk result (Goes self.old self.new) }
     {
         match self.input.read(piece) {

@@ -3,10 +3,11 @@ use Rattle.std.specs.Io.KnownBytes.{Consumes}
 use Rattle.std.proofs.KnownBytes.{Consumes-nil, Appends-nil}
 use Rattle.model_client.specs.ClientEvent as on
 use Rattle.app_get.specs.Exchange.{Ends}
-use Rattle.app_get.proofs.Steps.{one_step, done_moves, at_end}
+use Rattle.app_get.proofs.Steps.{emptied_all, one_step, done_moves, at_end}
 use Rattle.app_get.proofs.exchange.Exchange.close_body.Goals as goal
 
 pub returns : goal.returns
 returns g c =
     one_step _ _ _ on.body_end _ [] [] [] [] c.self.view_is c.in_ok-end_body.ensures.stands (done_moves on.body_end _ refl)
-    (Consumes-nil _) (Appends-nil _) (subst (λ (e : Ends). Consumes e.file (Some []) []) (sym c.self.view_is) (at_end _ c.requires.end)) (λ _. Appends-nil _) refl
+    (Consumes-nil _) (Appends-nil _) (subst (λ (e : Ends). Consumes e.file (Some []) []) (sym c.self.view_is) (at_end _ c.requires.end)) (λ _. Appends-nil _)
+    (record { input = λ told. absurd (cc told); body = λ _. emptied_all _; keeps_rest = refl }) refl
