@@ -15,7 +15,14 @@ static struct pollfd fds[MOST];
 static struct peer peers[MOST];
 static rc_event e;
 
-static uint64_t now(void) { struct timespec t; timespec_get(&t, TIME_UTC); return (uint64_t)t.tv_sec * 1000 + (uint64_t)t.tv_nsec / 1000000; }
+/* The moment, which never goes back, as rc_tick wants it. */
+static uint64_t now(void) {
+    static uint64_t last;
+    struct timespec t;
+    timespec_get(&t, TIME_UTC);
+    uint64_t ms = (uint64_t)t.tv_sec * 1000 + (uint64_t)t.tv_nsec / 1000000;
+    return last = ms > last ? ms : last;
+}
 
 /* Writes what waits, as far as the socket takes it. */
 static bool flush(int fd, struct peer *p) {
@@ -82,7 +89,8 @@ int main(int count, char **words) {
         uint64_t wait = 60000, moment = now();
         for (int i = 1; i < most; i++) {
             rc_state(peers[i].conn, &e);
-            fds[i].events = (short)((e.state.read_room > 0 ? POLLIN : 0) | (peers[i].full ? POLLOUT : 0));
+            bool reads = (e.state.can & RC_CAN_READ) && e.state.read_room > 0;
+            fds[i].events = (short)((reads ? POLLIN : 0) | (peers[i].full ? POLLOUT : 0));
             uint64_t left = e.state.deadline > moment ? e.state.deadline - moment : 0;
             wait = left < wait ? left : wait;
         }

@@ -17,7 +17,7 @@ class Server(unittest.TestCase):
         self.assertEqual((conn.our_state, conn.their_state), (h11.SEND_RESPONSE, h11.SEND_BODY))
         self.assertEqual([conn.next_event() for _ in range(3)], [h11.Data(data=b"abc"), h11.EndOfMessage(), h11.PAUSED])
         text = conn.send(h11.Response(status_code=200, headers=[("Content-Length", "2")]))
-        self.assertEqual(text, b"HTTP/1.1 200 OK\r\ncontent-length: 2\r\ndate: Tue, 14 Nov 2023 22:13:20 GMT\r\n\r\n")
+        self.assertEqual(text, b"HTTP/1.1 200 \r\nContent-Length: 2\r\n\r\n")
         self.assertEqual((conn.send(h11.Data(data=b"hi")), conn.send(h11.EndOfMessage())), (b"hi", b""))
         self.assertEqual(conn.states, {h11.SERVER: h11.DONE, h11.CLIENT: h11.DONE})
         conn.start_next_cycle()
@@ -43,19 +43,51 @@ class Server(unittest.TestCase):
         self.assertTrue(conn.bytes_to_send().startswith(b"HTTP/1.1 400 "))
         with self.assertRaises(h11.LocalProtocolError):
             server().send(h11.Response(status_code=200))
+        for name, value in ((b"x", b"a\r\nb: c"), (b"x y", b"a"), (b"", b"a"), (b"x", b"a\0"), (b"content-length", b"+1")):
+            with self.assertRaises(h11.LocalProtocolError):
+                h11.Response(status_code=200, headers=[(name, value)])
+        with self.assertRaises(h11.LocalProtocolError):
+            h11.Response(status_code=200, reason=b"a\r\nb: c")
         conn = server()
         conn.receive_data(b"GET / HTTP/1.1\r\nHost: a\r\n\r\n")
         conn.next_event()
+        conn.send(h11.Response(status_code=200, headers=[(b"content-length", b"2")]))
         with self.assertRaises(h11.LocalProtocolError):
-            conn.send(h11.Response(status_code=200, headers=[(b"x", b"a\r\nb: c")]))
+            conn.send(h11.Data(data=b"abc"))
         self.assertIs(conn.our_state, h11.ERROR)
+
+    def test_the_callers_answer_to_a_refused_head(self):
+        conn = server()
+        conn.receive_data(b"GET / HTTP/1.1\r\nbad line\r\n\r\n")
+        with self.assertRaises(h11.RemoteProtocolError):
+            conn.next_event()
+        text = conn.send(h11.Response(status_code=400, headers=[(b"X-A", b"b")], reason=b"No"))
+        self.assertEqual(text, b"HTTP/1.1 400 No\r\nX-A: b\r\nConnection: close\r\n\r\n")
+        self.assertEqual((conn.send(h11.Data(data=b"no")), conn.send(h11.EndOfMessage()), conn.our_state), (b"no", b"", h11.MUST_CLOSE))
+
+    def test_what_the_caller_writes_itself(self):
+        class File:
+            def __len__(self):
+                return 100000
+
+        conn, file = server(), File()
+        conn.receive_data(b"GET / HTTP/1.1\r\nHost: a\r\n\r\nGET / HTTP/1.1\r\nHost: a\r\n\r\n")
+        for headers, framed, end in (
+            ([(b"Content-Length", b"100000")], [file], b""),
+            ([], [b"186a0\r\n", file, b"\r\n"], b"0\r\nX-Sum: 3\r\n\r\n"),
+        ):
+            self.assertEqual([type(conn.next_event()) for _ in range(2)], [h11.Request, h11.EndOfMessage])
+            conn.send(h11.Response(status_code=200, headers=headers))
+            self.assertEqual(conn.send_with_data_passthrough(h11.Data(data=file)), framed)
+            self.assertEqual(conn.send(h11.EndOfMessage(headers=[] if headers else [(b"X-Sum", b"3")])), end)
+            conn.start_next_cycle()
 
     def test_a_client_that_waits_is_told_to_go_on(self):
         conn = server()
         conn.receive_data(b"POST / HTTP/1.1\r\nHost: a\r\nExpect: 100-continue\r\nContent-Length: 2\r\n\r\n")
         conn.next_event()
         self.assertTrue(conn.they_are_waiting_for_100_continue)
-        self.assertEqual(conn.send(h11.InformationalResponse(status_code=100)), b"HTTP/1.1 100 Continue\r\n\r\n")
+        self.assertEqual(conn.send(h11.InformationalResponse(status_code=100)), b"HTTP/1.1 100 \r\n\r\n")
         self.assertFalse(conn.they_are_waiting_for_100_continue)
 
     def test_what_is_behind_connect_is_trailing(self):
@@ -65,6 +97,37 @@ class Server(unittest.TestCase):
         self.assertEqual(conn.next_event(), h11.EndOfMessage())
         self.assertIs(conn.next_event(), h11.PAUSED)
         self.assertEqual(conn.trailing_data, (b"more", False))
+        conn.send(h11.Response(status_code=200))
+        conn.receive_data(b" of it")
+        self.assertIs(conn.next_event(), h11.PAUSED)
+        self.assertEqual(conn.trailing_data, (b"more of it", False))
+
+    def upgraded(self, lines=b""):
+        conn = server()
+        conn.receive_data(b"GET / HTTP/1.1\r\nHost: a\r\n" + lines + b"Upgrade: a, b\r\n\r\n")
+        self.assertEqual(conn.next_event().method, b"GET")
+        self.assertEqual(conn.next_event(), h11.EndOfMessage())
+        self.assertIs(conn.their_state, h11.MIGHT_SWITCH_PROTOCOL)
+        conn.receive_data(b"GET /2 HTTP/1.1\r\nHost: a\r\n\r\n")
+        self.assertIs(conn.next_event(), h11.PAUSED)
+        return conn
+
+    def test_an_upgrade_is_accepted(self):
+        conn = self.upgraded(b"Connection: upgrade\r\n")
+        conn.send(h11.InformationalResponse(status_code=101, headers=[("upgrade", "a")]))
+        self.assertEqual(conn.states, {h11.CLIENT: h11.SWITCHED_PROTOCOL, h11.SERVER: h11.SWITCHED_PROTOCOL})
+        self.assertEqual(conn.trailing_data, (b"GET /2 HTTP/1.1\r\nHost: a\r\n\r\n", False))
+
+    def test_an_upgrade_is_declined(self):
+        conn = self.upgraded()
+        conn.send(h11.Response(status_code=200, headers=[("content-length", "0")]))
+        conn.send(h11.EndOfMessage())
+        conn.start_next_cycle()
+        self.assertEqual(conn.next_event().target, b"/2")
+        conn = self.upgraded(b"Connection: upgrade\r\n")
+        self.assertIn(b"Connection: close", conn.send(h11.Response(status_code=200, headers=[("content-length", "0")])))
+        conn.send(h11.EndOfMessage())
+        self.assertIs(conn.our_state, h11.MUST_CLOSE)
 
 
 class TwoEnds(unittest.TestCase):

@@ -3,9 +3,13 @@ use Rattle.std.specs.Prelude.{◌-◌, ℕ, Bool, nat_le, if◌then◌else◌}
 use Rattle.app_proxy.specs.declared.standing.Stage.{Stage}
 use Rattle.app_proxy.specs.declared.standing.Stage.TheVariants.{Open, Lingering, Lost}
 
--- A side moved last at this moment, or now where it isn't waited for: that is so many milliseconds ago.
+-- A side moved last at this moment, or now where it isn't waited for.
+abbrev pub moved : Bool → ℕ → ℕ → ℕ
+moved is_awaited last now = if is_awaited then last else now
+
+-- that is so many milliseconds ago
 abbrev pub silence : Bool → ℕ → ℕ → ℕ
-silence is_awaited moved now = now - (if is_awaited then moved else now)
+silence is_awaited last now = now - moved is_awaited last now
 
 -- no side is waited for longer than a minute
 abbrev pub is_too_long : ℕ → Bool

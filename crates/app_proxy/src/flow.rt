@@ -1,5 +1,5 @@
 //! What moves between a client, the server and the forwarder between them, whatever their sockets are.
-ghost use Rattle.std.specs.Prelude.{OnOk, length, min};
+ghost use Rattle.std.specs.Prelude.{◌≡◌, OnOk, length, min};
 ghost use Rattle.model_proxy.specs.Past as event;
 ghost use Rattle.proxy.specs.Kept.{client_of, server_of, server_text, client_room, server_room};
 ghost use Rattle.proxy_loop.specs.Flow.{may_write_client, may_write_server};
@@ -22,7 +22,7 @@ pub fn hear_client<S: Source + Polled>(
     room: &mut [u8],
     uptime: u64,
 ) -> Result<bool, NoMemory>
-    ensures { OnOk result (HearsClient (min (client_room forwarder.old) (length room.old)) (S.faults source.old) (S.faults source.new) (S.left source.old) (S.left source.new) forwarder.old standing.new.stage forwarder.new) }
+    ensures { OnOk result (HearsClient (min (client_room forwarder.old) (length room.old)) (S.faults source.old) (S.faults source.new) (S.left source.old) (S.left source.new) forwarder.old standing.old.stage standing.new.stage forwarder.new) }
 {
     let limit = forwarder.proxy().client_room().min(room.len());
     let came = take_in_client(forwarder, source, room)?;
@@ -39,7 +39,7 @@ fn follow_client(
     is_not_now: bool,
     uptime: u64,
 ) -> Result<bool, NoMemory>
-    ensures { OnOk result (FollowsClient came forwarder.old standing.new.stage forwarder.new) }
+    ensures { OnOk result (FollowsClient came forwarder.old standing.old.stage standing.new.stage forwarder.new) }
 {
     match came {
         TakenIn::Bytes(count) => {
@@ -74,7 +74,7 @@ pub fn hear_server<S: Source + Polled>(
     room: &mut [u8],
     uptime: u64,
 ) -> Result<bool, NoMemory>
-    ensures { OnOk result (HearsServer (min (server_room forwarder.old) (length room.old)) (S.faults source.old) (S.faults source.new) (S.left source.old) (S.left source.new) forwarder.old standing.new.stage forwarder.new) }
+    ensures { OnOk result (HearsServer (min (server_room forwarder.old) (length room.old)) (S.faults source.old) (S.faults source.new) (S.left source.old) (S.left source.new) forwarder.old standing.old.stage standing.new.stage forwarder.new) }
 {
     let limit = forwarder.proxy().server_room().min(room.len());
     let came = take_in_server(forwarder, source, room)?;
@@ -91,7 +91,7 @@ fn follow_server(
     is_not_now: bool,
     uptime: u64,
 ) -> Result<bool, NoMemory>
-    ensures { OnOk result (FollowsServer came forwarder.old standing.new.stage forwarder.new) }
+    ensures { OnOk result (FollowsServer came forwarder.old standing.old.stage standing.new.stage forwarder.new) }
 {
     match came {
         TakenIn::Bytes(count) => {
@@ -122,7 +122,7 @@ fn follow_server(
 /// The connection to the server broke, or it was silent for too long. That doesn't tell that an answer is whole, so the client
 /// is let go where one is under way.
 pub fn break_off(forwarder: &mut Forwarder, standing: &mut Standing) -> Result<(), NoMemory>
-    ensures { OnOk result (BreaksOff forwarder.old standing.new.stage forwarder.new) }
+    ensures { OnOk result (BreaksOff forwarder.old standing.old.stage standing.new.stage forwarder.new) }
 {
     if forwarder.proxy().is_answering() {
         standing.stage = Stage::Lost;
@@ -147,10 +147,10 @@ pub fn tell_client<K: Sink + Polled>(
     sink: &mut K,
     uptime: u64,
 ) -> Result<bool, NoMemory>
-    ensures { OnOk result (Tells event.to_client (client_of forwarder.old).kept.buffered (may_write_client forwarder.old) (K.faults sink.old) (K.faults sink.new) (K.given sink.old) (K.given sink.new) forwarder.old forwarder.new) }
+    ensures { OnOk result (Tells event.to_client (client_of forwarder.old).kept.buffered (may_write_client forwarder.old) (K.faults sink.old) (K.faults sink.new) (K.given sink.old) (K.given sink.new) forwarder.old standing.old.stage standing.new.stage forwarder.new) }
 {
     let written = write_client(forwarder, sink)?;
-    if written.is_some() {
+    if let Some(_) = written {
         standing.client_moved = uptime;
         return Ok(true);
     }
@@ -171,10 +171,11 @@ pub fn tell_server<K: Sink>(
     sink: &mut K,
     uptime: u64,
 ) -> Result<bool, NoMemory>
-    ensures { OnOk result (Tells event.to_server (server_text (server_of forwarder.old)) (may_write_server forwarder.old) (K.faults sink.old) (K.faults sink.new) (K.given sink.old) (K.given sink.new) forwarder.old forwarder.new) }
+    ensures tells { OnOk result (Tells event.to_server (server_text (server_of forwarder.old)) (may_write_server forwarder.old) (K.faults sink.old) (K.faults sink.new) (K.given sink.old) (K.given sink.new) forwarder.old standing.old.stage standing.new.stage forwarder.new) }
+    ensures stays { OnOk result (standing.new.stage ≡ standing.old.stage) }
 {
     let written = write_server(forwarder, sink)?;
-    if written.is_some() {
+    if let Some(_) = written {
         standing.server_moved = uptime;
         return Ok(true);
     }

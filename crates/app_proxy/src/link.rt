@@ -1,7 +1,6 @@
 //! The socket of a client's connection to the server.
 ghost use Rattle.std.specs.Prelude.{OnOk};
-ghost use Rattle.app_proxy.specs.Flow.{GivesBack};
-ghost use Rattle.app_proxy.specs.Links.{GivesUp, Finishes};
+ghost use Rattle.app_proxy.specs.Links.{GivesUp, GivesBack, Finishes};
 
 use crate::flow::{break_off, hear_server, tell_server};
 use crate::slot::Shared;
@@ -81,10 +80,14 @@ impl Link {
 
     // A connection was begun, and is there or can't be had. One that isn't wanted any more is closed.
     fn finish(&mut self, forwarder: &mut Forwarder, is_there: bool) -> Result<(), NoMemory>
-        ensures { OnOk result (Finishes self.old is_there forwarder.old forwarder.new) }
+        ensures { OnOk result (Finishes self.old is_there forwarder.old self.new forwarder.new) }
     {
-        let Link::Connecting(stream) = mem::replace(self, Link::None) else {
-            return Ok(());
+        let stream = match mem::replace(self, Link::None) {
+            Link::Connecting(stream) => stream,
+            link => {
+                *self = link;
+                return Ok(());
+            }
         };
         if !is_there {
             forwarder.refused()?;
@@ -143,7 +146,7 @@ impl Link {
         forwarder: &mut Forwarder,
         standing: &mut Standing,
     ) -> Result<(), NoMemory>
-        ensures { OnOk result (GivesUp self.old forwarder.old standing.new.stage forwarder.new) }
+        ensures { OnOk result (GivesUp self.old self.new forwarder.old standing.old.stage standing.new.stage forwarder.new) }
     {
         if let Link::Connecting(_) = self {
             return self.finish(forwarder, false);
@@ -157,7 +160,7 @@ impl Link {
         forwarder: &mut Forwarder,
         shared: &mut Shared,
     ) -> Result<(), NoMemory>
-        ensures { OnOk result (GivesBack forwarder.old forwarder.new) }
+        ensures { OnOk result (GivesBack self.old self.new forwarder.old forwarder.new) }
     {
         if !forwarder.proxy().is_reusable() {
             return Ok(());

@@ -1,6 +1,6 @@
 //! How a client and the server that is asked for it stand to their sockets.
 ghost use Rattle.std.specs.Prelude.{◌≡◌};
-ghost use Rattle.app_proxy.specs.Patience.{silence, is_too_long, ticked};
+ghost use Rattle.app_proxy.specs.Patience.{moved, silence, is_too_long, ticked};
 
 /// How long a side that is waited for may move nothing, in milliseconds.
 const MAX_SILENCE: u64 = 60_000;
@@ -94,7 +94,9 @@ impl Standing {
 
     /// The time is told, and whether bytes wait for the client. A client that takes nothing for too long is done with.
     pub fn tick_client(&mut self, waits: bool, uptime: u64)
-        ensures { self.new.stage ≡ ticked self.old.stage (silence waits self.old.client_moved uptime) uptime }
+        ensures stage { self.new.stage ≡ ticked self.old.stage (silence waits self.old.client_moved uptime) uptime }
+        ensures moved { self.new.client_moved ≡ moved waits self.old.client_moved uptime }
+        ensures others { record self.new { stage = self.old.stage; client_moved = self.old.client_moved } ≡ self.old }
     {
         if let Stage::Lingering(until) = self.stage
             && uptime >= until
@@ -112,7 +114,8 @@ impl Standing {
     /// The time is told, and whether the server is waited for. It says whether that has taken too long.
     pub fn tick_server(&mut self, is_awaited: bool, uptime: u64) -> bool
         ensures silent { result ≡ is_too_long (silence is_awaited self.old.server_moved uptime) }
-        ensures stage { self.new.stage ≡ self.old.stage }
+        ensures moved { self.new.server_moved ≡ moved is_awaited self.old.server_moved uptime }
+        ensures others { record self.new { server_moved = self.old.server_moved } ≡ self.old }
     {
         if !is_awaited {
             self.server_moved = uptime;

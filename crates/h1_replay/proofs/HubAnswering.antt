@@ -6,11 +6,11 @@ use Rattle.h1_replay.specs.Input.{Told, ReadsWhole}
 use Rattle.h1_replay.specs.Run.{IsReplay}
 use Rattle.h1_replay.specs.HubRun.{IsAnswer, done, usage, bad_line, misplaced, read_fault, too_long, no_memory}
 use Rattle.h1_replay.specs.HubReply.{status_of_reply, text_of_reply, IsReplyTo}
-use Rattle.h1_replay.specs.declared.hub_reply.Reply.{Reply}
-use Rattle.h1_replay.specs.declared.hub_reply.Reply.TheVariants.{Done, Usage, BadLine, Misplaced, ReadFault, TooLong, NoMemory}
+use Rattle.h1_replay.specs.declared.hub_reply.HubReply.{HubReply}
+use Rattle.h1_replay.specs.declared.hub_reply.HubReply.TheVariants.{Done, Usage, BadLine, Misplaced, ReadFault, TooLong, NoMemory}
 
 -- the reply to a whole input is the program's answer
-pub answered_by : (words : List (List ℕ)) (before now : Told) (bytes : List ℕ) (reply : Reply) → IsReplay words → ReadsWhole before now bytes → IsReplyTo bytes reply
+pub answered_by : (words : List (List ℕ)) (before now : Told) (bytes : List ℕ) (reply : HubReply) → IsReplay words → ReadsWhole before now bytes → IsReplyTo bytes reply
     → IsAnswer words before now (status_of_reply reply) (text_of_reply reply)
 answered_by words before now bytes (Done text) command read is = done bytes command read is refl
 answered_by words before now bytes Usage command read is = absurd is

@@ -7,7 +7,7 @@ ghost use Rattle.h1_replay.specs.Run.{IsReplay, NoEndFailed};
 ghost use Rattle.h1_replay.specs.HubReply.{status_of_reply, text_of_reply};
 ghost use Rattle.h1_replay.specs.HubRun.{IsAnswer, IsGood, IsRefused, IsRefusedWith};
 
-use crate::hub_reply::{HubReply, WRITE_FAULT, replay};
+use crate::hub_reply::{HubReply, WRITE_FAULT, hub_replay};
 use crate::{InputError, read_input, write_all};
 use http_types::{Sink, Source};
 use std::alloc::Global;
@@ -70,7 +70,7 @@ fn reply_to<S: Source>(alloc: Global, words: &[String], input: &mut S) -> HubRep
         return HubReply::Usage;
     }
     match read_input(alloc, input) {
-        Ok(text) => replay(alloc, &text),
+        Ok(text) => hub_replay(alloc, &text),
         Err(InputError::Fault) => HubReply::ReadFault,
         Err(InputError::TooLong) => HubReply::TooLong,
         Err(InputError::NoMemory) => HubReply::NoMemory,

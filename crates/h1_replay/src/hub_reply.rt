@@ -3,8 +3,8 @@ ghost use Rattle.std.specs.Prelude.{◌≡◌, ◌≤◌, IfOk};
 ghost use Rattle.h1_replay.specs.HubRun.{IsStoppedText};
 ghost use Rattle.h1_replay.specs.HubReply.{status_of_reply, text_of_reply, IsReplyTo};
 
-use crate::hub_report::report_of;
-use crate::hub_script::{ScriptError, read_script};
+use crate::hub_report::hub_report_of;
+use crate::hub_script::{ScriptError, read_hub_script};
 use crate::numbered_line;
 use rooms::{HubError, HubTrace, NoMemory, drive_hub};
 use std::alloc::{AllocError, Global};
@@ -64,7 +64,7 @@ impl HubReply {
 }
 
 /// Reads the input as a script, brings its events to a new hub and reports what came of them.
-pub fn replay(alloc: Global, input: &[u8]) -> HubReply
+pub fn hub_replay(alloc: Global, input: &[u8]) -> HubReply
     ensures { IsReplyTo input.now result }
 {
     match try_replay(alloc, input) {
@@ -76,7 +76,7 @@ pub fn replay(alloc: Global, input: &[u8]) -> HubReply
 fn try_replay(alloc: Global, input: &[u8]) -> Result<HubReply, NoMemory>
     ensures { IfOk result (IsReplyTo input.now) }
 {
-    let script = match read_script(alloc, input) {
+    let script = match read_hub_script(alloc, input) {
         Ok(script) => script,
         Err(ScriptError::BadLine(line)) => {
             return Ok(HubReply::BadLine(numbered_line(alloc, b"bad line ", line)?));
@@ -84,7 +84,7 @@ fn try_replay(alloc: Global, input: &[u8]) -> Result<HubReply, NoMemory>
         Err(ScriptError::NoMemory) => return Err(AllocError),
     };
     match drive_hub(alloc, &script.config, &script.events) {
-        Ok(trace) => Ok(HubReply::Done(report_of(alloc, &trace)?)),
+        Ok(trace) => Ok(HubReply::Done(hub_report_of(alloc, &trace)?)),
         Err(HubError::Misplaced(index, trace)) => {
             Ok(HubReply::Misplaced(stopped(alloc, &trace, index)?))
         }
@@ -96,7 +96,7 @@ fn try_replay(alloc: Global, input: &[u8]) -> Result<HubReply, NoMemory>
 fn stopped(alloc: Global, trace: &HubTrace<'_>, index: usize) -> Result<Vec<u8>, NoMemory>
     ensures { IfOk result (λ text. IsStoppedText trace.now index text.items) }
 {
-    let mut text = report_of(alloc, trace)?;
+    let mut text = hub_report_of(alloc, trace)?;
     let line = numbered_line(alloc, b"misplaced ", index)?;
     text.extend_from_slice(&line)?;
     Ok(text)

@@ -11,7 +11,7 @@ use std::alloc::Global;
 
 /// A line for each outcome of the trace, and then, of each connection by its number, the bytes that are still to be
 /// written.
-pub fn report_of(alloc: Global, trace: &HubTrace<'_>) -> Result<Vec<u8>, NoMemory>
+pub fn hub_report_of(alloc: Global, trace: &HubTrace<'_>) -> Result<Vec<u8>, NoMemory>
     ensures { IfOk result (λ text. IsReport trace.now text.items) }
 {
     let mut text = step_lines(alloc, &trace.steps)?;

@@ -18,13 +18,13 @@ const LINE_FEED: u8 = b'\n';
 
 /// What a script says.
 #[derive(Drop)]
-pub struct Script {
+pub struct HubScript {
     pub config: ServiceConfig,
     pub events: Vec<HubEvent>,
 }
 
 /// The config and the events of a script. Its last line feed may be missing.
-pub fn read_script(alloc: Global, text: &[u8]) -> Result<Script, ScriptError>
+pub fn read_hub_script(alloc: Global, text: &[u8]) -> Result<HubScript, ScriptError>
     ensures { ReadsScript result (script_of text.now) }
 {
     let mut lines = Pieces::new(without_last_feed(text), LINE_FEED);
@@ -35,7 +35,7 @@ pub fn read_script(alloc: Global, text: &[u8]) -> Result<Script, ScriptError>
         return Err(ScriptError::BadLine(1));
     };
     let events = event_lines(alloc, config.h1_hold_size(), lines)?;
-    Ok(Script { config, events })
+    Ok(HubScript { config, events })
 }
 
 // The events of the second line and those after it.

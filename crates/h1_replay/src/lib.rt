@@ -43,6 +43,9 @@ mod websocket;
 mod word;
 
 pub use hub_program::hub_run;
+pub use hub_reply::{HubReply, hub_replay};
+pub use hub_report::hub_report_of;
+pub use hub_script::{HubScript, read_hub_script};
 pub use input::{InputError, read_input};
 pub use output::write_all;
 pub use pieces::{Pieces, first_piece};

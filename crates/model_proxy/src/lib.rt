@@ -15,8 +15,8 @@
 //!
 //! # The laws
 //!
-//! - [`requests`]: a server reads exactly the requests that were sent on, and one line frames each body.
-//! - [`answers`], [`replies`]: any bytes hold one answer, and no line of the server frames what the client gets for it.
+//! - [`request_laws`]: a server reads exactly the requests that were sent on, and one line frames each body.
+//! - [`response_laws`], [`replies`]: any bytes hold one answer, and no line of the server frames what the client gets for it.
 //! - [`forwarders`], [`trace_laws`]: what a server got, and what is read of its answers, by all that happened.
 //! - [`left_laws`]: what each call of a connection leaves to do.
 //! - [`examples`]: small requests, answers and histories with all their values.

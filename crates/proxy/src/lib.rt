@@ -3,7 +3,7 @@
 //! it puts out towards either.
 //!
 //! - [`Proxy`] is the forwarder. [`BegunReply`] tells what was replied, for a log.
-//! - [`client`] and [`server`] are the calls of its two connections, each made only where it is allowed.
+//! - [`downstream`] and [`upstream`] are the calls of its two connections, each made only where it is allowed.
 //! - [`laws`]: what the contracts come to over many events.
 //!
 //! # Example

@@ -6,7 +6,8 @@ use Rattle.model_h1.specs.Event as on
 use Rattle.model_client.specs.ClientEvent as asked
 use Rattle.model_proxy.specs.Past.{ProxyEvent, took, gave}
 use Rattle.proxy.specs.declared.proxy.Proxy.{Proxy}
-use Rattle.proxy.specs.Kept.{GoesBy, server_of, client_takes, server_allows}
+use Rattle.proxy.specs.Kept.{server_of, client_takes, server_allows}
+use Rattle.proxy_loop.specs.History.{ForwarderDoes}
 use Rattle.proxy_loop.specs.declared.flow.TakenIn.{TakenIn}
 use Rattle.proxy_loop.specs.declared.flow.TakenIn.TheVariants as came
 
@@ -16,7 +17,7 @@ Stays old left rest new = (new ≡ old) × Consumes left rest []
 
 -- What a read brought: the bytes that left the source are those that the forwarder was told by the event, and it took them all.
 abbrev pub Told : (List ℕ → ProxyEvent) → ℕ → Proxy → Option (List ℕ) → Option (List ℕ) → Proxy → List ℕ → Type 0
-Told event count old left rest new bytes = Consumes left rest bytes × GoesBy (event bytes) (took count) old new
+Told event count old left rest new bytes = Consumes left rest bytes × ForwarderDoes (event bytes) (took count) old new
 
 -- At the end, and where nothing came, it was told of nothing.
 abbrev pub TakesIn : (List ℕ → ProxyEvent) → Proxy → Option (List ℕ) → Option (List ℕ) → TakenIn → Proxy → Type 0
@@ -28,7 +29,7 @@ TakesIn event old left rest came.Full new = Stays old left rest new
 -- Of the bytes that waited the first so many were written, and no others, and the forwarder gave them. Where nothing was written
 -- it was told of nothing.
 abbrev pub Writes : (ℕ → ProxyEvent) → List ℕ → Proxy → Option (List ℕ) → Option (List ℕ) → Option ℕ → Proxy → Type 0
-Writes event waited old given after (Some n) new = Appends given after (take n waited) × GoesBy (event n) (gave (take n waited)) old new
+Writes event waited old given after (Some n) new = Appends given after (take n waited) × ForwarderDoes (event n) (gave (take n waited)) old new
 Writes event waited old given after None new = Keeps given after × (new ≡ old)
 
 -- ---- causes

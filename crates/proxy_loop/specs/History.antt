@@ -7,16 +7,34 @@ use Rattle.model_proxy.specs.Past.{ProxyStep, ProxyEvent, ProxyOutcome, done}
 use Rattle.model_proxy.specs.Happenings.{Happenings}
 use Rattle.proxy.specs.declared.proxy.Proxy.{Proxy}
 use Rattle.proxy.specs.Kept.{Forwards, GoesBy, server_of, server_allows, client_takes, wants_server}
+use Rattle.proxy.specs.Rests.{RestsWhereItMay}
+use Rattle.proxy.specs.Served.{IsServed}
+use Rattle.proxy.specs.Replies.{Replies, RepliesRefused}
 
--- it stands for what happened after some events
+-- It stands for what happened after some events; and what its client's connection wants is what the request under way is to get.
 pub record HasHistory (p : Proxy) : Type 0 where
   pub history : List ProxyStep
   pub all : Happenings
   pub stands : Forwards p history all
+  pub served : IsServed p
+
+-- The event's own step on its own connection, and then turns, each with its cause; where a server connection is refused, first the 502.
+abbrev pub RepliesBy : ProxyEvent → ProxyOutcome → Proxy → Proxy → Type 0
+RepliesBy told.refused outcome old new = RepliesRefused old new
+RepliesBy event outcome old new = Replies event outcome old new
+
+-- By this event a forwarder went on: that was added to all that happened before; nothing is left to do where turns may be made; what the client's
+-- connection wants is what the request under way is to get; and what was done on each connection, and which parts of a reply were put, has its
+-- cause.
+pub record ForwarderDoes (event : ProxyEvent) (outcome : ProxyOutcome) (old new : Proxy) : Type 0 where
+  pub goes : GoesBy event outcome old new
+  pub rests : RestsWhereItMay new
+  pub served : IsServed new
+  pub replied : RepliesBy event outcome old new
 
 -- it went on by the event where it was told of it, and is else what it was
 abbrev pub IfTold : Bool → ProxyEvent → ProxyOutcome → Proxy → Proxy → Type 0
-IfTold true event outcome old new = GoesBy event outcome old new
+IfTold true event outcome old new = ForwarderDoes event outcome old new
 IfTold false event outcome old new = new ≡ old
 
 -- that the server has ended is told exactly where its connection is there and hasn't

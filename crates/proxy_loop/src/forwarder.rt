@@ -1,11 +1,14 @@
 //! A forwarder that always has a history.
-ghost use Rattle.std.specs.Prelude.{◌≡◌, ◌≤◌, take, min, length, is_some, IsTrue, IfOk, OnOk};
+ghost use Rattle.std.specs.Prelude.{◌≡◌, ◌≤◌, [], take, min, length, is_some, IsTrue, IfOk, OnOk};
 ghost use Rattle.model_h1.specs.Event as on;
 ghost use Rattle.model_client.specs.ClientEvent as asked;
 ghost use Rattle.model_proxy.specs.Past.{took, gave, done};
 ghost use Rattle.model_proxy.specs.Past as event;
-ghost use Rattle.proxy.specs.Kept.{Goes, GoesBy, client_of, server_of, server_text, client_takes, client_room, server_room, server_allows, wants_server};
-ghost use Rattle.proxy_loop.specs.History.{EndsServer, Connects, Refuses, Ticks};
+ghost use Rattle.model_proxy.specs.Happenings.{nothing_happened};
+ghost use Rattle.proxy.specs.Kept.{Forwards, Goes, client_of, server_of, server_text, client_takes, client_room, server_room, server_allows, wants_server};
+ghost use Rattle.proxy.specs.Rests.{IsNoted};
+ghost use Rattle.proxy.specs.Served.{IsServed};
+ghost use Rattle.proxy_loop.specs.History.{ForwarderDoes, EndsServer, Connects, Refuses, Ticks};
 
 use proxy::{BegunReply, Expiry, NoMemory, Proxy, ServiceConfig};
 use std::alloc::Global;
@@ -37,7 +40,10 @@ impl Model for Forwarder {
 impl Forwarder {
     /// A forwarder to which nothing happened. It takes no memory.
     #[tactic(auto, using(crate::proofs::Histories::begins))]
-    pub fn new(alloc: Global, config: ServiceConfig) -> Forwarder {
+    pub fn new(alloc: Global, config: ServiceConfig) -> Forwarder
+        ensures forwards { Forwards result [] nothing_happened }
+        ensures served { IsServed result }
+    {
         Forwarder {
             alloc,
             config,
@@ -54,14 +60,16 @@ impl Forwarder {
 
     /// From now on its replies are noted, and are to be taken after each event.
     pub fn note_replies(&mut self)
-        ensures { Goes self.old self.new }
+        ensures goes { Goes self.old self.new }
+        ensures noted { IsNoted self.old self.new }
     {
         self.proxy.note_replies();
     }
 
     /// The replies that were begun since they were last taken, in order.
     pub fn take_replies(&mut self) -> Vec<BegunReply>
-        ensures { Goes self.old self.new }
+        ensures goes { Goes self.old self.new }
+        ensures noted { IsNoted self.old self.new }
     {
         self.proxy.take_replies()
     }
@@ -69,7 +77,7 @@ impl Forwarder {
     /// Takes bytes that were read from the client, from the first on, and says how many.
     #[tactic(auto, using(crate::proofs::Histories::begins))]
     pub fn read_client(&mut self, bytes: &[u8]) -> Result<usize, NoMemory>
-        ensures goes { IfOk result (λ count. GoesBy (event.client bytes.now) (took count) self.old self.new) }
+        ensures goes { IfOk result (λ count. ForwarderDoes (event.client bytes.now) (took count) self.old self.new) }
         ensures took { IfOk result (λ count. count ≡ min (length bytes.now) (client_room self.old)) }
     {
         match self.proxy.read_client(bytes) {
@@ -84,7 +92,7 @@ impl Forwarder {
     /// Takes bytes that were read from the server, from the first on, and says how many.
     #[tactic(auto, using(crate::proofs::Histories::begins))]
     pub fn read_server(&mut self, bytes: &[u8]) -> Result<usize, NoMemory>
-        ensures goes { IfOk result (λ count. GoesBy (event.server bytes.now) (took count) self.old self.new) }
+        ensures goes { IfOk result (λ count. ForwarderDoes (event.server bytes.now) (took count) self.old self.new) }
         ensures took { IfOk result (λ count. count ≡ min (length bytes.now) (server_room self.old)) }
     {
         match self.proxy.read_server(bytes) {
@@ -99,7 +107,7 @@ impl Forwarder {
     /// The client sends no more bytes.
     #[tactic(auto, using(crate::proofs::Histories::begins))]
     pub fn client_eof(&mut self) -> Result<(), NoMemory>
-        ensures goes { OnOk result (GoesBy event.client_eof done self.old self.new) }
+        ensures goes { OnOk result (ForwarderDoes event.client_eof done self.old self.new) }
     {
         match self.proxy.client_eof() {
             Ok(()) => Ok(()),
@@ -169,7 +177,7 @@ impl Forwarder {
     pub fn advance_client(&mut self, count: usize) -> Result<(), NoMemory>
         requires can_write_client { IsTrue (client_takes self.old (on.write count)) }
         requires fits { count ≤ length (client_of self.old).kept.buffered }
-        ensures goes { OnOk result (GoesBy (event.to_client count) (gave (take count (client_of self.old).kept.buffered)) self.old self.new) }
+        ensures goes { OnOk result (ForwarderDoes (event.to_client count) (gave (take count (client_of self.old).kept.buffered)) self.old self.new) }
     {
         match self.proxy.advance_client(count) {
             Ok(()) => Ok(()),
@@ -185,7 +193,7 @@ impl Forwarder {
     pub fn advance_server(&mut self, count: usize) -> Result<(), NoMemory>
         requires can_write_server { IsTrue (server_allows (server_of self.old) (asked.write count)) }
         requires fits { count ≤ length (server_text (server_of self.old)) }
-        ensures goes { OnOk result (GoesBy (event.to_server count) (gave (take count (server_text (server_of self.old)))) self.old self.new) }
+        ensures goes { OnOk result (ForwarderDoes (event.to_server count) (gave (take count (server_text (server_of self.old)))) self.old self.new) }
     {
         match self.proxy.advance_server(count) {
             Ok(()) => Ok(()),

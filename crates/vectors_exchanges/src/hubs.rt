@@ -4,7 +4,7 @@ mod words;
 
 use crate::hubs::events::read_events;
 use bytes::Bytes;
-use h1_replay::replay;
+use h1_replay::hub_replay;
 use rooms::{HubError, HubEvent, NoMemory, ServiceConfigBuilder, drive_hub};
 use std::alloc::Global;
 use vectors::{Case, Player, Report};
@@ -68,7 +68,7 @@ fn script(alloc: Global, case: &Case<'_>, found: &mut Report) -> Result<bool, No
     let [text] = case.arguments.as_slice() else {
         return Ok(false);
     };
-    let reply = replay(alloc, text.as_slice());
+    let reply = hub_replay(alloc, text.as_slice());
     found.put_decimal(u64::from(reply.status()));
     found.put_text(" ");
     found.put_quoted(reply.text());

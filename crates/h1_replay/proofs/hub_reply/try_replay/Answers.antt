@@ -10,7 +10,7 @@ returns-in-Ok-drive_hub c = record {
   trace = c.in-Ok-drive_hub.trace;
   script = c.in-Ok.ensures;
   whole = rw c.deref.ensures.value at c.in-Ok-drive_hub.ensures.ok;
-  report = c.in_ok-report_of-in-Ok-drive_hub.ensures;
+  report = c.in_ok-hub_report_of-in-Ok-drive_hub.ensures;
 }
 
 pub returns-in-Err-Misplaced : goal.returns-in-Err-Misplaced

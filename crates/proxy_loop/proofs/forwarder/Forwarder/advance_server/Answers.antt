@@ -2,15 +2,18 @@ use Rattle.std.proofs.Common.{take, subst}
 use Rattle.model_proxy.specs.Past as event
 use Rattle.model_proxy.specs.Past.{gave}
 use Rattle.proxy.specs.declared.proxy.Proxy.{Proxy}
-use Rattle.proxy.specs.Kept.{GoesBy, server_of, server_text}
-use Rattle.proxy_loop.proofs.Histories.{goes_by}
+use Rattle.proxy.specs.Kept.{server_of, server_text}
+use Rattle.proxy_loop.specs.History.{ForwarderDoes}
+use Rattle.proxy_loop.proofs.Histories.{goes_by, does}
 use Rattle.proxy_loop.proofs.forwarder.Forwarder.advance_server.Goals as goal
 
 pub invariant_of-self : goal.invariant_of-self
 invariant_of-self c =
-    goes_by (event.to_server c.args.count) (gave (take c.args.count (server_text (server_of c.self.inside.proxy)))) c.self.inside.proxy c.advance_server.new.self c.self.invariant c.in-Ok.ensures.goes
+    goes_by (event.to_server c.args.count) (gave (take c.args.count (server_text (server_of c.self.inside.proxy)))) c.self.inside.proxy c.advance_server.new.self c.self.invariant c.in-Ok.ensures.goes c.in-Ok.ensures.serves
 
 pub returns-in-Ok : goal.returns-in-Ok
 returns-in-Ok c = record {
-  goes = subst (λ (p : Proxy). GoesBy (event.to_server c.args.count) (gave (take c.args.count (server_text (server_of p)))) p c.advance_server.new.self) c.self.view_is c.in-Ok.ensures.goes;
+  goes = subst (λ (p : Proxy). ForwarderDoes (event.to_server c.args.count) (gave (take c.args.count (server_text (server_of p)))) p c.advance_server.new.self) c.self.view_is
+      (does (event.to_server c.args.count) (gave (take c.args.count (server_text (server_of c.self.inside.proxy)))) c.self.inside.proxy c.advance_server.new.self c.self.invariant c.in-Ok.ensures.goes c.in-Ok.ensures.rests
+      c.in-Ok.ensures.serves c.in-Ok.ensures.replies);
 }

@@ -1,14 +1,15 @@
 use Rattle.model_proxy.specs.Past as event
 use Rattle.model_proxy.specs.Past.{took}
 use Rattle.proxy.specs.Kept.{client_room}
-use Rattle.proxy_loop.proofs.Histories.{goes_by, seen_by, takes}
+use Rattle.proxy_loop.proofs.Histories.{goes_by, does, seen_by, takes}
 use Rattle.proxy_loop.proofs.forwarder.Forwarder.read_client.Goals as goal
 
 pub invariant_of-self : goal.invariant_of-self
-invariant_of-self c = goes_by (event.client c.args.bytes.now) (took c.in-Ok.count) c.self.inside.proxy c.read_client.new.self c.self.invariant c.in-Ok.ensures.goes
+invariant_of-self c = goes_by (event.client c.args.bytes.now) (took c.in-Ok.count) c.self.inside.proxy c.read_client.new.self c.self.invariant c.in-Ok.ensures.goes c.in-Ok.ensures.serves
 
 pub returns-in-Ok : goal.returns-in-Ok
 returns-in-Ok c = record {
-  goes = seen_by (event.client c.args.bytes.now) (took c.in-Ok.count) c.self.inside.proxy c.args.self.now c.read_client.new.self c.self.view_is c.in-Ok.ensures.goes;
+  goes = seen_by (event.client c.args.bytes.now) (took c.in-Ok.count) c.self.inside.proxy c.args.self.now c.read_client.new.self c.self.view_is
+      (does (event.client c.args.bytes.now) (took c.in-Ok.count) c.self.inside.proxy c.read_client.new.self c.self.invariant c.in-Ok.ensures.goes c.in-Ok.ensures.rests c.in-Ok.ensures.serves c.in-Ok.ensures.replies);
   took = takes c.self.inside.proxy c.args.self.now c.in-Ok.count c.args.bytes.now client_room c.self.view_is c.self.invariant c.in-Ok.ensures.took;
 }
