@@ -1,12 +1,14 @@
 -- An exchange that goes on twice goes on.
-use Rattle.std.specs.Prelude.{◌≡◌, ℕ, Bool, true, false, ◌||◌, List, [], ◌∷◌, ◌++◌, Option, Some, None, Result, Ok, Err, OnOk}
-use Rattle.std.proofs.Common.{refl, sym, ap, subst, ◌∙◌, append_assoc, append-nil}
-use Rattle.std.specs.Io.KnownBytes.{Consumes, Appends}
-use Rattle.std.proofs.KnownBytes.{Consumes-nil, Appends-nil, Consumes-trans, Appends-trans}
+use Rattle.std.specs.Prelude.{◌≡◌, ℕ, ◌<◌, ◌≤◌, ◌+◌, Bool, true, false, ◌||◌, List, [], ◌∷◌, ◌++◌, length, Option, Some, None, Result, Ok, Err, OnOk}
+use Rattle.std.proofs.Common.{refl, sym, ap, subst, ◌∙◌, append_assoc, append-nil, length-append, arith}
+use Rattle.std.specs.Io.KnownBytes.{Consumes, Appends, Keeps}
+use Rattle.std.proofs.KnownBytes.{Consumes-nil, Appends-nil, Consumes-trans, Appends-trans, Keeps-refl, Keeps-trans}
 use Rattle.h1_client.specs.State.{Stands}
 use Rattle.model_client.specs.ClientTrace.{Happened, taken, taken_by, written, given as gave}
 use Rattle.model_client.specs.ClientEvent.{ClientEvent}
-use Rattle.app_get.specs.Exchange.{Ends, Goes, handed, handed_by, given, given_by, noted, noted_by, has_event, ends_input, ends_body, drops_rest, Empties}
+use Rattle.app_get.specs.Exchange.{Ends, Goes, Acts, handed, handed_by, given, given_by, noted, noted_by, has_event, ends_input, ends_body, drops_rest, Empties, IsTaken}
+use Rattle.app_get.specs.declared.answer.Taken.{Taken}
+use Rattle.app_get.specs.declared.answer.Taken.TheVariants as taking
 
 -- ---- sums of what happened first and then
 
@@ -53,6 +55,10 @@ has_then is_such [] xs = or_none (has_event is_such xs)
 has_then is_such (y ∷ ys) xs =
     ap (λ (b : Bool). b || is_such y.event) (has_then is_such ys xs) ∙ or_assoc (has_event is_such xs) (has_event is_such ys) (is_such y.event)
 
+none_both : (xs ys : List ℕ) → xs ≡ [] → ys ≡ [] → xs ++ ys ≡ []
+none_both [] ys first second = second
+none_both (x ∷ xs) ys first second = absurd (cc first)
+
 none_behind : (xs ys : List ℕ) → [] ≡ xs ++ ys → ys ≡ []
 none_behind [] ys is = sym is
 none_behind (x ∷ xs) ys is = absurd (cc is)
@@ -92,6 +98,8 @@ goes_none a = record {
   input_end = λ told. absurd (cc told);
   body_end = λ told. absurd (cc told);
   none_dropped = refl;
+  heard = λ unheard. (unheard, refl);
+  silent = λ none. (none, Keeps-refl a.out);
   status = refl;
   shows = refl;
 }
@@ -118,6 +126,14 @@ goes_then a b c first second = record {
   none_dropped =
       has_then drops_rest second.more first.more
       ∙ or_neither (has_event drops_rest first.more) (has_event drops_rest second.more) first.none_dropped second.none_dropped;
+  heard = λ unheard.
+      let then_ : (b.begun ≡ false) × (taken second.more ≡ []) = second.heard unheard in
+      let before : (a.begun ≡ false) × (taken first.more ≡ []) = first.heard then_.0 in
+      (before.0, taken_then second.more first.more ∙ none_both (taken first.more) (taken second.more) before.1 then_.1);
+  silent = λ none.
+      let then_ : (b.status ≡ None) × Keeps b.out c.out = second.silent none in
+      let before : (a.status ≡ None) × Keeps a.out b.out = first.silent then_.0 in
+      (before.0, Keeps-trans a.out b.out c.out before.1 then_.1);
   status = second.status ∙ ap (noted second.more) first.status ∙ sym (noted_then second.more first.more a.status);
   shows = second.shows ∙ first.shows;
 }
@@ -126,3 +142,28 @@ goes_then a b c first second = record {
 pub ok_then : {T E : Type 0} (r : Result T E) (a b c : Ends) → Goes a b → OnOk r (Goes b c) → OnOk r (Goes a c)
 ok_then (Ok x) a b c first second = goes_then a b c first second
 ok_then (Err e) a b c first second = tt
+
+-- ---- going on by an event
+
+-- as many events as both ways have
+pub more_then : (a b c : Ends) (first : Goes a b) (second : Goes b c) → length (goes_then a b c first second).more ≡ length second.more + length first.more
+unfolding goes_then
+more_then a b c first second = length-append second.more first.more
+
+pub acts_then : (a b c : Ends) → Acts a b → Goes b c → Acts a c
+acts_then a b c first second = record {
+  goes = goes_then a b c first.goes second;
+  some = omega (arith, first.some, more_then a b c first.goes second);
+}
+
+pub then_acts : (a b c : Ends) → Goes a b → Acts b c → Acts a c
+then_acts a b c first second = record {
+  goes = goes_then a b c first second.goes;
+  some = omega (arith, second.some, more_then a b c first second.goes);
+}
+
+-- what was taken has gone on
+pub taken_goes : (t : Taken) (a b : Ends) → IsTaken t a b → Goes a b
+taken_goes (taking.Whole status) a b is = is.0
+taken_goes taking.Part a b is = is.goes
+taken_goes taking.Nothing a b is = is.0.goes

@@ -1,3 +1,5 @@
 pub mod Freed
 pub mod Going
 pub mod Steps
+pub mod Stopping
+pub mod Taking

@@ -1,8 +1,8 @@
 -- What moves in an exchange: from the connection to the server and back, out of the file that is sent, and to the output.
-use Rattle.std.specs.Prelude.{◌≡◌, ℕ, Bool, true, false, ◌||◌, List, [], ◌++◌, ◌∷◌, if◌then◌else◌, Option, Some, None, ⊤}
-use Rattle.std.specs.Io.KnownBytes.{Consumes, Appends}
+use Rattle.std.specs.Prelude.{◌≡◌, ℕ, ◌<◌, Bool, true, false, ◌||◌, List, [], ◌++◌, ◌∷◌, length, if◌then◌else◌, Option, Some, None, ⊤}
+use Rattle.std.specs.Io.KnownBytes.{Consumes, Appends, Keeps}
 use Rattle.h1_client.specs.ClientMeaning.{setting_of}
-use Rattle.h1_client.specs.State.{State, Stands}
+use Rattle.h1_client.specs.State.{State, Stands, GoesOn, Is}
 use Rattle.model_client.specs.ClientEvent as on
 use Rattle.model_client.specs.ClientEvent.{ClientEvent, ClientOutcome, ClientEnd}
 use Rattle.model_client.specs.ClientKept.{client_allows, client_closing, is_free}
@@ -12,7 +12,8 @@ use Rattle.app_get.specs.declared.answer.Taken.{Taken}
 use Rattle.app_get.specs.declared.answer.Taken.TheVariants as taking
 
 -- A connection, what is left to come from the server and what the server was sent, what is left of the file, and what went
--- to the output, where they tell it; whether the answer's head is written too, and the answer's status, once its head came.
+-- to the output, where they tell it; whether the answer's head is written too; the answer's status, once its head came;
+-- whether a byte of the answer came; and how often the server's bytes, the file and the output failed.
 pub record Ends : Type 0 where
   pub state : State
   pub came : Option (List ℕ)
@@ -21,11 +22,20 @@ pub record Ends : Type 0 where
   pub out : Option (List ℕ)
   pub shows : Bool
   pub status : Option ℕ
+  pub begun : Bool
+  pub came_faults : ℕ
+  pub file_faults : ℕ
+  pub out_faults : ℕ
 
 -- what is left of a file: nothing once it was handed in whole
 abbrev pub file_left : {B : Type 0} → (B → Option (List ℕ)) → Option B → Option (List ℕ)
 file_left left None = Some []
 file_left left (Some b) = left b
+
+-- how often a file failed
+abbrev pub file_faults : {B : Type 0} → (B → ℕ) → Option B → ℕ
+file_faults faults None = 0
+file_faults faults (Some b) = faults b
 
 -- ---- what happened, the last first
 
@@ -88,7 +98,8 @@ Empties (Some bytes) new = new ≡ Some []
 -- It goes on by these events: the bytes that came are those that the connection took, the bytes that were sent are those
 -- that it gave to be written, what was handed in comes out of the file, and the bytes of the answer's body, and nothing
 -- else, are written out, unless the answer's head is written too. The input's end is told only once nothing is left to come,
--- and the body's end only once nothing is left of the file. No body is dropped.
+-- and the body's end only once nothing is left of the file. No body is dropped. While it isn't known that a byte of the answer
+-- came, none was taken, and while there is no status, nothing was written out.
 pub record Goes (old new : Ends) : Type 0 where
   pub more : List Happened
   pub stands : (before : List Happened) → Stands old.state before → Stands new.state (more ++ before)
@@ -99,8 +110,15 @@ pub record Goes (old new : Ends) : Type 0 where
   pub input_end : has_event ends_input more ≡ true → Empties old.came new.came
   pub body_end : has_event ends_body more ≡ true → Empties old.file new.file
   pub none_dropped : has_event drops_rest more ≡ false
+  pub heard : new.begun ≡ false → (old.begun ≡ false) × (taken more ≡ [])
+  pub silent : new.status ≡ None → (old.status ≡ None) × Keeps old.out new.out
   pub status : new.status ≡ noted more old.status
   pub shows : new.shows ≡ old.shows
+
+-- the same, by one event at least
+pub record Acts (old new : Ends) : Type 0 where
+  pub goes : Goes old new
+  pub some : 0 < length goes.more
 
 -- ---- the answer's end
 
@@ -119,7 +137,22 @@ pub record IsWhole (state : State) : Type 0 where
   pub unbroken : is_failure (client_closing state.kept) ≡ false
   pub free : (trace : List Happened) → Stands state trace → is_free state.kept ≡ true
 
--- what was taken of an answer: where it is the rest, the answer is whole and has this status
-abbrev pub IsTaken : Taken → Ends → Type 0
-IsTaken (taking.Whole status) ends = IsWhole ends.state × (ends.status ≡ Some status)
-IsTaken other ends = ⊤
+-- more of an answer is asked for
+abbrev pub asks_more : ClientEvent → Bool
+asks_more on.next = true
+asks_more on.pull = true
+asks_more _ = false
+
+-- more of an answer was asked for last, and nothing more has come
+pub record IsPending (state : State) : Type 0 where
+  pub before : State
+  pub event : ClientEvent
+  pub asks : asks_more event ≡ true
+  pub answered : GoesOn before event (Is on.pending) state
+
+-- What was taken of an answer. Where it is the rest, the answer is whole, and has this status. A part is taken by an event at
+-- least. Where it is nothing, nothing more has come.
+abbrev pub IsTaken : Taken → Ends → Ends → Type 0
+IsTaken (taking.Whole status) old new = Goes old new × IsWhole new.state × (new.status ≡ Some status)
+IsTaken taking.Part old new = Acts old new
+IsTaken taking.Nothing old new = Acts old new × IsPending new.state

@@ -1,6 +1,7 @@
 //! One request and its answer over a connection: a client's whole loop.
-ghost use Rattle.std.specs.Prelude.{◌≡◌, None, Some, OnOk, IfOk};
-ghost use Rattle.app_get.specs.Exchange.{Ends, file_left, Goes, IsWhole};
+ghost use Rattle.std.specs.Prelude.{◌≡◌, ◌⊎◌, false, None, Some, OnOk, IfOk, IfErr};
+ghost use Rattle.app_get.specs.Exchange.{Ends, file_left, file_faults, Goes, IsWhole, IsPending};
+ghost use Rattle.app_get.specs.Failure.{Stops, IsEndless};
 
 use crate::answer::Taken;
 use crate::error::GetError;
@@ -40,7 +41,7 @@ pub struct Exchange<S: TimedSource, K: TimedSink, B: Source, O: Sink> {
 }
 
 impl<S: TimedSource, K: TimedSink, B: Source, O: Sink> Model for Exchange<S, K, B, O> {
-    ghost use Rattle.app_get.specs.Exchange.{Ends, file_left};
+    ghost use Rattle.app_get.specs.Exchange.{Ends, file_left, file_faults};
 
     ghost Value = { Ends };
 
@@ -52,6 +53,10 @@ impl<S: TimedSource, K: TimedSink, B: Source, O: Sink> Model for Exchange<S, K, 
       out = O.given e.out;
       shows = e.shows_head;
       status = e.status;
+      begun = e.has_begun;
+      came_faults = S.faults e.input;
+      file_faults = file_faults B.faults e.body;
+      out_faults = O.faults e.out;
     } };
 }
 
@@ -80,6 +85,10 @@ impl<S: TimedSource + Drop, K: TimedSink + Drop, B: Source + Drop, O: Sink + Dro
           out = O.given out;
           shows = shows_head;
           status = None;
+          begun = false;
+          came_faults = S.faults input;
+          file_faults = file_faults B.faults body;
+          out_faults = O.faults out;
         } }
     {
         Exchange {
@@ -123,9 +132,10 @@ impl<S: TimedSource + Drop, K: TimedSink + Drop, B: Source + Drop, O: Sink + Dro
         ensures goes { OnOk result (Goes self.old self.new) }
         ensures whole { OnOk result (IsWhole self.new.state) }
         ensures status { IfOk result (λ status. self.new.status ≡ Some status) }
+        ensures stops { IfErr result (λ error. Stops self.old self.new error ⊎ IsEndless self.old self.new error) }
     {
         let mut patience = Patience::begin(&self.input, wait);
-        for _ in 0..u64::MAX {
+        for _turn in 0..u64::MAX {
             self.fill()?;
             let sent = self.send();
             match self.take()? {
@@ -142,7 +152,9 @@ impl<S: TimedSource + Drop, K: TimedSink + Drop, B: Source + Drop, O: Sink + Dro
 
     // Reads what has come. Where nothing else can be done it waits.
     fn listen(&mut self, sent: Sent, patience: &mut Patience) -> Result<(), GetError>
-        ensures { OnOk result (Goes self.old self.new) }
+        requires pending { IsPending self.old.state }
+        ensures goes { OnOk result (Goes self.old self.new) }
+        ensures stops { IfErr result (λ error. Stops self.old self.new error) }
     {
         let left = patience.left(&self.input)?;
         let wait = match sent {

@@ -1,6 +1,8 @@
 //! What is written to the output.
-ghost use Rattle.std.specs.Prelude.{OnOk};
+ghost use Rattle.std.specs.Prelude.{◌≡◌, OnOk, OnErr, IfErr};
 ghost use Rattle.std.specs.Io.KnownBytes.{Appends};
+ghost use Rattle.http_config.specs.Causes.{Rose};
+ghost use Rattle.app_get.specs.Failure.{IsPart, IsUnshown};
 
 use crate::error::GetError;
 use bytes::BytesMut;
@@ -9,16 +11,18 @@ use http_types::{NoMemory, Sink, Version};
 use itoa::Buffer;
 use std::alloc::Global;
 
-/// Writes all bytes.
+/// Writes all bytes, or, where the output fails, the first of them.
 pub fn write_all<O: Sink>(out: &mut O, bytes: &[u8]) -> Result<(), GetError>
-    ensures { OnOk result (Appends (O.given out.old) (O.given out.new) bytes.now) }
+    ensures ok { OnOk result (Appends (O.given out.old) (O.given out.new) bytes.now) }
+    ensures part { OnErr result (IsPart (O.given out.old) (O.given out.new) bytes.now) }
+    ensures cause { IfErr result (λ error. (error ≡ GetError.Output) × Rose (O.faults out.old) (O.faults out.new)) }
 {
     let mut rest = bytes;
     while !rest.is_empty() {
-        let Ok(count) = out.write(rest) else {
-            return Err(GetError::Output);
-        };
-        rest = &rest[count..];
+        match out.write(rest) {
+            Ok(count) => rest = &rest[count..],
+            Err(_) => return Err(GetError::Output),
+        }
     }
     Ok(())
 }
@@ -28,7 +32,9 @@ pub fn write_head<O: Sink>(
     alloc: Global,
     item: &ResponseItem,
     out: &mut O,
-) -> Result<(), GetError> {
+) -> Result<(), GetError>
+    ensures { IfErr result (λ error. IsUnshown error (O.given out.old) (O.given out.new) (O.faults out.old) (O.faults out.new)) }
+{
     let text = head_text(alloc, item)?;
     write_all(out, text.as_slice())
 }

@@ -1,8 +1,9 @@
 // Both directions of the connection's socket.
-ghost use Rattle.std.specs.Prelude.{◌<◌, ℕ, List, length, OnOk};
+ghost use Rattle.std.specs.Prelude.{◌<◌, ℕ, List, length, OnOk, IfErr};
 ghost use Rattle.h1_client.specs.State.{IsAllowed};
 ghost use Rattle.model_client.specs.ClientEvent as on;
 ghost use Rattle.app_get.specs.Exchange.{Goes};
+ghost use Rattle.app_get.specs.Failure.{Stops};
 
 use crate::error::GetError;
 use crate::exchange::Exchange;
@@ -68,7 +69,8 @@ impl<S: TimedSource + Drop, K: TimedSink + Drop, B: Source + Drop, O: Sink + Dro
     /// something has.
     #[tactic(auto, using(crate::proofs::Going::goes_none, crate::proofs::Going::goes_then))]
     pub(crate) fn read_more(&mut self, wait: u64) -> Result<bool, GetError>
-        ensures { OnOk result (Goes self.old self.new) }
+        ensures goes { OnOk result (Goes self.old self.new) }
+        ensures stops { IfErr result (λ error. Stops self.old self.new error) }
     {
         if !self.connection.can_read() {
             return Err(GetError::Lost);
@@ -87,7 +89,8 @@ impl<S: TimedSource + Drop, K: TimedSink + Drop, B: Source + Drop, O: Sink + Dro
         requires can_read { (bytes : List ℕ) → IsAllowed self.old.state (on.read bytes) }
         requires can_end { IsAllowed self.old.state on.eof }
         requires room { 0 < length piece.old }
-        ensures { OnOk result (Goes self.old self.new) }
+        ensures goes { OnOk result (Goes self.old self.new) }
+        ensures stops { IfErr result (λ error. Stops self.old self.new error) }
     {
         match self.input.read(piece) {
             Ok(0) => {

@@ -1,9 +1,10 @@
 use Rattle.std.proofs.Common.{[], refl, sym, subst, take}
-use Rattle.std.proofs.KnownBytes.{Consumes-nil, Appends-nil}
+use Rattle.std.proofs.KnownBytes.{Consumes-nil, Appends-nil, Keeps-refl}
 use Rattle.h1_client.specs.State.{IsAllowed}
 use Rattle.model_client.specs.ClientEvent as on
 use Rattle.app_get.specs.Exchange.{Ends}
-use Rattle.app_get.proofs.Steps.{ends_none, one_step, done_moves}
+use Rattle.app_get.proofs.Steps.{ends_none, quiet_still, one_step, done_moves}
+use Rattle.app_get.proofs.Stopping.{file_fails, no_memory}
 use Rattle.app_get.proofs.exchange.Exchange.hand_in.Goals as goal
 
 pub chunk-requires : goal.chunk-requires
@@ -15,4 +16,11 @@ pub returns-clause-goes : goal.returns-clause-goes
 returns-clause-goes g c =
     one_step _ _ _ (on.chunk (take c.in_ok-count.count c.read_file.new.piece)) _ [] [] _ [] c.self.view_is c.in_ok-chunk.ensures.stands
     (done_moves (on.chunk (take c.in_ok-count.count c.read_file.new.piece)) _ refl)
-    (Consumes-nil _) (Appends-nil _) c.in_ok-count.ensures.bytes.0 (λ _. Appends-nil _) (ends_none (on.chunk (take c.in_ok-count.count c.read_file.new.piece)) _ _ refl refl refl) refl
+    (Consumes-nil _) (Appends-nil _) c.in_ok-count.ensures.bytes.0 (λ _. Appends-nil _) (ends_none (on.chunk (take c.in_ok-count.count c.read_file.new.piece)) _ _ refl refl refl)
+    (quiet_still _ _ refl (Keeps-refl _)) refl
+
+pub returns-in_err-count-clause-stops : goal.returns-in_err-count-clause-stops
+returns-in_err-count-clause-stops g c = file_fails _ _ _ _ c.self.view_is c.in_err-count.ensures.cause (Keeps-refl _)
+
+pub returns-in_err-chunk-clause-stops : goal.returns-in_err-chunk-clause-stops
+returns-in_err-chunk-clause-stops g c = no_memory _ _ _ _ c.self.view_is refl (Keeps-refl _)

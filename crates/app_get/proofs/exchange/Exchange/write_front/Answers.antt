@@ -3,7 +3,7 @@ use Rattle.std.proofs.KnownBytes.{Consumes-nil, Appends-nil, Keeps-refl}
 use Rattle.h1_client.specs.State.{IsAllowed}
 use Rattle.model_client.specs.ClientEvent as on
 use Rattle.app_get.specs.Exchange.{Ends}
-use Rattle.app_get.proofs.Steps.{ends_none, one_step, no_step, gave_moves, appends_same}
+use Rattle.app_get.proofs.Steps.{ends_none, quiet_still, one_step, no_step, gave_moves, appends_same}
 use Rattle.app_get.proofs.exchange.Exchange.write_front.Goals as goal
 
 pub advance-requires-clause-can_write : goal.advance-requires-clause-can_write
@@ -13,12 +13,13 @@ advance-requires-clause-can_write g c =
 pub returns-in-Ok : goal.returns-in-Ok
 returns-in-Ok g c =
     one_step _ _ _ (on.write c.in-Ok.count) _ [] _ [] [] c.self.view_is c.advance.ensures.stands (gave_moves c.in-Ok.count _ _)
-    (Consumes-nil _) (appends_same _ _ _ _ (ap (λ (l : List ℕ). take c.in-Ok.count l) c.front.ensures) c.in-Ok.ensures.bytes) (Consumes-nil _) (λ _. Appends-nil _) (ends_none (on.write c.in-Ok.count) _ _ refl refl refl) refl
+    (Consumes-nil _) (appends_same _ _ _ _ (ap (λ (l : List ℕ). take c.in-Ok.count l) c.front.ensures) c.in-Ok.ensures.bytes) (Consumes-nil _) (λ _. Appends-nil _) (ends_none (on.write c.in-Ok.count) _ _ refl refl refl)
+    (quiet_still _ _ refl (Keeps-refl _)) refl
 
 pub returns-in-Err : goal.returns-in-Err
 returns-in-Err g c =
-    no_step _ _ _ c.self.view_is refl (Keeps-refl _) c.in-Err.ensures.bytes (Consumes-nil _) (λ _. Appends-nil _) refl refl
+    no_step _ _ _ c.self.view_is refl (Keeps-refl _) c.in-Err.ensures.bytes (Consumes-nil _) (λ _. Appends-nil _) (quiet_still _ _ refl (Keeps-refl _)) refl refl
 
 pub returns-in-Err-2 : goal.returns-in-Err-2
 returns-in-Err-2 g c =
-    no_step _ _ _ c.self.view_is refl (Keeps-refl _) c.in-Err-2.ensures.bytes (Consumes-nil _) (λ _. Appends-nil _) refl refl
+    no_step _ _ _ c.self.view_is refl (Keeps-refl _) c.in-Err-2.ensures.bytes (Consumes-nil _) (λ _. Appends-nil _) (quiet_still _ _ refl (Keeps-refl _)) refl refl

@@ -1,0 +1,65 @@
+-- What is taken of an answer.
+use Rattle.std.specs.Prelude.{◌≡◌, ℕ, ◌+◌, ◌≤◌, Bool, false, length, Option, Some, Result, Ok, Err, IfOk, IsTrue}
+use Rattle.std.proofs.Common.{refl, sym, ap, subst, ◌∙◌, None, arith}
+use Rattle.h1_client.specs.ClientMeaning.{setting_of}
+use Rattle.h1_client.specs.State.{State, Stands, GoesOn, Is}
+use Rattle.model_client.specs.ClientEvent as on
+use Rattle.model_client.specs.ClientEvent.{ClientEvent, ClientOutcome, ClientEnd}
+use Rattle.model_client.specs.ClientKept.{client_allows, client_closing}
+use Rattle.app_get.specs.declared.answer.Taken.{Taken}
+use Rattle.app_get.specs.declared.answer.Taken.TheVariants as taking
+use Rattle.app_get.specs.Exchange.{Ends, Goes, Acts, is_failure, IsWhole, asks_more, IsPending, IsTaken}
+use Rattle.app_get.proofs.Freed.{free_at_end, free_for_next}
+use Rattle.app_get.proofs.Going.{goes_none, goes_then, acts_then, more_then}
+
+-- ---- the rest
+
+-- the connection ends in order
+pub whole_at_end : (a : Ends) (status : ℕ) (end : ClientEnd) → client_allows (setting_of a.state.settings) a.state.kept on.pull ≡ false
+    → client_closing a.state.kept ≡ Some end → is_failure (Some end) ≡ false → a.status ≡ Some status → IsTaken (taking.Whole status) a a
+whole_at_end a status end left is fine noted = (
+  goes_none a,
+  record { nothing_left = left; unbroken = ap is_failure is ∙ fine; free = free_at_end (setting_of a.state.settings) a.state.kept end is fine },
+  noted,
+)
+
+-- or the next answer may come
+pub whole_for_next : (a : Ends) (status : ℕ) → client_allows (setting_of a.state.settings) a.state.kept on.pull ≡ false → client_closing a.state.kept ≡ None
+    → IsTrue (client_allows (setting_of a.state.settings) a.state.kept on.next) → a.status ≡ Some status → IsTaken (taking.Whole status) a a
+whole_for_next a status left is may noted = (
+  goes_none a,
+  record { nothing_left = left; unbroken = ap is_failure is; free = λ trace stands. free_for_next (setting_of a.state.settings) a.state.kept is may },
+  noted,
+)
+
+-- ---- nothing
+
+pub pending_after : (before : State) (event : ClientEvent) (Says : ClientOutcome → Type 0) (after : State) → asks_more event ≡ true → GoesOn before event Says after
+    → ((o : ClientOutcome) → Says o → o ≡ on.pending) → IsPending after
+pending_after before event Says after asks goes is = record {
+  before = before;
+  event = event;
+  asks = asks;
+  answered = record { outcome = goes.outcome; says = is goes.outcome goes.says; step = goes.step; stands = goes.stands };
+}
+
+-- ---- a part, and then
+
+-- a head was heard, and perhaps written out
+pub shown_taken : {E : Type 0} (r : Result Taken E) (a b c : Ends) → Acts a b → IfOk r (λ t. (t ≡ taking.Part) × Goes b c) → IfOk r (λ t. IsTaken t a c)
+shown_taken (Ok t) a b c first second = subst (λ (t : Taken). IsTaken t a c) (sym second.0) (acts_then a b c first second.1)
+shown_taken (Err e) a b c first second = tt
+
+pub part_acts : (t : Taken) (a b : Ends) → IsTaken t a b → t ≡ taking.Part → Acts a b
+part_acts t a b taken is = subst (λ (t : Taken). IsTaken t a b) is taken
+
+pub nothing_acts : (t : Taken) (a b : Ends) → IsTaken t a b → t ≡ taking.Nothing → Acts a b
+nothing_acts t a b taken is = let n : IsTaken taking.Nothing a b = subst (λ (t : Taken). IsTaken t a b) is taken in n.0
+
+-- a turn more, by an event at least
+turned : (a b c : Ends) (n : ℕ) (first : Goes a b) → n ≤ length first.more → Acts b c → (goes : Goes a c) × (n + 1 ≤ length goes.more)
+turned a b c n first few then_ =
+    (goes_then a b c first then_.goes, omega (arith, few, then_.some, more_then a b c first then_.goes))
+
+pub turned_as : (a b c d : Ends) (n : ℕ) → d ≡ c → (first : Goes a b) → n ≤ length first.more → Acts b c → (goes : Goes a d) × (n + 1 ≤ length goes.more)
+turned_as a b c d n same first few then_ = subst (λ (l : Ends). (goes : Goes a l) × (n + 1 ≤ length goes.more)) (sym same) (turned a b c n first few then_)
