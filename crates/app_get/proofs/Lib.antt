@@ -1,5 +1,7 @@
+pub mod Asking
 pub mod Freed
 pub mod Going
+pub mod Outcomes
 pub mod Steps
 pub mod Stopping
 pub mod Taking

@@ -1,3 +1,6 @@
+pub mod Asking
 pub mod Exchange
 pub mod Failure
+pub mod Fetching
 pub mod Patience
+pub mod Places

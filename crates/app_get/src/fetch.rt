@@ -1,4 +1,7 @@
-//! What the program does: URL after URL.
+//! How a URL is fetched.
+ghost use Rattle.std.specs.Prelude.{None};
+
+use crate::each::Fetches;
 use crate::error::GetError;
 use crate::exchange::Exchange;
 use crate::link::Link;
@@ -11,37 +14,48 @@ use net_sockets::{SocketSink, SocketSource, moment};
 use std::fs::File;
 use std::io::ErrorKind;
 
-/// The status of the program where an answer says that it isn't what was asked for.
-const NO_SUCCESS: u8 = 8;
-
-/// Fetches all, and gives the status of the program.
-pub fn fetch_all(rt: HostRuntime, options: &Options<'_>) -> u8 {
-    let mut kept = None;
-    let mut status = 0;
-    for url in options.urls.iter() {
-        match fetch(rt, options, url, kept.take()) {
-            Ok((said, link)) => {
-                kept = Some(link);
-                if said >= 400 {
-                    let _ = eprintln!(rt; "app_get: {url}: the server answers with status {said}");
-                    status = NO_SUCCESS;
-                }
-            }
-            Err(error) => {
-                complain(rt, options, url, error);
-                return error.status();
-            }
-        }
-    }
-    status
+/// What fetches URLs as the options say, over a connection that is kept where that may be.
+#[derive(Drop)]
+pub struct Fetcher<'a> {
+    rt: HostRuntime,
+    options: &'a Options<'a>,
+    kept: Option<Link>,
 }
 
-fn complain(rt: HostRuntime, options: &Options<'_>, url: &str, error: GetError) {
-    let about = match options.file {
-        Some(file) if error.is_of_file() => file,
-        _ => url,
-    };
-    let _ = eprintln!(rt; "app_get: {about}: {error}");
+impl<'a> Fetcher<'a> {
+    /// Without a connection.
+    pub fn new(rt: HostRuntime, options: &'a Options<'a>) -> Fetcher<'a> {
+        Fetcher {
+            rt,
+            options,
+            kept: None,
+        }
+    }
+}
+
+impl<'a> Fetches for Fetcher<'a> {
+    // What is done isn't kept.
+    ghost done = { λ _. None };
+
+    fn fetch(&mut self, url: &str) -> Result<u16, GetError> {
+        let (status, link) = fetch(self.rt, self.options, url, self.kept.take())?;
+        self.kept = Some(link);
+        Ok(status)
+    }
+
+    fn tell_status(&mut self, url: &str, status: u16) {
+        let rt = self.rt;
+        let _ = eprintln!(rt; "app_get: {url}: the server answers with status {status}");
+    }
+
+    fn tell_error(&mut self, url: &str, error: GetError) {
+        let rt = self.rt;
+        let about = match self.options.file {
+            Some(file) if error.is_of_file() => file,
+            _ => url,
+        };
+        let _ = eprintln!(rt; "app_get: {about}: {error}");
+    }
 }
 
 // Fetches one, over the connection that is kept where that may be. It gives the answer's status, and the connection.

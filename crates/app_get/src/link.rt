@@ -1,6 +1,7 @@
 //! A connection to a server.
-ghost use Rattle.std.specs.Prelude.{◌≡◌, true, IsTrue};
+ghost use Rattle.std.specs.Prelude.{◌≡◌, true, IsTrue, IfOk};
 ghost use Rattle.model_client.specs.ClientKept.{is_reusable};
+ghost use Rattle.app_get.specs.Places.{is_place_of, IsAt};
 
 use crate::error::GetError;
 use crate::target::Target;
@@ -24,6 +25,7 @@ pub struct Link {
 /// Where a server is.
 #[derive(Drop)]
 pub struct Place {
+    // As its URL names it: an address of IPv6 in brackets.
     host: String,
     port: u16,
 }
@@ -35,8 +37,10 @@ impl Link {
         alloc: Global,
         target: &Target,
         wait: u64,
-    ) -> Result<Link, GetError> {
-        let host = String::from_str(alloc, target.host())?;
+    ) -> Result<Link, GetError>
+        ensures { IfOk result (λ link. IsAt link.place target.now) }
+    {
+        let host = String::from_str(alloc, target.named_host())?;
         let stream = connect(rt, target, wait)?;
         // Small pieces go out at once.
         if prepare(&stream, wait).is_err() {
@@ -55,15 +59,18 @@ impl Link {
     /// Whether a request for this target may be asked over it: it leads there, all that was asked over it is answered, and
     /// since then the server has neither closed it nor sent a byte, which nobody would have asked for.
     pub fn serves<R: Clock>(&self, rt: &R, target: &Target) -> bool
-        ensures { IsTrue result → is_reusable self.now.connection.kept ≡ true }
+        ensures free { IsTrue result → is_reusable self.now.connection.kept ≡ true }
+        ensures place { IsTrue result → is_place_of self.now.place target.now ≡ true }
     {
         self.place.is_of(target) && self.connection.is_reusable() && is_quiet(rt, &self.stream)
     }
 }
 
 impl Place {
-    fn is_of(&self, target: &Target) -> bool {
-        self.port == target.port && self.host.as_str() == target.host()
+    fn is_of(&self, target: &Target) -> bool
+        ensures { result ≡ is_place_of self.now target.now }
+    {
+        self.port == target.port && self.host.as_str() == target.named_host()
     }
 }
 

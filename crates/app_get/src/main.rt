@@ -2,6 +2,7 @@
 #![tactic(auto)]
 
 mod answer;
+mod each;
 mod error;
 mod exchange;
 mod fetch;
@@ -14,7 +15,8 @@ mod target;
 mod transport;
 mod upload;
 
-use crate::fetch::fetch_all;
+use crate::each::fetch_each;
+use crate::fetch::Fetcher;
 use crate::options::{Command, HELP, VERSION};
 use std::alloc::Global;
 use std::io::ErrorKind;
@@ -42,7 +44,10 @@ fn main(rt: HostRuntime) -> ExitCode {
     match options::read(alloc, &words) {
         Ok(Command::Help) => print(rt, HELP),
         Ok(Command::Version) => print(rt, VERSION),
-        Ok(Command::Fetch(options)) => ExitCode::from(fetch_all(rt, &options)),
+        Ok(Command::Fetch(options)) => {
+            let mut fetcher = Fetcher::new(rt, &options);
+            ExitCode::from(fetch_each(&mut fetcher, &options.urls))
+        }
         Err(error) => {
             let _ = eprintln!(rt; "app_get: {error}; --help says more");
             ExitCode::from(error.status())

@@ -1,4 +1,10 @@
 //! What is asked.
+ghost use Rattle.std.specs.Prelude.{◌≡◌, OnOk, IfErr};
+ghost use Rattle.std.specs.Option.{unwrap_or};
+ghost use Rattle.h1_client.specs.ClientMeaning.{request_of};
+ghost use Rattle.h1_encoder.specs.Meaning.{size_of};
+ghost use Rattle.app_get.specs.Asking.{TellsTime, Asks, IsUnasked};
+
 use crate::error::GetError;
 use crate::options::Options;
 use crate::target::Target;
@@ -15,8 +21,11 @@ pub fn ask(
     moment: Option<u64>,
     head: &RequestHead,
     size: BodySize,
-) -> Result<(), GetError> {
-    tell_time(connection, moment);
+) -> Result<(), GetError>
+    ensures asks { OnOk result (Asks connection.old (unwrap_or moment 0) (request_of head.now) (size_of size) connection.new) }
+    ensures unasked { IfErr result (IsUnasked connection.new (request_of head.now) (size_of size)) }
+{
+    tell_time(connection, moment.unwrap_or(0));
     if !connection.can_ask(head, size) {
         return Err(GetError::Request);
     }
@@ -24,8 +33,9 @@ pub fn ask(
     Ok(())
 }
 
-fn tell_time(connection: &mut ClientConnection, moment: Option<u64>) {
-    let moment = moment.unwrap_or(0);
+fn tell_time(connection: &mut ClientConnection, moment: u64)
+    ensures { TellsTime connection.old moment connection.new }
+{
     if connection.can_tick(moment) {
         connection.tick(moment);
     }

@@ -1,4 +1,7 @@
 //! Where a URL leads.
+ghost use Rattle.std.specs.Prelude.{◌≡◌};
+ghost use Rattle.app_get.specs.Places.{target_host};
+
 use crate::error::GetError;
 use http_types::Uri;
 use http_uri::UriError;
@@ -31,8 +34,15 @@ impl Target {
 
     /// The host, an address of IPv6 without its brackets.
     pub fn host(&self) -> &str {
+        bare(self.named_host())
+    }
+
+    /// The host as the URL names it, an address of IPv6 in its brackets.
+    pub fn named_host(&self) -> &str
+        ensures { result.now ≡ target_host self.now }
+    {
         match self.uri.host() {
-            Some(host) => bare(host),
+            Some(host) => host,
             None => "",
         }
     }
