@@ -1,5 +1,5 @@
 -- What one event moves.
-use Rattle.std.specs.Prelude.{◌≡◌, ℕ, ◌≤◌, List, [], ◌∷◌, ◌++◌, length, take, drop, Option, Some, None, is_some, Bool, true, false, if◌then◌else◌}
+use Rattle.std.specs.Prelude.{◌≡◌, ℕ, ◌<◌, ◌≤◌, List, [], ◌∷◌, ◌++◌, length, take, drop, Option, Some, None, is_some, Bool, true, false, if◌then◌else◌}
 use Rattle.std.proofs.Common.{refl, sym, ap, subst, ◌∙◌, append-nil, append_assoc, arith, take_all, take-append-drop, lit<}
 use Rattle.std.proofs.lemmas.List.{length-take-le}
 use Rattle.std.specs.Io.KnownBytes.{Consumes, Appends, Keeps, IsAtEnd}
@@ -11,7 +11,7 @@ use Rattle.h1_client.specs.declared.event.NextAnswer.TheVariants as next
 use Rattle.model_client.specs.ClientEvent as on
 use Rattle.model_client.specs.ClientEvent.{ClientEvent, ClientOutcome}
 use Rattle.model_client.specs.AnswerParse.{is_interim}
-use Rattle.model_client.specs.ClientTrace.{taken_by, given as gave}
+use Rattle.model_client.specs.ClientTrace.{Happened, taken_by, given as gave}
 use Rattle.app_get.specs.Exchange.{Ends, Goes, Acts, handed_by, given_by, noted_by, ends_input, ends_body, drops_rest, Empties}
 
 -- ---- an event
@@ -69,29 +69,41 @@ none_noted : (o : ClientOutcome) (before : Option ℕ) → noted_by o before ≡
 none_noted (on.answer a) before is = if_none (is_interim a.status) before a.status is
 none_noted _ before is = is
 
+-- one event more, of which this holds
+pub one_with : (was old new : Ends) (e : ClientEvent) (Says : ClientOutcome → Type 0) (came sent file out : List ℕ) (P : List Happened → Type 0) → old ≡ was
+    → (goes : GoesOn old.state e Says new.state) → ((o : ClientOutcome) → Says o → Moves e o came sent file out old.status new.status)
+    → Consumes old.came new.came came → Appends old.sent new.sent sent → Consumes old.file new.file file
+    → (old.shows ≡ false → Appends old.out new.out out) → EndsWhole e old new → IsQuiet old new came → new.shows ≡ old.shows
+    → P (record { event = e; outcome = goes.outcome } ∷ []) → (all : Goes was new) × P all.more
+one_with was old new e Says came sent file out P seen goes moves lost got handed told ends quiet shows holds =
+    subst (λ (l : Ends). (all : Goes l new) × P all.more) seen
+    (let m = moves goes.outcome goes.says in (
+      record {
+        more = record { event = e; outcome = goes.outcome } ∷ [];
+        stands = goes.stands;
+        came = subst (Consumes old.came new.came) (sym m.takes) lost;
+        sent = subst (Appends old.sent new.sent) (sym m.gives) got;
+        file = subst (Consumes old.file new.file) (sym m.hands) handed;
+        out = λ hides. subst (Appends old.out new.out) (sym m.shows) (told hides);
+        input_end = ends.input;
+        body_end = ends.body;
+        none_dropped = ends.keeps_rest;
+        heard = λ unheard. ((quiet.heard unheard).0, m.takes ∙ (quiet.heard unheard).1);
+        silent = λ none. (none_noted goes.outcome old.status (sym m.notes ∙ none), quiet.silent none);
+        status = m.notes;
+        shows = shows;
+      },
+      holds,
+    ))
+
 -- one event more
 pub one_act : (was old new : Ends) (e : ClientEvent) (Says : ClientOutcome → Type 0) (came sent file out : List ℕ) → old ≡ was
     → GoesOn old.state e Says new.state → ((o : ClientOutcome) → Says o → Moves e o came sent file out old.status new.status)
     → Consumes old.came new.came came → Appends old.sent new.sent sent → Consumes old.file new.file file
     → (old.shows ≡ false → Appends old.out new.out out) → EndsWhole e old new → IsQuiet old new came → new.shows ≡ old.shows → Acts was new
 one_act was old new e Says came sent file out seen goes moves lost got handed told ends quiet shows =
-    subst (λ (l : Ends). Acts l new) seen
-    (let m = moves goes.outcome goes.says in
-    record { goes = record {
-      more = record { event = e; outcome = goes.outcome } ∷ [];
-      stands = goes.stands;
-      came = subst (Consumes old.came new.came) (sym m.takes) lost;
-      sent = subst (Appends old.sent new.sent) (sym m.gives) got;
-      file = subst (Consumes old.file new.file) (sym m.hands) handed;
-      out = λ hides. subst (Appends old.out new.out) (sym m.shows) (told hides);
-      input_end = ends.input;
-      body_end = ends.body;
-      none_dropped = ends.keeps_rest;
-      heard = λ unheard. ((quiet.heard unheard).0, m.takes ∙ (quiet.heard unheard).1);
-      silent = λ none. (none_noted goes.outcome old.status (sym m.notes ∙ none), quiet.silent none);
-      status = m.notes;
-      shows = shows;
-    }; some = lit< tt })
+    let all = one_with was old new e Says came sent file out (λ more. 0 < length more) seen goes moves lost got handed told ends quiet shows (lit< tt) in
+    record { goes = all.0; some = all.1 }
 
 pub one_step : (was old new : Ends) (e : ClientEvent) (Says : ClientOutcome → Type 0) (came sent file out : List ℕ) → old ≡ was
     → GoesOn old.state e Says new.state → ((o : ClientOutcome) → Says o → Moves e o came sent file out old.status new.status)

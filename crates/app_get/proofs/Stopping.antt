@@ -18,7 +18,7 @@ use Rattle.model_client.specs.ClientEvent as on
 use Rattle.model_client.specs.ClientKept.{client_closing}
 use Rattle.app_get.specs.declared.error.GetError.{GetError}
 use Rattle.app_get.specs.declared.error.GetError.TheVariants as get_error
-use Rattle.app_get.specs.Exchange.{Ends, Goes, Acts, is_failure, IsPending}
+use Rattle.app_get.specs.Exchange.{Ends, Goes, Acts, is_failure}
 use Rattle.app_get.specs.Failure.{Hears, Heard, Draws, IsStuck, BreaksOff, IsCause, IsPart, IsUnshown, WritesOut, Fails, Stops, is_heard, error_by}
 use Rattle.app_get.specs.Patience.{left_of}
 use Rattle.app_get.proofs.Going.{goes_none, goes_then}
@@ -38,7 +38,7 @@ pub err_then : {T : Type 0} (r : Result T GetError) (a b c : Ends) → Goes a b 
 err_then (Ok x) a b c first second = tt
 err_then (Err e) a b c first second = stops_then a b c e first second
 
-as_error : (was new : Ends) (e error : GetError) → error ≡ e → Stops was new e → Stops was new error
+pub as_error : (was new : Ends) (e error : GetError) → error ≡ e → Stops was new e → Stops was new error
 as_error was new e error is stops = subst (λ (e : GetError). Stops was new e) (sym is) stops
 
 -- ---- for want of memory, and by the file
@@ -175,11 +175,6 @@ failed_stops a is = stops_here a a a get_error.Lost refl (inl (inr (inl is))) (K
 
 pub short_stops : (a : Ends) → client_closing a.state.kept ≡ Some on.failed_request → Stops a a get_error.ShortFile
 short_stops a is = stops_here a a a get_error.ShortFile refl (inr is) (Keeps-refl a.out)
-
-pub late_stops : (was old : Ends) (error : GetError) → old ≡ was → error ≡ get_error.Late → IsPending was.state → Stops was old error
-late_stops was old error seen is pending =
-    as_error was old get_error.Late error is
-    (stops_here was old old get_error.Late seen (subst (λ (l : Ends). IsPending l.state) (sym seen) pending) (Keeps-refl old.out))
 
 pub protocol_stops : (was old new : Ends) → old ≡ was → old.status ≡ Some 101 → Keeps old.out new.out → Stops was new get_error.Protocol
 protocol_stops was old new seen is out = stops_here was old new get_error.Protocol seen is out

@@ -1,6 +1,7 @@
 -- What moves in an exchange: from the connection to the server and back, out of the file that is sent, and to the output.
-use Rattle.std.specs.Prelude.{◌≡◌, ℕ, ◌<◌, Bool, true, false, ◌||◌, List, [], ◌++◌, ◌∷◌, length, if◌then◌else◌, Option, Some, None, ⊤}
+use Rattle.std.specs.Prelude.{◌≡◌, ℕ, ◌<◌, ◌⊎◌, Bool, true, false, ◌||◌, List, [], ◌++◌, ◌∷◌, length, if◌then◌else◌, Option, Some, None, ⊤}
 use Rattle.std.specs.Io.KnownBytes.{Consumes, Appends, Keeps}
+use Rattle.http_config.specs.Causes.{Rose}
 use Rattle.h1_client.specs.ClientMeaning.{setting_of}
 use Rattle.h1_client.specs.State.{State, Stands, GoesOn, Is}
 use Rattle.model_client.specs.ClientEvent as on
@@ -8,12 +9,14 @@ use Rattle.model_client.specs.ClientEvent.{ClientEvent, ClientOutcome, ClientEnd
 use Rattle.model_client.specs.ClientKept.{client_allows, client_closing, is_free}
 use Rattle.model_client.specs.ClientTrace.{Happened, taken, written}
 use Rattle.model_client.specs.AnswerParse.{is_interim}
+use Rattle.app_get.specs.declared.transport.Sent.{Sent}
+use Rattle.app_get.specs.declared.transport.Sent.TheVariants as sending
 use Rattle.app_get.specs.declared.answer.Taken.{Taken}
 use Rattle.app_get.specs.declared.answer.Taken.TheVariants as taking
 
 -- A connection, what is left to come from the server and what the server was sent, what is left of the file, and what went
 -- to the output, where they tell it; whether the answer's head is written too; the answer's status, once its head came;
--- whether a byte of the answer came; and how often the server's bytes, the file and the output failed.
+-- whether a byte of the answer came; and how often each of them failed.
 pub record Ends : Type 0 where
   pub state : State
   pub came : Option (List ℕ)
@@ -24,6 +27,7 @@ pub record Ends : Type 0 where
   pub status : Option ℕ
   pub begun : Bool
   pub came_faults : ℕ
+  pub sent_faults : ℕ
   pub file_faults : ℕ
   pub out_faults : ℕ
 
@@ -115,7 +119,32 @@ pub record Goes (old new : Ends) : Type 0 where
   pub status : new.status ≡ noted more old.status
   pub shows : new.shows ≡ old.shows
 
--- the same, by one event at least
+-- ---- what is sent
+
+-- bytes are sent
+pub record SendsSome (old new : Ends) : Type 0 where
+  pub goes : Goes old new
+  pub some : 0 < length (written goes.more)
+
+-- nothing waits to be sent, or nothing may be, or the server takes nothing now
+abbrev pub HasNoneToSend : Ends → Ends → Type 0
+HasNoneToSend old new =
+    (old.state.kept.buffered ≡ [])
+    ⊎ ((client_allows (setting_of old.state.settings) old.state.kept (on.write 0) ≡ false) ⊎ Rose old.sent_faults new.sent_faults)
+
+pub record SendsNone (old new : Ends) : Type 0 where
+  pub goes : Goes old new
+  pub why : HasNoneToSend old new
+  pub out : Keeps old.out new.out
+
+abbrev pub IsSent : Sent → Ends → Ends → Type 0
+IsSent sending.Some old new = SendsSome old new
+IsSent sending.NotNow old new = SendsNone old new
+IsSent sending.Nothing old new = SendsNone old new
+
+-- ---- what is taken
+
+-- it goes on by one event at least
 pub record Acts (old new : Ends) : Type 0 where
   pub goes : Goes old new
   pub some : 0 < length goes.more

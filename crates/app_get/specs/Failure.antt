@@ -16,7 +16,7 @@ use Rattle.h1_client.specs.declared.event.NextAnswer.TheVariants as next
 use Rattle.h1_client.specs.declared.heads.AnswerFault.TheVariants.{Malformed, TooLarge}
 use Rattle.model_client.specs.ClientEvent as on
 use Rattle.model_client.specs.ClientKept.{client_allows, client_closing}
-use Rattle.app_get.specs.Exchange.{Ends, Goes, Acts, is_failure, IsPending}
+use Rattle.app_get.specs.Exchange.{Ends, Goes, Acts, is_failure, IsPending, HasNoneToSend}
 use Rattle.app_get.specs.declared.error.GetError.{GetError}
 use Rattle.app_get.specs.declared.error.GetError.TheVariants as get_error
 
@@ -73,7 +73,7 @@ IsCause get_error.BadChunks last new = Draws last (pulled.Broken Corrupted) new
 IsCause get_error.Protocol last new = last.status ≡ Some 101
 IsCause get_error.Unanswered last new = (last.begun ≡ false) × (last.status ≡ None) × BreaksOff last new
 IsCause get_error.Lost last new = IsCut last new
-IsCause get_error.Late last new = IsPending last.state
+IsCause get_error.Late last new = IsPending last.state × HasNoneToSend last new
 IsCause _ last new = ⊥
 
 -- ---- what is written out

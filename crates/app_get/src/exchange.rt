@@ -55,6 +55,7 @@ impl<S: TimedSource, K: TimedSink, B: Source, O: Sink> Model for Exchange<S, K, 
       status = e.status;
       begun = e.has_begun;
       came_faults = S.faults e.input;
+      sent_faults = K.faults e.output;
       file_faults = file_faults B.faults e.body;
       out_faults = O.faults e.out;
     } };
@@ -87,6 +88,7 @@ impl<S: TimedSource + Drop, K: TimedSink + Drop, B: Source + Drop, O: Sink + Dro
           status = None;
           begun = false;
           came_faults = S.faults input;
+          sent_faults = K.faults output;
           file_faults = file_faults B.faults body;
           out_faults = O.faults out;
         } }
@@ -137,34 +139,50 @@ impl<S: TimedSource + Drop, K: TimedSink + Drop, B: Source + Drop, O: Sink + Dro
         let mut patience = Patience::begin(&self.input, wait);
         for _turn in 0..u64::MAX {
             self.fill()?;
-            let sent = self.send();
             match self.take()? {
                 Taken::Whole(status) => return Ok(status),
-                Taken::Part => {}
-                Taken::Nothing => self.listen(sent, &mut patience)?,
-            }
-            if sent == Sent::Some {
-                patience.renew(&self.input);
+                Taken::Part => self.send_on(&mut patience),
+                Taken::Nothing => self.listen(&mut patience)?,
             }
         }
         Err(GetError::Late)
     }
 
-    // Reads what has come. Where nothing else can be done it waits.
-    fn listen(&mut self, sent: Sent, patience: &mut Patience) -> Result<(), GetError>
-        requires pending { IsPending self.old.state }
+    // Sends what waits. That something is sent is a move.
+    fn send_on(&mut self, patience: &mut Patience)
+        ensures { Goes self.old self.new }
+    {
+        if self.send() == Sent::Some {
+            patience.renew(&self.input);
+        }
+    }
+
+    // Sends what waits, and reads what has come. Where nothing else can be done it waits.
+    fn listen(&mut self, patience: &mut Patience) -> Result<(), GetError>
+        requires { IsPending self.old.state }
         ensures goes { OnOk result (Goes self.old self.new) }
         ensures stops { IfErr result (λ error. Stops self.old self.new error) }
     {
-        let left = patience.left(&self.input)?;
-        let wait = match sent {
-            Sent::Some => 0,
-            Sent::NotNow => left.min(GLANCE),
-            Sent::Nothing => left,
-        };
+        let wait = self.send_before(patience)?;
         if self.read_more(wait)? {
             patience.renew(&self.input);
         }
         Ok(())
+    }
+
+    // Sends what waits, and says for how many milliseconds a read may then wait.
+    fn send_before(&mut self, patience: &mut Patience) -> Result<u64, GetError>
+        requires { IsPending self.old.state }
+        ensures goes { OnOk result (Goes self.old self.new) }
+        ensures stops { IfErr result (λ error. Stops self.old self.new error) }
+    {
+        match self.send() {
+            Sent::Some => {
+                patience.renew(&self.input);
+                Ok(0)
+            }
+            Sent::NotNow => Ok(patience.left(&self.input)?.min(GLANCE)),
+            Sent::Nothing => Ok(patience.left(&self.input)?),
+        }
     }
 }

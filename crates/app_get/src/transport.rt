@@ -2,7 +2,7 @@
 ghost use Rattle.std.specs.Prelude.{◌<◌, ℕ, List, length, OnOk, IfErr};
 ghost use Rattle.h1_client.specs.State.{IsAllowed};
 ghost use Rattle.model_client.specs.ClientEvent as on;
-ghost use Rattle.app_get.specs.Exchange.{Goes};
+ghost use Rattle.app_get.specs.Exchange.{Goes, IsSent};
 ghost use Rattle.app_get.specs.Failure.{Stops};
 
 use crate::error::GetError;
@@ -34,9 +34,8 @@ impl<S: TimedSource + Drop, K: TimedSink + Drop, B: Source + Drop, O: Sink + Dro
     O,
 > {
     /// Writes what is to be written, as far as that goes without waiting.
-    #[tactic(auto, using(crate::proofs::Going::goes_none, crate::proofs::Going::goes_then))]
     pub(crate) fn send(&mut self) -> Sent
-        ensures { Goes self.old self.new }
+        ensures { IsSent result self.old self.new }
     {
         if self.connection.front().is_empty() {
             return Sent::Nothing;
@@ -52,7 +51,8 @@ impl<S: TimedSource + Drop, K: TimedSink + Drop, B: Source + Drop, O: Sink + Dro
     // Writes the first bytes that are to be written.
     fn write_front(&mut self) -> Sent
         requires can_write { (count : ℕ) → IsAllowed self.old.state (on.write count) }
-        ensures { Goes self.old self.new }
+        requires some { 0 < length self.old.state.kept.buffered }
+        ensures { IsSent result self.old self.new }
     {
         match self.output.write(self.connection.front()) {
             Ok(count) => {

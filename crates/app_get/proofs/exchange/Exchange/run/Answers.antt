@@ -1,6 +1,6 @@
 use Rattle.std.proofs.Common.{refl, inl, inr, arith}
 use Rattle.app_get.specs.Exchange.{Goes, Acts}
-use Rattle.app_get.proofs.Going.{goes_none, goes_then, goes_as, taken_goes, acts_then, then_acts}
+use Rattle.app_get.proofs.Going.{goes_none, goes_then, taken_goes, acts_then, then_acts}
 use Rattle.app_get.proofs.Stopping.{stops_then}
 use Rattle.app_get.proofs.Taking.{part_acts, nothing_acts, turned_as}
 use Rattle.app_get.proofs.exchange.Exchange.run.Goals as goal
@@ -11,29 +11,30 @@ loop-turn-init g c = (goes_none _, omega arith)
 
 pub returns-in-Whole-clause-goes : goal.returns-in-Whole-clause-goes
 returns-in-Whole-clause-goes g c =
-    goes_then _ _ _ c.loop-turn.invariant.0 (goes_then _ _ _ c.in_ok-fill.ensures.goes (goes_then _ _ _ c.send-sent.ensures (taken_goes _ _ _ c.in_ok-status.ensures.taken)))
+    goes_then _ _ _ c.loop-turn.invariant.0 (goes_then _ _ _ c.in_ok-fill.ensures.goes (taken_goes _ _ _ c.in_ok-status.ensures.taken))
 
 pub returns-in_err-fill-clause-stops : goal.returns-in_err-fill-clause-stops
 returns-in_err-fill-clause-stops g c = inl (stops_then _ _ _ _ c.loop-turn.invariant.0 c.in_err-fill.ensures.stops)
 
 pub returns-in_err-status-clause-stops : goal.returns-in_err-status-clause-stops
 returns-in_err-status-clause-stops g c =
-    inl (stops_then _ _ _ _ c.loop-turn.invariant.0 (stops_then _ _ _ _ c.in_ok-fill.ensures.goes (stops_then _ _ _ _ c.send-sent.ensures c.in_err-status.ensures.stops)))
+    inl (stops_then _ _ _ _ c.loop-turn.invariant.0 (stops_then _ _ _ _ c.in_ok-fill.ensures.goes c.in_err-status.ensures.stops))
 
 pub returns-in_err-listen-in-Nothing-clause-stops : goal.returns-in_err-listen-in-Nothing-clause-stops
 returns-in_err-listen-in-Nothing-clause-stops g c =
-    inl (stops_then _ _ _ _ c.loop-turn.invariant.0 (stops_then _ _ _ _ c.in_ok-fill.ensures.goes (stops_then _ _ _ _ c.send-sent.ensures
-    (stops_then _ _ _ _ (taken_goes _ _ _ c.in_ok-status.ensures.taken) c.in_err-listen-in-Nothing.ensures.stops))))
+    inl (stops_then _ _ _ _ c.loop-turn.invariant.0 (stops_then _ _ _ _ c.in_ok-fill.ensures.goes
+    (stops_then _ _ _ _ (taken_goes _ _ _ c.in_ok-status.ensures.taken) c.in_err-listen-in-Nothing.ensures.stops)))
 
 pub returns-clause-stops : goal.returns-clause-stops
 returns-clause-stops g c = inr (record { late = refl; goes = c.loop-turn.invariant.0; turns = omega (arith, c.loop-turn.invariant.1) })
 
 pub loop-turn-preserved : goal.loop-turn-preserved
 loop-turn-preserved g c =
-    let before = goes_then _ _ _ c.in_ok-fill.ensures.goes c.send-sent.ensures in
-    elim c.match-branch-3.branch [
-      | in-Part w ↦ turned_as _ _ _ _ _ w.self-is c.loop-turn.invariant.0 c.loop-turn.invariant.1 (then_acts _ _ _ before (part_acts _ _ _ c.in_ok-status.ensures.taken w.in-Part.is))
+    elim c.match-branch.branch [
+      | in-Part w ↦
+        turned_as _ _ _ _ _ w.self-is c.loop-turn.invariant.0 c.loop-turn.invariant.1
+        (then_acts _ _ _ c.in_ok-fill.ensures.goes (acts_then _ _ _ (part_acts _ _ _ c.in_ok-status.ensures.taken w.in-Part.is) w.send_on-in-Part.ensures))
       | in-Nothing+in_ok-listen-in-Nothing w ↦
         turned_as _ _ _ _ _ w.self-is c.loop-turn.invariant.0 c.loop-turn.invariant.1
-        (then_acts _ _ _ before (acts_then _ _ _ (nothing_acts _ _ _ c.in_ok-status.ensures.taken w.in-Nothing.is) w.in_ok-listen-in-Nothing.ensures.goes))
+        (then_acts _ _ _ c.in_ok-fill.ensures.goes (acts_then _ _ _ (nothing_acts _ _ _ c.in_ok-status.ensures.taken w.in-Nothing.is) w.in_ok-listen-in-Nothing.ensures.goes))
     ]

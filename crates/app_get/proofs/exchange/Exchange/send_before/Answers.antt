@@ -1,0 +1,17 @@
+use Rattle.app_get.proofs.Sending.{sent_goes, late_unsent}
+use Rattle.app_get.proofs.exchange.Exchange.send_before.Goals as goal
+
+pub returns-in-Some-clause-goes : goal.returns-in-Some-clause-goes
+returns-in-Some-clause-goes g c = c.in-Some.ensures.goes
+
+pub returns-in-NotNow-clause-goes : goal.returns-in-NotNow-clause-goes
+returns-in-NotNow-clause-goes g c = c.in-NotNow.ensures.goes
+
+pub returns-clause-goes : goal.returns-clause-goes
+returns-clause-goes g c = c.in-Nothing.ensures.goes
+
+pub returns-in_err-left-in-NotNow-clause-stops : goal.returns-in_err-left-in-NotNow-clause-stops
+returns-in_err-left-in-NotNow-clause-stops g c = late_unsent _ _ _ c.in_err-left-in-NotNow.ensures c.requires c.in-NotNow.ensures
+
+pub returns-in_err-left-in-Nothing-clause-stops : goal.returns-in_err-left-in-Nothing-clause-stops
+returns-in_err-left-in-Nothing-clause-stops g c = late_unsent _ _ _ c.in_err-left-in-Nothing.ensures c.requires c.in-Nothing.ensures
