@@ -3,6 +3,7 @@ pub mod Freed
 pub mod Going
 pub mod Outcomes
 pub mod Sending
+pub mod Shown
 pub mod Steps
 pub mod Stopping
 pub mod Taking

@@ -1,9 +1,10 @@
 //! What is asked.
-ghost use Rattle.std.specs.Prelude.{◌≡◌, OnOk, IfErr};
+ghost use Rattle.std.specs.Prelude.{◌≡◌, is_some, OnOk, IfOk, IfErr};
 ghost use Rattle.std.specs.Option.{unwrap_or};
 ghost use Rattle.h1_client.specs.ClientMeaning.{request_of};
 ghost use Rattle.h1_encoder.specs.Meaning.{size_of};
 ghost use Rattle.app_get.specs.Asking.{TellsTime, Asks, IsUnasked};
+ghost use Rattle.app_get.specs.Heads.{asked_method, target_authority, general_headers, asked_headers, AsksFor};
 
 use crate::error::GetError;
 use crate::options::Options;
@@ -46,26 +47,55 @@ pub fn head_for(
     alloc: Global,
     options: &Options<'_>,
     target: &Target,
-) -> Result<RequestHead, GetError> {
-    let method = if options.is_head {
-        Method::HEAD
-    } else if options.file.is_some() {
-        Method::POST
-    } else {
-        Method::GET
-    };
+) -> Result<RequestHead, GetError>
+    ensures { IfOk result (λ head. AsksFor target.now options.now.is_head (is_some options.now.file) head) }
+{
     let Ok(uri) = target.uri.clone() else {
         return Err(GetError::NoMemory);
     };
     let headers = headers_for(alloc, options, target)?;
-    Ok(RequestHead::from_parts(method, uri, Version::HTTP_11, headers))
+    Ok(RequestHead::from_parts(
+        method_for(options),
+        uri,
+        Version::HTTP_11,
+        headers,
+    ))
+}
+
+fn method_for(options: &Options<'_>) -> Method
+    ensures { result ≡ asked_method options.now.is_head (is_some options.now.file) }
+{
+    if options.is_head {
+        return Method::HEAD;
+    }
+    if options.file.is_some() {
+        Method::POST
+    } else {
+        Method::GET
+    }
 }
 
 fn headers_for(
     alloc: Global,
     options: &Options<'_>,
     target: &Target,
-) -> Result<HeaderMap, GetError> {
+) -> Result<HeaderMap, GetError>
+    ensures { IfOk result (λ headers. headers ≡ asked_headers (target_authority target.now) (is_some options.now.file)) }
+{
+    let mut headers = general_headers(alloc, target)?;
+    if options.file.is_some() {
+        headers.append(
+            CONTENT_TYPE,
+            HeaderValue::from_static("application/octet-stream"),
+        )?;
+    }
+    Ok(headers)
+}
+
+// Those of each request.
+fn general_headers(alloc: Global, target: &Target) -> Result<HeaderMap, GetError>
+    ensures { IfOk result (λ headers. headers ≡ general_headers (target_authority target.now)) }
+{
     let mut headers = HeaderMap::new(alloc);
     let Ok(host) = value_of_str(alloc, target.authority()) else {
         return Err(GetError::Url);
@@ -73,11 +103,5 @@ fn headers_for(
     headers.append(HOST, host)?;
     headers.append(USER_AGENT, HeaderValue::from_static("app_get/0.1.0"))?;
     headers.append(ACCEPT, HeaderValue::from_static("*/*"))?;
-    if options.file.is_some() {
-        headers.append(
-            CONTENT_TYPE,
-            HeaderValue::from_static("application/octet-stream"),
-        )?;
-    }
     Ok(headers)
 }

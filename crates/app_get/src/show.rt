@@ -1,12 +1,15 @@
 //! What is written to the output.
-ghost use Rattle.std.specs.Prelude.{◌≡◌, OnOk, OnErr, IfErr};
+ghost use Rattle.std.specs.Prelude.{◌≡◌, ◌++◌, codes, decimal, OnOk, OnErr, IfOk, IfErr};
 ghost use Rattle.std.specs.Io.KnownBytes.{Appends};
 ghost use Rattle.http_config.specs.Causes.{Rose};
+ghost use Rattle.http_map.specs.HeaderMap.{pairs};
 ghost use Rattle.app_get.specs.Failure.{IsPart, IsUnshown};
+ghost use Rattle.app_get.specs.Heads.{IsVersionText, lines_text, IsHeadText, IsShown};
 
 use crate::error::GetError;
 use bytes::BytesMut;
 use h1_client::ResponseItem;
+use http_types::header::HeaderMap;
 use http_types::{NoMemory, Sink, Version};
 use itoa::Buffer;
 use std::alloc::Global;
@@ -33,28 +36,37 @@ pub fn write_head<O: Sink>(
     item: &ResponseItem,
     out: &mut O,
 ) -> Result<(), GetError>
-    ensures { IfErr result (λ error. IsUnshown error (O.given out.old) (O.given out.new) (O.faults out.old) (O.faults out.new)) }
+    ensures ok { OnOk result (IsShown item.now (O.given out.old) (O.given out.new)) }
+    ensures err { IfErr result (λ error. IsUnshown error (O.given out.old) (O.given out.new) (O.faults out.old) (O.faults out.new)) }
 {
     let text = head_text(alloc, item)?;
     write_all(out, text.as_slice())
 }
 
-fn head_text(alloc: Global, item: &ResponseItem) -> Result<BytesMut, NoMemory> {
+fn head_text(alloc: Global, item: &ResponseItem) -> Result<BytesMut, NoMemory>
+    ensures { IfOk result (λ text. IsHeadText item.now text.items) }
+{
+    let version = version_text(item.head.version);
     let mut text = BytesMut::new(alloc);
-    put_status(&mut text, item)?;
-    for (name, value) in item.head.headers.iter() {
-        put_line(&mut text, name.as_bytes(), value.as_bytes())?;
-    }
+    put_status(&mut text, version, item)?;
+    put_lines(&mut text, &item.head.headers)?;
     text.extend_from_slice(b"\n")?;
     Ok(text)
 }
 
-fn put_status(text: &mut BytesMut, item: &ResponseItem) -> Result<(), NoMemory> {
-    let version: &[u8] = if item.head.version == Version::HTTP_10 {
+fn version_text(version: Version) -> &'static [u8]
+    ensures { IsVersionText version result.now }
+{
+    if version == Version::HTTP_10 {
         b"HTTP/1.0 "
     } else {
         b"HTTP/1.1 "
-    };
+    }
+}
+
+fn put_status(text: &mut BytesMut, version: &[u8], item: &ResponseItem) -> Result<(), NoMemory>
+    ensures { OnOk result (text.new.items ≡ text.old.items ++ (version.now ++ (decimal item.now.head.status ++ (codes " " ++ (item.now.reason ++ codes "\n"))))) }
+{
     text.extend_from_slice(version)?;
     let mut digits = Buffer::new();
     text.extend_from_slice(digits.format(item.head.status.as_u16()).as_bytes())?;
@@ -63,7 +75,18 @@ fn put_status(text: &mut BytesMut, item: &ResponseItem) -> Result<(), NoMemory> 
     text.extend_from_slice(b"\n")
 }
 
-fn put_line(text: &mut BytesMut, name: &[u8], value: &[u8]) -> Result<(), NoMemory> {
+fn put_lines(text: &mut BytesMut, headers: &HeaderMap) -> Result<(), NoMemory>
+    ensures { OnOk result (text.new.items ≡ text.old.items ++ lines_text (pairs headers.now)) }
+{
+    for (name, value) in headers.iter() {
+        put_line(text, name.as_bytes(), value.as_bytes())?;
+    }
+    Ok(())
+}
+
+fn put_line(text: &mut BytesMut, name: &[u8], value: &[u8]) -> Result<(), NoMemory>
+    ensures { OnOk result (text.new.items ≡ text.old.items ++ (name.now ++ (codes ": " ++ (value.now ++ codes "\n")))) }
+{
     text.extend_from_slice(name)?;
     text.extend_from_slice(b": ")?;
     text.extend_from_slice(value)?;

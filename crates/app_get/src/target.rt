@@ -1,5 +1,6 @@
 //! Where a URL leads.
 ghost use Rattle.std.specs.Prelude.{◌≡◌};
+ghost use Rattle.app_get.specs.Heads.{target_authority};
 ghost use Rattle.app_get.specs.Places.{target_host};
 
 use crate::error::GetError;
@@ -48,7 +49,9 @@ impl Target {
     }
 
     /// The host and, where the URL names it, the port.
-    pub fn authority(&self) -> &str {
+    pub fn authority(&self) -> &str
+        ensures { result.now ≡ target_authority self.now }
+    {
         match self.uri.authority() {
             Some(authority) => authority.as_str(),
             None => "",

@@ -18,7 +18,7 @@ returns-in_ok-write_head-clause-part g c = (
 )
 
 pub returns-in_err-write_head-clause-stops : goal.returns-in_err-write_head-clause-stops
-returns-in_err-write_head-clause-stops g c = head_fails _ _ _ _ c.self.view_is c.if-self-2.true c.in_err-write_head.ensures
+returns-in_err-write_head-clause-stops g c = head_fails _ _ _ _ c.self.view_is c.if-self-2.true c.in_err-write_head.ensures.err
 
 pub returns-else-self-clause-part : goal.returns-else-self-clause-part
 returns-else-self-clause-part g c = (refl, goes_none _)
