@@ -1,5 +1,5 @@
 -- An exchange that goes on twice goes on.
-use Rattle.std.specs.Prelude.{◌≡◌, ℕ, ◌<◌, ◌≤◌, ◌+◌, Bool, true, false, ◌||◌, List, [], ◌∷◌, ◌++◌, length, Option, Some, None, Result, Ok, Err, OnOk}
+use Rattle.std.specs.Prelude.{◌≡◌, ℕ, ◌<◌, ◌≤◌, ◌+◌, Bool, true, false, ◌||◌, List, [], ◌∷◌, ◌++◌, length, Option, Some, None, Result, Ok, Err, OnOk, IsTrue}
 use Rattle.std.proofs.Common.{refl, sym, ap, subst, ◌∙◌, append_assoc, append-nil, length-append, arith}
 use Rattle.std.specs.Io.KnownBytes.{Consumes, Appends, Keeps}
 use Rattle.std.proofs.KnownBytes.{Consumes-nil, Appends-nil, Consumes-trans, Appends-trans, Keeps-refl, Keeps-trans}
@@ -161,6 +161,24 @@ then_acts a b c first second = record {
   goes = goes_then a b c first second.goes;
   some = omega (arith, second.some, more_then a b c first second.goes);
 }
+
+pub ok_acts_then : {T E : Type 0} (r : Result T E) (a b c : Ends) → Acts a b → OnOk r (Goes b c) → OnOk r (Acts a c)
+ok_acts_then (Ok x) a b c first second = acts_then a b c first second
+ok_acts_then (Err e) a b c first second = tt
+
+pub ok_acts_goes : {T E : Type 0} (r : Result T E) (a b : Ends) → OnOk r (Acts a b) → OnOk r (Goes a b)
+ok_acts_goes (Ok x) a b acts = acts.goes
+ok_acts_goes (Err e) a b acts = tt
+
+-- also where that was allowed
+pub ok_acts_allowed : {T E : Type 0} (r : Result T E) (a b : Ends) (P : Type 0) → OnOk r (Acts a b) → OnOk r (P → Acts a b)
+ok_acts_allowed (Ok x) a b P acts = λ _. acts
+ok_acts_allowed (Err e) a b P acts = tt
+
+-- or where it wasn't
+pub not_allowed : (allows : Bool) (P : Type 0) → allows ≡ false → IsTrue allows → P
+not_allowed true P is may = absurd (cc is)
+not_allowed false P is may = absurd (cc may)
 
 -- what was taken has gone on
 pub taken_goes : (t : Taken) (a b : Ends) → IsTaken t a b → Goes a b

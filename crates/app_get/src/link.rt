@@ -1,5 +1,7 @@
 //! A connection to a server.
 ghost use Rattle.std.specs.Prelude.{◌≡◌, true, IsTrue, IfOk};
+ghost use Rattle.std.specs.Io.KnownBytes.{Keeps};
+ghost use Rattle.http_config.specs.Causes.{Rose};
 ghost use Rattle.model_client.specs.ClientKept.{is_reusable};
 ghost use Rattle.app_get.specs.Places.{is_place_of, IsAt};
 
@@ -62,7 +64,17 @@ impl Link {
         ensures free { IsTrue result → is_reusable self.now.connection.kept ≡ true }
         ensures place { IsTrue result → is_place_of self.now.place target.now ≡ true }
     {
-        self.place.is_of(target) && self.connection.is_reusable() && is_quiet(rt, &self.stream)
+        let mut source = SocketSource::new(rt, &self.stream);
+        self.may_be_used(target, &mut source)
+    }
+
+    // The same, where this is what comes over it.
+    fn may_be_used<S: TimedSource>(&self, target: &Target, source: &mut S) -> bool
+        ensures free { IsTrue result → is_reusable self.now.connection.kept ≡ true }
+        ensures place { IsTrue result → is_place_of self.now.place target.now ≡ true }
+        ensures quiet { IsTrue result → Rose (S.faults source.old) (S.faults source.new) × Keeps (S.left source.old) (S.left source.new) }
+    {
+        self.place.is_of(target) && self.connection.is_reusable() && is_quiet(source)
     }
 }
 
@@ -75,11 +87,15 @@ impl Place {
 }
 
 // Whether neither a byte nor the end has come. A byte that has is taken.
-fn is_quiet<R: Clock>(rt: &R, stream: &TcpStream) -> bool {
-    let mut source = SocketSource::new(rt, stream);
+fn is_quiet<S: TimedSource>(source: &mut S) -> bool
+    ensures { IsTrue result → Rose (S.faults source.old) (S.faults source.new) × Keeps (S.left source.old) (S.left source.new) }
+{
     source.wait_at_most(0);
     let mut byte = [0_u8; 1];
-    source.read(&mut byte).is_err() && source.is_not_now()
+    match source.read(&mut byte) {
+        Ok(_) => false,
+        Err(_) => source.is_not_now(),
+    }
 }
 
 fn connect<R: Net<Stream = TcpStream, Listener = TcpListener>>(

@@ -1,11 +1,11 @@
 // The body of the request.
-ghost use Rattle.std.specs.Prelude.{◌≡◌, false, ℕ, List, IfOk, IfErr, OnOk};
+ghost use Rattle.std.specs.Prelude.{◌≡◌, false, ℕ, List, [], IfOk, IfErr, OnOk};
 ghost use Rattle.std.specs.Io.{ReadsAtMost};
 ghost use Rattle.std.specs.Io.KnownBytes.{IsAtEnd, ReadConsumes};
 ghost use Rattle.http_config.specs.Causes.{Rose};
 ghost use Rattle.h1_client.specs.State.{IsAllowed};
 ghost use Rattle.model_client.specs.ClientEvent as on;
-ghost use Rattle.app_get.specs.Exchange.{Goes, file_left, file_faults};
+ghost use Rattle.app_get.specs.Exchange.{Goes, Acts, file_left, file_faults};
 ghost use Rattle.app_get.specs.Failure.{Stops};
 
 use crate::error::GetError;
@@ -23,21 +23,21 @@ impl<S: TimedSource + Drop, K: TimedSink + Drop, B: Source + Drop, O: Sink + Dro
     O,
 > {
     /// Hands the next piece of the body in, where there is one and room for it, or says that the body is whole.
-    #[tactic(auto, using(crate::proofs::Going::goes_none, crate::proofs::Going::goes_then))]
+    #[tactic(auto, using(crate::proofs::Going::goes_none))]
     pub(crate) fn fill(&mut self) -> Result<(), GetError>
         ensures goes { OnOk result (Goes self.old self.new) }
+        ensures acts { OnOk result (IsAllowed self.old.state (on.chunk []) → Acts self.old self.new) }
         ensures stops { IfErr result (λ error. Stops self.old self.new error) }
     {
-        if self.connection.can_chunk() {
-            return self.fill_room();
+        if !self.connection.can_chunk() {
+            return Ok(());
         }
-        Ok(())
+        self.fill_room()
     }
 
-    #[tactic(auto, using(crate::proofs::Going::goes_none, crate::proofs::Going::goes_then))]
     fn fill_room(&mut self) -> Result<(), GetError>
         requires can_chunk { (bytes : List ℕ) → IsAllowed self.old.state (on.chunk bytes) }
-        ensures goes { OnOk result (Goes self.old self.new) }
+        ensures acts { OnOk result (Acts self.old self.new) }
         ensures stops { IfErr result (λ error. Stops self.old self.new error) }
     {
         if self.hand_in()? {
@@ -49,7 +49,7 @@ impl<S: TimedSource + Drop, K: TimedSink + Drop, B: Source + Drop, O: Sink + Dro
     // Hands the next piece in, and says whether there was one. Of a piece without bytes nothing goes out.
     fn hand_in(&mut self) -> Result<bool, GetError>
         requires can_chunk { (bytes : List ℕ) → IsAllowed self.old.state (on.chunk bytes) }
-        ensures goes { OnOk result (Goes self.old self.new) }
+        ensures acts { OnOk result (Acts self.old self.new) }
         ensures end { IfOk result (λ more. more ≡ false → IsAtEnd self.new.file) }
         ensures stops { IfErr result (λ error. Stops self.old self.new error) }
     {
