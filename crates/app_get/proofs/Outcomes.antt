@@ -1,22 +1,23 @@
 -- What URLs come to.
 use Rattle.std.specs.Prelude.{◌≡◌, ℕ, ◌+◌, ◌<◌, ◌≤◌, Bool, true, false, List, [], ◌∷◌, ◌++◌, length, nat_le, if◌then◌else◌, Option, Some, None, Result, Ok, Err}
-use Rattle.std.proofs.Common.{refl, sym, ap, subst, ◌∙◌, append_assoc, arith}
+use Rattle.std.proofs.Common.{refl, sym, ap, subst, ◌∙◌, append_assoc, inl, inr, arith}
 use Rattle.std.proofs.lemmas.Bool.{le-leb, lt-leb}
 use Rattle.app_get.specs.declared.error.GetError.{GetError}
-use Rattle.app_get.specs.Fetching.{Done, fetched, told_status, told_error, Notes, is_refusal, done_at, all_done, error_status, status_after, exit_status, are_fetched, AreOutcomes, FetchesEach, FetchesOne, ended_by}
+use Rattle.app_get.specs.declared.error.GetError.TheVariants as get_error
+use Rattle.app_get.specs.Fetching.{Done, fetched, told_status, told_error, Notes, is_refusal, done_at, all_done, error_status, status_after, exit_status, are_fetched, AreOutcomes, FetchesEach, FetchesOne, ended_by, Tried, kept_gave, new_gave, IsTried}
 
 -- ---- what is noted
 
-notes_none : (a : Option (List Done)) → Notes a [] a
+notes_none : {A : Type 0} (a : Option (List A)) → Notes a [] a
 notes_none None = tt
 notes_none (Some before) = refl
 
-notes_then : (a b c : Option (List Done)) (xs ys : List Done) → Notes a xs b → Notes b ys c → Notes a (ys ++ xs) c
+pub notes_then : {A : Type 0} (a b c : Option (List A)) (xs ys : List A) → Notes a xs b → Notes b ys c → Notes a (ys ++ xs) c
 notes_then None b c xs ys first second = tt
 notes_then (Some as_) None c xs ys first second = absurd (cc first)
-notes_then (Some as_) (Some bs) c xs ys first second =
+notes_then {A} (Some as_) (Some bs) c xs ys first second =
     let e : bs ≡ xs ++ as_ = cc first in
-    second ∙ ap (λ (l : List Done). Some (ys ++ l)) e ∙ ap (λ (l : List Done). Some l) (sym (append_assoc ys xs as_))
+    second ∙ ap (λ (l : List A). Some (ys ++ l)) e ∙ ap (λ (l : List A). Some l) (sym (append_assoc ys xs as_))
 
 -- ---- one
 
@@ -116,3 +117,24 @@ are_all (Err error ∷ before) count many whole = absurd (cc whole)
 pub fetched_each : (a b : Option (List Done)) (count status : ℕ) → HasFetched a count b status → FetchesEach a count b status
 fetched_each a b count status all =
     record { outcomes = all.outcomes; all = are_all all.outcomes count all.many all.whole; notes = all.notes; ends = all.ends }
+
+-- ---- tries
+
+-- there is none that may be used
+pub tried_new : (a b c : Option (List Tried)) (has_file : Bool) (x : Option (Result ℕ GetError)) (result : Result ℕ GetError) → Notes a (kept_gave x ∷ []) b
+    → x ≡ None → Notes b (new_gave result ∷ []) c → IsTried a has_file c result
+tried_new a b c has_file x result first is second =
+    inr (inl (notes_then a b c (kept_gave None ∷ []) (new_gave result ∷ [])
+    (subst (λ (x : Option (Result ℕ GetError)). Notes a (kept_gave x ∷ []) b) is first) second))
+
+-- it gave no answer, and no file is sent
+pub tried_again : (a b c : Option (List Tried)) (has_file : Bool) (x : Option (Result ℕ GetError)) (result : Result ℕ GetError) → Notes a (kept_gave x ∷ []) b
+    → x ≡ Some (Err get_error.Unanswered) → has_file ≡ false → Notes b (new_gave result ∷ []) c → IsTried a has_file c result
+tried_again a b c has_file x result first is none second =
+    inr (inr (none, notes_then a b c (kept_gave (Some (Err get_error.Unanswered)) ∷ []) (new_gave result ∷ [])
+    (subst (λ (x : Option (Result ℕ GetError)). Notes a (kept_gave x ∷ []) b) is first) second))
+
+-- it gave an answer, or failed
+pub tried_kept : (a b : Option (List Tried)) (has_file : Bool) (x : Option (Result ℕ GetError)) (result : Result ℕ GetError) → Notes a (kept_gave x ∷ []) b
+    → x ≡ Some result → IsTried a has_file b result
+tried_kept a b has_file x result first is = inl (subst (λ (x : Option (Result ℕ GetError)). Notes a (kept_gave x ∷ []) b) is first)

@@ -27,7 +27,7 @@ sent_goes sending.Nothing a b is = is.goes
 
 -- ---- some is
 
-pub some_sent : (a b : Ends) → (goes : Goes a b) × (0 < length (written goes.more)) → SendsSome a b
+pub some_sent : (a b : Ends) → ((goes : Goes a b) × (0 < length (written goes.more))) → SendsSome a b
 some_sent a b x = record { goes = x.0; some = x.1 }
 
 pub some_taken : (count : ℕ) (bytes : List ℕ) → count ≤ length bytes → 0 < count → 0 < length (take count bytes)

@@ -56,6 +56,12 @@ part_acts t a b taken is = subst (λ (t : Taken). IsTaken t a b) is taken
 pub nothing_acts : (t : Taken) (a b : Ends) → IsTaken t a b → t ≡ taking.Nothing → Acts a b
 nothing_acts t a b taken is = let n : IsTaken taking.Nothing a b = subst (λ (t : Taken). IsTaken t a b) is taken in n.0
 
+pub nothing_pending : (t : Taken) (a b : Ends) → IsTaken t a b → t ≡ taking.Nothing → IsPending b.state
+nothing_pending t a b taken is = let n : IsTaken taking.Nothing a b = subst (λ (t : Taken). IsTaken t a b) is taken in n.1
+
+pub whole_is : (t : Taken) (a b : Ends) (status : ℕ) → IsTaken t a b → t ≡ taking.Whole status → IsWhole b.state × (b.status ≡ Some status)
+whole_is t a b status taken is = let w : IsTaken (taking.Whole status) a b = subst (λ (t : Taken). IsTaken t a b) is taken in (w.1, w.2)
+
 -- a turn more, by an event at least
 turned : (a b c : Ends) (n : ℕ) (first : Goes a b) → n ≤ length first.more → Acts b c → (goes : Goes a c) × (n + 1 ≤ length goes.more)
 turned a b c n first few then_ =

@@ -1,5 +1,5 @@
 -- What is fetched, what is told of it, and the status that the program ends with.
-use Rattle.std.specs.Prelude.{◌≡◌, ℕ, ◌+◌, ◌<◌, Bool, true, false, List, [], ◌∷◌, ◌++◌, length, nat_le, if◌then◌else◌, Option, Some, None, Result, Ok, Err, ⊤}
+use Rattle.std.specs.Prelude.{◌≡◌, ℕ, ◌+◌, ◌<◌, ◌⊎◌, Bool, true, false, List, [], ◌∷◌, ◌++◌, length, nat_le, if◌then◌else◌, Option, Some, None, Result, Ok, Err, ⊤}
 use Rattle.app_get.specs.declared.error.GetError.{GetError}
 use Rattle.app_get.specs.declared.error.GetError.TheVariants as get_error
 
@@ -10,8 +10,8 @@ pub data Done : Type 0 where
   told_status : ℕ → Done
   told_error : GetError → Done
 
--- these were done more, the last first, where it is told what was done
-abbrev pub Notes : Option (List Done) → List Done → Option (List Done) → Type 0
+-- these are noted more, the last first, where what is noted is told
+abbrev pub Notes : {A : Type 0} → Option (List A) → List A → Option (List A) → Type 0
 Notes None more new = ⊤
 Notes (Some before) more new = new ≡ Some (more ++ before)
 
@@ -82,3 +82,18 @@ pub record FetchesOne (old : Option (List Done)) (status : ℕ) (new : Option (L
   pub outcome : Result ℕ GetError
   pub notes : Notes old (done_at outcome) new
   pub ends : end ≡ ended_by status outcome
+
+-- ---- tries
+
+-- What a try came to: over a connection that was kept, where there was one that may be used, or over a new one.
+pub data Tried : Type 0 where
+  kept_gave : Option (Result ℕ GetError) → Tried
+  new_gave : Result ℕ GetError → Tried
+
+-- A request is asked over a connection that was kept, or, where none may be used, over a new one. It is asked twice only where
+-- the server didn't answer over the first, and where no file is sent: such a request does nothing more when it is repeated.
+abbrev pub IsTried : Option (List Tried) → Bool → Option (List Tried) → Result ℕ GetError → Type 0
+IsTried old has_file new result =
+    Notes old (kept_gave (Some result) ∷ []) new
+    ⊎ (Notes old (new_gave result ∷ kept_gave None ∷ []) new
+    ⊎ ((has_file ≡ false) × Notes old (new_gave result ∷ kept_gave (Some (Err get_error.Unanswered)) ∷ []) new))

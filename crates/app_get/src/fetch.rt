@@ -8,6 +8,7 @@ use crate::link::Link;
 use crate::options::Options;
 use crate::request::{ask, head_for};
 use crate::target::Target;
+use crate::tries::{Tries, try_twice};
 use http_framing::BodySize;
 use http_types::{ReadSource, StdSink};
 use net_sockets::{SocketSink, SocketSource, moment};
@@ -31,6 +32,13 @@ impl<'a> Fetcher<'a> {
             kept: None,
         }
     }
+
+    // Over this connection, or over a new one, which is kept.
+    fn over(&mut self, target: &Target, kept: Option<Link>) -> Result<u16, GetError> {
+        let (status, link) = fetch_over(self.rt, self.options, target, kept)?;
+        self.kept = Some(link);
+        Ok(status)
+    }
 }
 
 impl<'a> Fetches for Fetcher<'a> {
@@ -38,9 +46,9 @@ impl<'a> Fetches for Fetcher<'a> {
     ghost done = { λ _. None };
 
     fn fetch(&mut self, url: &str) -> Result<u16, GetError> {
-        let (status, link) = fetch(self.rt, self.options, url, self.kept.take())?;
-        self.kept = Some(link);
-        Ok(status)
+        let target = Target::read(self.rt.alloc(), url)?;
+        let has_file = self.options.file.is_some();
+        try_twice(self, &target, has_file)
     }
 
     fn tell_status(&mut self, url: &str, status: u16) {
@@ -58,25 +66,22 @@ impl<'a> Fetches for Fetcher<'a> {
     }
 }
 
-// Fetches one, over the connection that is kept where that may be. It gives the answer's status, and the connection.
-fn fetch(
-    rt: HostRuntime,
-    options: &Options<'_>,
-    url: &str,
-    kept: Option<Link>,
-) -> Result<(u16, Link), GetError> {
-    let target = Target::read(rt.alloc(), url)?;
-    if let Some(link) = kept {
-        if link.serves(&rt, &target) {
-            match fetch_over(rt, options, &target, Some(link)) {
-                // A server may close a connection that was kept at any time. What does nothing when it is asked twice is
-                // asked once more (RFC 9112, section 9.3.1).
-                Err(GetError::Unanswered) if options.file.is_none() => {}
-                done => return done,
-            }
+impl<'a> Tries for Fetcher<'a> {
+    // Nor are tries.
+    ghost tried = { λ _. None };
+
+    fn over_kept(&mut self, target: &Target) -> Option<Result<u16, GetError>> {
+        let link = self.kept.take()?;
+        if link.serves(&self.rt, target) {
+            Some(self.over(target, Some(link)))
+        } else {
+            None
         }
     }
-    fetch_over(rt, options, &target, None)
+
+    fn over_new(&mut self, target: &Target) -> Result<u16, GetError> {
+        self.over(target, None)
+    }
 }
 
 // Fetches one over this connection, or over a new one.
@@ -137,11 +142,13 @@ fn open(
     Ok((Some(ReadSource::new(file)), size))
 }
 
-// Only a file that is none of a device or a pipe has a length.
+// Only a file that is none of a device or a pipe has a length. Of some the system doesn't know it, and says 0.
 fn size_of(file: &File, is_chunked: bool) -> Result<BodySize, GetError> {
     match file.metadata() {
         Ok(found) if found.is_dir() => Err(GetError::Folder),
-        Ok(found) if found.is_file() && !is_chunked => Ok(BodySize::Sized(found.len())),
+        Ok(found) if found.is_file() && found.len() > 0 && !is_chunked => {
+            Ok(BodySize::Sized(found.len()))
+        }
         Ok(_) => Ok(BodySize::Stream),
         Err(_) => Err(GetError::File),
     }

@@ -13,6 +13,7 @@ mod request;
 mod show;
 mod target;
 mod transport;
+mod tries;
 mod upload;
 
 use crate::each::fetch_each;
