@@ -37,9 +37,9 @@ file_left left None = Some []
 file_left left (Some b) = left b
 
 -- how often a file failed
-abbrev pub file_faults : {B : Type 0} → (B → ℕ) → Option B → ℕ
-file_faults faults None = 0
-file_faults faults (Some b) = faults b
+abbrev pub faults_of_file : {B : Type 0} → (B → ℕ) → Option B → ℕ
+faults_of_file faults None = 0
+faults_of_file faults (Some b) = faults b
 
 -- ---- what happened, the last first
 

@@ -79,7 +79,7 @@ impl<S: TimedSource + Drop, K: TimedSink + Drop, B: Source + Drop, O: Sink + Dro
         ensures part { IfOk result (λ taken. (taken ≡ Taken.Part) × Goes self.old self.new) }
         ensures stops { IfErr result (λ error. Stops self.old self.new error) }
     {
-        if self.status == Some(101) {
+        if let Some(101) = self.status {
             return Err(GetError::Protocol);
         }
         // The status of an interim one isn't noted.

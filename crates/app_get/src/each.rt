@@ -1,6 +1,6 @@
 //! URL after URL.
-ghost use Rattle.std.specs.Prelude.{[], ◌∷◌, length};
-ghost use Rattle.app_get.specs.Fetching.{fetched, told_status, told_error, Notes, FetchesEach, FetchesOne};
+ghost use Rattle.std.specs.Prelude.{Option, List, [], ◌∷◌, length};
+ghost use Rattle.app_get.specs.Fetching.{Done, fetched, told_status, told_error, Notes, FetchesEach, FetchesOne};
 
 use crate::error::GetError;
 
@@ -9,9 +9,6 @@ const NO_SUCCESS: u8 = 8;
 
 /// What fetches URLs, and tells the user what is wrong with one.
 pub trait Fetches {
-    ghost use Rattle.std.specs.Prelude.{List, Option};
-    ghost use Rattle.app_get.specs.Fetching.{Done};
-
     /// What was done so far, the last first, where that is told.
     ghost done: { Self → Option (List Done) };
 

@@ -1,6 +1,6 @@
 //! One request and its answer over a connection: a client's whole loop.
 ghost use Rattle.std.specs.Prelude.{◌≡◌, ◌⊎◌, false, None, Some, OnOk, IfOk, IfErr};
-ghost use Rattle.app_get.specs.Exchange.{Ends, file_left, file_faults, Goes, IsWhole, IsPending};
+ghost use Rattle.app_get.specs.Exchange.{Ends, file_left, faults_of_file, Goes, IsWhole, IsPending};
 ghost use Rattle.app_get.specs.Failure.{Stops, IsEndless};
 
 use crate::answer::Taken;
@@ -41,7 +41,7 @@ pub struct Exchange<S: TimedSource, K: TimedSink, B: Source, O: Sink> {
 }
 
 impl<S: TimedSource, K: TimedSink, B: Source, O: Sink> Model for Exchange<S, K, B, O> {
-    ghost use Rattle.app_get.specs.Exchange.{Ends, file_left, file_faults};
+    ghost use Rattle.app_get.specs.Exchange.{Ends, file_left, faults_of_file};
 
     ghost Value = { Ends };
 
@@ -56,7 +56,7 @@ impl<S: TimedSource, K: TimedSink, B: Source, O: Sink> Model for Exchange<S, K, 
       begun = e.has_begun;
       came_faults = S.faults e.input;
       sent_faults = K.faults e.output;
-      file_faults = file_faults B.faults e.body;
+      file_faults = faults_of_file B.faults e.body;
       out_faults = O.faults e.out;
     } };
 }
@@ -89,7 +89,7 @@ impl<S: TimedSource + Drop, K: TimedSink + Drop, B: Source + Drop, O: Sink + Dro
           begun = false;
           came_faults = S.faults input;
           sent_faults = K.faults output;
-          file_faults = file_faults B.faults body;
+          file_faults = faults_of_file B.faults body;
           out_faults = O.faults out;
         } }
     {

@@ -1,15 +1,12 @@
 //! Over a connection that was kept, or over a new one.
-ghost use Rattle.std.specs.Prelude.{[], ◌∷◌};
-ghost use Rattle.app_get.specs.Fetching.{kept_gave, new_gave, Notes, IsTried};
+ghost use Rattle.std.specs.Prelude.{Option, List, [], ◌∷◌};
+ghost use Rattle.app_get.specs.Fetching.{Tried, kept_gave, new_gave, Notes, IsTried};
 
 use crate::error::GetError;
 use crate::target::Target;
 
 /// What asks for a target over connections.
 pub trait Tries {
-    ghost use Rattle.std.specs.Prelude.{List, Option};
-    ghost use Rattle.app_get.specs.Fetching.{Tried};
-
     /// What was tried so far, the last first, where that is told.
     ghost tried: { Self → Option (List Tried) };
 

@@ -5,7 +5,7 @@ ghost use Rattle.std.specs.Io.KnownBytes.{IsAtEnd, ReadConsumes};
 ghost use Rattle.http_config.specs.Causes.{Rose};
 ghost use Rattle.h1_client.specs.State.{IsAllowed};
 ghost use Rattle.model_client.specs.ClientEvent as on;
-ghost use Rattle.app_get.specs.Exchange.{Goes, Acts, file_left, file_faults};
+ghost use Rattle.app_get.specs.Exchange.{Goes, Acts, file_left, faults_of_file};
 ghost use Rattle.app_get.specs.Failure.{Stops};
 
 use crate::error::GetError;
@@ -88,7 +88,7 @@ impl<S: TimedSource + Drop, K: TimedSink + Drop, B: Source + Drop, O: Sink + Dro
 fn read_file<B: Source>(body: &mut Option<B>, piece: &mut [u8]) -> Result<usize, GetError>
     ensures bound { ReadsAtMost result piece.new }
     ensures bytes { ReadConsumes (file_left B.left body.old) (file_left B.left body.new) result piece.new }
-    ensures cause { IfErr result (λ error. (error ≡ GetError.File) × Rose (file_faults B.faults body.old) (file_faults B.faults body.new)) }
+    ensures cause { IfErr result (λ error. (error ≡ GetError.File) × Rose (faults_of_file B.faults body.old) (faults_of_file B.faults body.new)) }
 {
     match body {
         Some(source) => match source.read(piece) {

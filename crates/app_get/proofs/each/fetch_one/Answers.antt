@@ -1,8 +1,8 @@
 use Rattle.app_get.proofs.Outcomes.{one_well, one_refused, one_failed}
 use Rattle.app_get.proofs.each.fetch_one.Goals as goal
 
-pub returns-in-Ok-then-said-lt400 : goal.returns-in-Ok-then-said-lt400
-returns-in-Ok-then-said-lt400 g c = one_well _ _ _ _ c.if-said-lt400.true c.in-Ok.ensures
+pub returns-then-said-lt400 : goal.returns-then-said-lt400
+returns-then-said-lt400 g c = one_well _ _ _ _ c.if-said-lt400.true c.in-Ok.ensures
 
 pub returns-in-Ok : goal.returns-in-Ok
 returns-in-Ok g c = one_refused _ _ _ _ _ c.if-said-lt400.false c.in-Ok.ensures c.tell_status.ensures

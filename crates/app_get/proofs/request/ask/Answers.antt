@@ -2,8 +2,8 @@ use Rattle.std.proofs.Common.{refl, sym, ◌∙◌, inl, inr}
 use Rattle.app_get.proofs.Asking.{done_stands}
 use Rattle.app_get.proofs.request.ask.Goals as goal
 
-pub returns-then-can_ask-clause-unasked : goal.returns-then-can_ask-clause-unasked
-returns-then-can_ask-clause-unasked c = inr (refl, sym c.can_ask.ensures ∙ c.if-can_ask.false)
+pub returns-then-not-can_ask-clause-unasked : goal.returns-then-not-can_ask-clause-unasked
+returns-then-not-can_ask-clause-unasked c = inr (refl, sym c.can_ask.ensures ∙ c.if-not-can_ask.true)
 
 pub returns-in_err-ask-clause-unasked : goal.returns-in_err-ask-clause-unasked
 returns-in_err-ask-clause-unasked c = inl refl

@@ -9,13 +9,13 @@ use Rattle.app_get.proofs.exchange.Exchange.fill.Goals as goal
 
 pub fill_room-requires : goal.fill_room-requires
 fill_room-requires g c = record {
-  can_chunk = λ bytes. subst (λ (e : Ends). IsAllowed e.state (on.chunk bytes)) c.self.view_is (sym (c.can_chunk.ensures bytes) ∙ c.if-can_chunk.true);
+  can_chunk = λ bytes. subst (λ (e : Ends). IsAllowed e.state (on.chunk bytes)) c.self.view_is (sym (c.can_chunk.ensures bytes) ∙ c.if-not-can_chunk.false);
 }
 
-pub returns-else-can_chunk-clause-acts : goal.returns-else-can_chunk-clause-acts
-returns-else-can_chunk-clause-acts g c =
+pub returns-then-not-can_chunk-clause-acts : goal.returns-then-not-can_chunk-clause-acts
+returns-then-not-can_chunk-clause-acts g c =
     let may : client_allows (setting_of c.args.self.now.state.settings) c.args.self.now.state.kept (on.chunk []) ≡ false =
-        subst (λ (e : Ends). client_allows (setting_of e.state.settings) e.state.kept (on.chunk []) ≡ false) c.self.view_is (sym (c.can_chunk.ensures []) ∙ c.if-can_chunk.false) in
+        subst (λ (e : Ends). client_allows (setting_of e.state.settings) e.state.kept (on.chunk []) ≡ false) c.self.view_is (sym (c.can_chunk.ensures []) ∙ c.if-not-can_chunk.true) in
     not_allowed _ _ may
 
 pub returns-clause-goes : goal.returns-clause-goes

@@ -7,14 +7,14 @@ use Rattle.app_get.specs.Exchange.{Ends}
 use Rattle.app_get.proofs.Stopping.{stuck_stops}
 use Rattle.app_get.proofs.exchange.Exchange.read_more.Goals as goal
 
-pub returns-then-can_read-clause-stops : goal.returns-then-can_read-clause-stops
-returns-then-can_read-clause-stops g c =
+pub returns-then-not-can_read-clause-stops : goal.returns-then-not-can_read-clause-stops
+returns-then-not-can_read-clause-stops g c =
     stuck_stops _ _ _ c.self.view_is
-    (inr (inl (subst (λ (e : Ends). client_allows (setting_of e.state.settings) e.state.kept on.eof ≡ false) c.self.view_is (sym c.can_read.ensures.eof ∙ c.if-can_read.false))))
+    (inr (inl (subst (λ (e : Ends). client_allows (setting_of e.state.settings) e.state.kept on.eof ≡ false) c.self.view_is (sym c.can_read.ensures.eof ∙ c.if-not-can_read.true))))
     (Keeps-refl _)
 
-pub returns-then-room-clause-stops : goal.returns-then-room-clause-stops
-returns-then-room-clause-stops g c =
+pub returns-then-room-eq0-clause-stops : goal.returns-then-room-eq0-clause-stops
+returns-then-room-eq0-clause-stops g c =
     stuck_stops _ _ _ c.self.view_is
     (inr (inr (subst (λ (e : Ends). e.state.settings.h1_hold_size - length e.state.kept.unread ≡ 0) c.self.view_is (omega (arith, c.read_room.ensures)))))
     (Keeps-refl _)

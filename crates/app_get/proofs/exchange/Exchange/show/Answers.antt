@@ -1,4 +1,4 @@
-use Rattle.std.proofs.Common.{◌≡◌, Some, refl, sym, subst, ◌∙◌}
+use Rattle.std.proofs.Common.{ℕ, Some, refl, sym, ap, ◌∙◌}
 use Rattle.std.proofs.KnownBytes.{Consumes-nil, Keeps-refl}
 use Rattle.app_get.specs.Exchange.{Ends}
 use Rattle.app_get.proofs.Going.{goes_none}
@@ -6,19 +6,19 @@ use Rattle.app_get.proofs.Steps.{no_step, never_hidden, quiet_known}
 use Rattle.app_get.proofs.Stopping.{head_fails, protocol_stops}
 use Rattle.app_get.proofs.exchange.Exchange.show.Goals as goal
 
-pub returns-then-self-clause-stops : goal.returns-then-self-clause-stops
-returns-then-self-clause-stops g c =
-    protocol_stops _ _ _ c.self.view_is c.if-self.true (Keeps-refl _)
+pub returns-in-Some-eq101-clause-stops : goal.returns-in-Some-eq101-clause-stops
+returns-in-Some-eq101-clause-stops g c =
+    protocol_stops _ _ _ c.self.view_is (c.in-Some-eq101.is ∙ ap (λ (n : ℕ). Some n) c.in-Some-eq101.field-0-test) (Keeps-refl _)
 
 pub returns-in_ok-write_head-clause-part : goal.returns-in_ok-write_head-clause-part
 returns-in_ok-write_head-clause-part g c = (
   refl,
-  no_step _ _ _ c.self.view_is refl (Keeps-refl _) (Keeps-refl _) (Consumes-nil _) (never_hidden _ _ c.if-self-2.true)
+  no_step _ _ _ c.self.view_is refl (Keeps-refl _) (Keeps-refl _) (Consumes-nil _) (never_hidden _ _ c.if-self.true)
   (quiet_known _ _ refl (sym c.is_some.ensures ∙ c.if-is_some.true)) refl refl,
 )
 
 pub returns-in_err-write_head-clause-stops : goal.returns-in_err-write_head-clause-stops
-returns-in_err-write_head-clause-stops g c = head_fails _ _ _ _ c.self.view_is c.if-self-2.true c.in_err-write_head.ensures.err
+returns-in_err-write_head-clause-stops g c = head_fails _ _ _ _ c.self.view_is c.if-self.true c.in_err-write_head.ensures.err
 
 pub returns-else-self-clause-part : goal.returns-else-self-clause-part
 returns-else-self-clause-part g c = (refl, goes_none _)

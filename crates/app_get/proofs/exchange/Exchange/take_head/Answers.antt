@@ -10,10 +10,10 @@ use Rattle.app_get.proofs.Stopping.{err_then, no_memory, stuck_stops, heard_ends
 use Rattle.app_get.proofs.Taking.{pending_after, shown_taken}
 use Rattle.app_get.proofs.exchange.Exchange.take_head.Goals as goal
 
-pub returns-then-can_next-clause-stops : goal.returns-then-can_next-clause-stops
-returns-then-can_next-clause-stops g c =
+pub returns-then-not-can_next-clause-stops : goal.returns-then-not-can_next-clause-stops
+returns-then-not-can_next-clause-stops g c =
     stuck_stops _ _ _ c.self.view_is
-    (inl (subst (λ (e : Ends). client_allows (setting_of e.state.settings) e.state.kept on.next ≡ false) c.self.view_is (sym c.can_next.ensures ∙ c.if-can_next.false)))
+    (inl (subst (λ (e : Ends). client_allows (setting_of e.state.settings) e.state.kept on.next ≡ false) c.self.view_is (sym c.can_next.ensures ∙ c.if-not-can_next.true)))
     (Keeps-refl _)
 
 pub returns-in_err-item-clause-stops : goal.returns-in_err-item-clause-stops
