@@ -1,5 +1,5 @@
 //! Over a connection that was kept, or over a new one.
-ghost use Rattle.std.specs.Prelude.{Option, List, [], ◌∷◌};
+ghost use Rattle.std.specs.Prelude.{◌≡◌, Option, List, [], ◌∷◌, false, IsTrue};
 ghost use Rattle.app_get.specs.Fetching.{Tried, kept_gave, new_gave, Notes, IsTried};
 
 use crate::error::GetError;
@@ -28,7 +28,21 @@ pub fn try_twice<T: Tries>(tries: &mut T, target: &Target, has_file: bool) -> Re
 {
     match tries.over_kept(target) {
         None => tries.over_new(target),
-        Some(Err(GetError::Unanswered)) if !has_file => tries.over_new(target),
-        Some(done) => done,
+        Some(done) => {
+            if !may_be_repeated(&done, has_file) {
+                return done;
+            }
+            tries.over_new(target)
+        }
+    }
+}
+
+// Whether what came to this may be asked once more: the server didn't answer, and no file was sent.
+fn may_be_repeated(done: &Result<u16, GetError>, has_file: bool) -> bool
+    ensures { IsTrue result → (done.now ≡ Err GetError.Unanswered) × (has_file ≡ false) }
+{
+    match done {
+        Err(GetError::Unanswered) => !has_file,
+        _ => false,
     }
 }

@@ -1,12 +1,14 @@
-use Rattle.std.proofs.Common.{◌≡◌, ◌∙◌, Some, ap, subst, inl, inr}
+use Rattle.std.proofs.Common.{refl}
 use Rattle.app_get.proofs.Outcomes.{tried_new, tried_again, tried_kept}
 use Rattle.app_get.proofs.tries.try_twice.Goals as goal
 
 pub returns-in-None : goal.returns-in-None
-returns-in-None g c = tried_new _ _ _ _ _ _ c.over_kept.ensures c.in-None.is c.over_new-in-None.ensures
+returns-in-None g c = tried_new _ _ _ _ _ _ c.in-None.ensures refl c.over_new.ensures
 
-pub returns-in-Some-Err-Unanswered : goal.returns-in-Some-Err-Unanswered
-returns-in-Some-Err-Unanswered g c = tried_again _ _ _ _ _ _ c.over_kept.ensures (search rules) c.if-not-has_file.true c.over_new-in-Some-Err-Unanswered.ensures
+pub returns-then-not-may_be_repeated : goal.returns-then-not-may_be_repeated
+returns-then-not-may_be_repeated g c = tried_kept _ _ _ _ _ c.in-Some.ensures refl
 
-pub returns : goal.returns
-returns g c = tried_kept _ _ _ _ _ c.over_kept.ensures c.in-Some.is
+pub returns-in-Some : goal.returns-in-Some
+returns-in-Some g c =
+    let may = c.may_be_repeated.ensures c.if-not-may_be_repeated.false in
+    tried_done _ _ _ _ _ _ c.in-Some.ensures may.0 may.1 c.over_new-in-Some.ensures
