@@ -114,9 +114,9 @@ are_all [] count many whole = sym many
 are_all (Ok said ∷ before) count many whole = (omega (arith, many), whole)
 are_all (Err error ∷ before) count many whole = absurd (cc whole)
 
-pub fetched_each : (a b : Option (List Done)) (count status : ℕ) → HasFetched a count b status → FetchesEach a count b status
-fetched_each a b count status all =
-    record { outcomes = all.outcomes; all = are_all all.outcomes count all.many all.whole; notes = all.notes; ends = all.ends }
+pub fetched_each : (a b : Option (List Done)) (count all status : ℕ) → HasFetched a count b status → count ≡ all → FetchesEach a all b status
+fetched_each a b count all status done same =
+    record { outcomes = done.outcomes; all = are_all done.outcomes all (done.many ∙ same) done.whole; notes = done.notes; ends = done.ends }
 
 -- ---- tries
 

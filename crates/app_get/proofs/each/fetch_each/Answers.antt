@@ -1,3 +1,4 @@
+use Rattle.std.proofs.Common.{length, arith}
 use Rattle.app_get.proofs.Outcomes.{fetched_none, fetched_more, fetched_stopped, fetched_each}
 use Rattle.app_get.proofs.each.fetch_each.Goals as goal
 
@@ -11,4 +12,4 @@ pub returns-in-Err : goal.returns-in-Err
 returns-in-Err g c = fetched_stopped _ _ _ _ _ _ _ c.loop-url.invariant c.loop-url-test.true c.in-Err.ensures
 
 pub returns : goal.returns
-returns g c = fetched_each _ _ _ _ c.loop-url.invariant
+returns g c = fetched_each _ _ c.loop-url.url-index (length c.args.urls.now) _ c.loop-url.invariant (omega arith)
