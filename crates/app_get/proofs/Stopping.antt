@@ -41,6 +41,9 @@ err_then (Err e) a b c first second = stops_then a b c e first second
 pub as_error : (was new : Ends) (e error : GetError) → error ≡ e → Stops was new e → Stops was new error
 as_error was new e error is stops = subst (λ (e : GetError). Stops was new e) (sym is) stops
 
+pub keeps_equal : (a b : Option (List ℕ)) → b ≡ a → Keeps a b
+keeps_equal a b same = subst (λ (l : Option (List ℕ)). Keeps a l) (sym same) (Keeps-refl a)
+
 -- ---- for want of memory, and by the file
 
 pub no_memory : (was old new : Ends) (error : GetError) → old ≡ was → error ≡ get_error.NoMemory → Keeps old.out new.out → Stops was new error

@@ -1,4 +1,4 @@
-use Rattle.std.proofs.Common.{ℕ, Some, refl, sym, ap, ◌∙◌}
+use Rattle.std.proofs.Common.{◌≡◌, ℕ, Some, refl, sym, ap, subst, ◌∙◌}
 use Rattle.std.proofs.KnownBytes.{Consumes-nil, Keeps-refl}
 use Rattle.app_get.specs.Exchange.{Ends}
 use Rattle.app_get.proofs.Going.{goes_none}
@@ -8,7 +8,8 @@ use Rattle.app_get.proofs.exchange.Exchange.show.Goals as goal
 
 pub returns-in-Some-eq101-clause-stops : goal.returns-in-Some-eq101-clause-stops
 returns-in-Some-eq101-clause-stops g c =
-    protocol_stops _ _ _ c.self.view_is (c.in-Some-eq101.is ∙ ap (λ (n : ℕ). Some n) c.in-Some-eq101.field-0-test) (Keeps-refl _)
+    protocol_stops _ _ _ refl
+    (subst (λ (e : Ends). e.status ≡ Some 101) c.self.view_is (c.in-Some-eq101.is ∙ ap (λ (n : ℕ). Some n) c.in-Some-eq101.field-0-test)) (Keeps-refl _)
 
 pub returns-in_ok-write_head-clause-part : goal.returns-in_ok-write_head-clause-part
 returns-in_ok-write_head-clause-part g c = (

@@ -6,18 +6,18 @@ use Rattle.h1_client.specs.declared.event.NextAnswer.TheVariants as next
 use Rattle.model_client.specs.ClientEvent as on
 use Rattle.model_client.specs.ClientKept.{client_allows}
 use Rattle.app_get.specs.Exchange.{Ends}
-use Rattle.app_get.proofs.Stopping.{err_then, no_memory, stuck_stops, heard_ends, heard_malformed, heard_too_large}
+use Rattle.app_get.proofs.Stopping.{err_then, keeps_equal, no_memory, stuck_stops, heard_ends, heard_malformed, heard_too_large}
 use Rattle.app_get.proofs.Taking.{pending_after, shown_taken}
 use Rattle.app_get.proofs.exchange.Exchange.take_head.Goals as goal
 
 pub returns-then-not-can_next-clause-stops : goal.returns-then-not-can_next-clause-stops
 returns-then-not-can_next-clause-stops g c =
-    stuck_stops _ _ _ c.self.view_is
+    stuck_stops _ _ _ refl
     (inl (subst (λ (e : Ends). client_allows (setting_of e.state.settings) e.state.kept on.next ≡ false) c.self.view_is (sym c.can_next.ensures ∙ c.if-not-can_next.true)))
     (Keeps-refl _)
 
 pub returns-in_err-item-clause-stops : goal.returns-in_err-item-clause-stops
-returns-in_err-item-clause-stops g c = no_memory _ _ _ _ refl refl (c.in_err-item.ensures.err)
+returns-in_err-item-clause-stops g c = no_memory _ _ _ _ refl refl (keeps_equal _ _ c.in_err-item.ensures.err)
 
 pub returns-in-Answer-clause-taken : goal.returns-in-Answer-clause-taken
 returns-in-Answer-clause-taken g c = shown_taken _ _ _ _ c.in_ok-item.ensures.heard.acts c.show.ensures.part
