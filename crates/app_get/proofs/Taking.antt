@@ -1,5 +1,5 @@
 -- What is taken of an answer.
-use Rattle.std.specs.Prelude.{◌≡◌, ℕ, ◌+◌, ◌≤◌, Bool, false, length, Option, Some, Result, Ok, Err, IfOk, IsTrue}
+use Rattle.std.specs.Prelude.{◌≡◌, ◌≢◌, ℕ, ◌+◌, ◌≤◌, Bool, false, length, Option, Some, Result, Ok, Err, IfOk, IsTrue}
 use Rattle.std.proofs.Common.{refl, sym, ap, subst, ◌∙◌, None, arith}
 use Rattle.h1_client.specs.ClientMeaning.{setting_of}
 use Rattle.h1_client.specs.State.{State, Stands, GoesOn, Is}
@@ -16,20 +16,22 @@ use Rattle.app_get.proofs.Going.{goes_none, goes_then, acts_then, more_then}
 
 -- the connection ends in order
 pub whole_at_end : (a : Ends) (status : ℕ) (end : ClientEnd) → client_allows (setting_of a.state.settings) a.state.kept on.pull ≡ false
-    → client_closing a.state.kept ≡ Some end → is_failure (Some end) ≡ false → a.status ≡ Some status → IsTaken (taking.Whole status) a a
-whole_at_end a status end left is fine noted = (
+    → client_closing a.state.kept ≡ Some end → is_failure (Some end) ≡ false → a.status ≡ Some status → status ≢ 101 → IsTaken (taking.Whole status) a a
+whole_at_end a status end left is fine noted plain = (
   goes_none a,
   record { nothing_left = left; unbroken = ap is_failure is ∙ fine; free = free_at_end (setting_of a.state.settings) a.state.kept end is fine },
   noted,
+  plain,
 )
 
 -- or the next answer may come
 pub whole_for_next : (a : Ends) (status : ℕ) → client_allows (setting_of a.state.settings) a.state.kept on.pull ≡ false → client_closing a.state.kept ≡ None
-    → IsTrue (client_allows (setting_of a.state.settings) a.state.kept on.next) → a.status ≡ Some status → IsTaken (taking.Whole status) a a
-whole_for_next a status left is may noted = (
+    → IsTrue (client_allows (setting_of a.state.settings) a.state.kept on.next) → a.status ≡ Some status → status ≢ 101 → IsTaken (taking.Whole status) a a
+whole_for_next a status left is may noted plain = (
   goes_none a,
   record { nothing_left = left; unbroken = ap is_failure is; free = λ trace stands. free_for_next (setting_of a.state.settings) a.state.kept is may },
   noted,
+  plain,
 )
 
 -- ---- nothing
@@ -59,8 +61,8 @@ nothing_acts t a b taken is = let n : IsTaken taking.Nothing a b = subst (λ (t 
 pub nothing_pending : (t : Taken) (a b : Ends) → IsTaken t a b → t ≡ taking.Nothing → IsPending b.state
 nothing_pending t a b taken is = let n : IsTaken taking.Nothing a b = subst (λ (t : Taken). IsTaken t a b) is taken in n.1
 
-pub whole_is : (t : Taken) (a b : Ends) (status : ℕ) → IsTaken t a b → t ≡ taking.Whole status → IsWhole b.state × (b.status ≡ Some status)
-whole_is t a b status taken is = let w : IsTaken (taking.Whole status) a b = subst (λ (t : Taken). IsTaken t a b) is taken in (w.1, w.2)
+pub whole_is : (t : Taken) (a b : Ends) (status : ℕ) → IsTaken t a b → t ≡ taking.Whole status → IsWhole b.state × (b.status ≡ Some status) × (status ≢ 101)
+whole_is t a b status taken is = let w : IsTaken (taking.Whole status) a b = subst (λ (t : Taken). IsTaken t a b) is taken in (w.1, w.2, w.3)
 
 -- a turn more, by an event at least
 turned : (a b c : Ends) (n : ℕ) (first : Goes a b) → n ≤ length first.more → Acts b c → (goes : Goes a c) × (n + 1 ≤ length goes.more)

@@ -1,5 +1,5 @@
 -- What moves in an exchange: from the connection to the server and back, out of the file that is sent, and to the output.
-use Rattle.std.specs.Prelude.{◌≡◌, ℕ, ◌<◌, ◌⊎◌, Bool, true, false, ◌||◌, List, [], ◌++◌, ◌∷◌, length, if◌then◌else◌, Option, Some, None, ⊤}
+use Rattle.std.specs.Prelude.{◌≡◌, ◌≢◌, ℕ, ◌<◌, ◌⊎◌, Bool, true, false, ◌||◌, List, [], ◌++◌, ◌∷◌, length, if◌then◌else◌, Option, Some, None, ⊤}
 use Rattle.std.specs.Io.KnownBytes.{Consumes, Appends, Keeps}
 use Rattle.http_config.specs.Causes.{Rose}
 use Rattle.h1_client.specs.ClientMeaning.{setting_of}
@@ -179,9 +179,9 @@ pub record IsPending (state : State) : Type 0 where
   pub asks : asks_more event ≡ true
   pub answered : GoesOn before event (Is on.pending) state
 
--- What was taken of an answer. Where it is the rest, the answer is whole, and has this status. A part is taken by an event at
--- least. Where it is nothing, nothing more has come.
+-- What was taken of an answer. Where it is the rest, the answer is whole, and has this status, which isn't that of another
+-- protocol. A part is taken by an event at least. Where it is nothing, nothing more has come.
 abbrev pub IsTaken : Taken → Ends → Ends → Type 0
-IsTaken (taking.Whole status) old new = Goes old new × IsWhole new.state × (new.status ≡ Some status)
+IsTaken (taking.Whole status) old new = Goes old new × IsWhole new.state × (new.status ≡ Some status) × (status ≢ 101)
 IsTaken taking.Part old new = Acts old new
 IsTaken taking.Nothing old new = Acts old new × IsPending new.state

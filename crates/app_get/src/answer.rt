@@ -1,5 +1,5 @@
 // What comes of the answer.
-ghost use Rattle.std.specs.Prelude.{◌≡◌, false, Some, IsSome, IfOk, IfErr, OnErr, if◌then◌else◌};
+ghost use Rattle.std.specs.Prelude.{◌≡◌, ◌≢◌, false, Some, IsSome, IfOk, IfErr, OnErr, if◌then◌else◌};
 ghost use Rattle.h1_client.specs.Answers.{SaysNext};
 ghost use Rattle.h1_client.specs.ClientMeaning.{setting_of};
 ghost use Rattle.h1_client.specs.State.{IsAllowed};
@@ -74,14 +74,11 @@ impl<S: TimedSource + Drop, K: TimedSink + Drop, B: Source + Drop, O: Sink + Dro
         Ok(next)
     }
 
-    // Writes a head out, where that is wanted and it isn't interim. Nobody asked for another protocol.
+    // Writes a head out, where that is wanted and it isn't interim.
     fn show(&mut self, item: &ResponseItem) -> Result<Taken, GetError>
         ensures part { IfOk result (λ taken. (taken ≡ Taken.Part) × Goes self.old self.new) }
         ensures stops { IfErr result (λ error. Stops self.old self.new error) }
     {
-        if let Some(101) = self.status {
-            return Err(GetError::Protocol);
-        }
         // The status of an interim one isn't noted.
         if self.shows_head && self.status.is_some() {
             write_head(self.alloc, item, &mut self.out)?;
@@ -89,11 +86,15 @@ impl<S: TimedSource + Drop, K: TimedSink + Drop, B: Source + Drop, O: Sink + Dro
         Ok(Taken::Part)
     }
 
+    // What comes next of the body. Nobody asked for another protocol.
     fn take_body(&mut self, status: u16) -> Result<Taken, GetError>
         requires { self.old.status ≡ Some status }
         ensures taken { IfOk result (λ taken. IsTaken taken self.old self.new) }
         ensures stops { IfErr result (λ error. Stops self.old self.new error) }
     {
+        if status == 101 {
+            return Err(GetError::Protocol);
+        }
         if self.connection.can_pull() {
             self.pull()
         } else {
@@ -105,6 +106,7 @@ impl<S: TimedSource + Drop, K: TimedSink + Drop, B: Source + Drop, O: Sink + Dro
     fn pull(&mut self) -> Result<Taken, GetError>
         requires can_pull { IsAllowed self.old.state on.pull }
         requires noted { IsSome self.old.status }
+        requires plain { self.old.status ≢ Some 101 }
         ensures taken { IfOk result (λ taken. IsTaken taken self.old self.new) }
         ensures stops { IfErr result (λ error. Stops self.old self.new error) }
     {
@@ -124,6 +126,7 @@ impl<S: TimedSource + Drop, K: TimedSink + Drop, B: Source + Drop, O: Sink + Dro
     // Nothing more is to be pulled: the answer is whole, unless the connection failed before it was.
     fn finish(&self, status: u16) -> Result<Taken, GetError>
         requires noted { self.now.status ≡ Some status }
+        requires plain { status ≢ 101 }
         requires nothing_left { client_allows (setting_of self.now.state.settings) self.now.state.kept on.pull ≡ false }
         ensures taken { IfOk result (λ taken. IsTaken taken self.now self.now) }
         ensures stops { IfErr result (λ error. Stops self.now self.now error) }

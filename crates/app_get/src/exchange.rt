@@ -1,5 +1,5 @@
 //! One request and its answer over a connection: a client's whole loop.
-ghost use Rattle.std.specs.Prelude.{◌≡◌, ◌⊎◌, false, None, Some, OnOk, IfOk, IfErr};
+ghost use Rattle.std.specs.Prelude.{◌≡◌, ◌≢◌, ◌⊎◌, false, None, Some, OnOk, IfOk, IfErr};
 ghost use Rattle.app_get.specs.Exchange.{Ends, file_left, faults_of_file, Goes, IsWhole, IsPending};
 ghost use Rattle.app_get.specs.Failure.{Stops, IsEndless};
 
@@ -134,6 +134,7 @@ impl<S: TimedSource + Drop, K: TimedSink + Drop, B: Source + Drop, O: Sink + Dro
         ensures goes { OnOk result (Goes self.old self.new) }
         ensures whole { OnOk result (IsWhole self.new.state) }
         ensures status { IfOk result (λ status. self.new.status ≡ Some status) }
+        ensures protocol { IfOk result (λ status. status ≢ 101) }
         ensures stops { IfErr result (λ error. Stops self.old self.new error ⊎ IsEndless self.old self.new error) }
     {
         let mut patience = Patience::begin(&self.input, wait);

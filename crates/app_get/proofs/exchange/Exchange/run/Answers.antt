@@ -2,7 +2,7 @@ use Rattle.std.proofs.Common.{refl, inl, inr, arith}
 use Rattle.app_get.specs.Exchange.{Goes, Acts}
 use Rattle.app_get.proofs.Going.{goes_none, goes_then, taken_goes, acts_then, then_acts}
 use Rattle.app_get.proofs.Stopping.{stops_then}
-use Rattle.app_get.proofs.Taking.{part_acts, nothing_acts, turned_as}
+use Rattle.app_get.proofs.Taking.{part_acts, nothing_acts, nothing_pending, whole_is, turned_as}
 use Rattle.app_get.proofs.exchange.Exchange.run.Goals as goal
 use Rattle.app_get.proofs.exchange.Exchange.run.Goals.{in-Part, in-Nothing+in_ok-listen-in-Nothing}
 
@@ -12,6 +12,18 @@ loop-turn-init g c = (goes_none _, omega arith)
 pub returns-in-Whole-clause-goes : goal.returns-in-Whole-clause-goes
 returns-in-Whole-clause-goes g c =
     goes_then _ _ _ c.loop-turn.invariant.0 (goes_then _ _ _ c.in_ok-fill.ensures.goes (taken_goes _ _ _ c.in_ok-status.ensures.taken))
+
+pub returns-in-Whole-clause-whole : goal.returns-in-Whole-clause-whole
+returns-in-Whole-clause-whole g c = (whole_is _ _ _ _ c.in_ok-status.ensures.taken c.in-Whole.is).0
+
+pub returns-in-Whole-clause-status : goal.returns-in-Whole-clause-status
+returns-in-Whole-clause-status g c = (whole_is _ _ _ _ c.in_ok-status.ensures.taken c.in-Whole.is).1
+
+pub returns-in-Whole-clause-protocol : goal.returns-in-Whole-clause-protocol
+returns-in-Whole-clause-protocol g c = (whole_is _ _ _ _ c.in_ok-status.ensures.taken c.in-Whole.is).2
+
+pub listen-requires : goal.listen-requires
+listen-requires g c = nothing_pending _ _ _ c.in_ok-status.ensures.taken c.in-Nothing.is
 
 pub returns-in_err-fill-clause-stops : goal.returns-in_err-fill-clause-stops
 returns-in_err-fill-clause-stops g c = inl (stops_then _ _ _ _ c.loop-turn.invariant.0 c.in_err-fill.ensures.stops)

@@ -1,15 +1,9 @@
-use Rattle.std.proofs.Common.{◌≡◌, ℕ, Some, refl, sym, ap, subst, ◌∙◌}
+use Rattle.std.proofs.Common.{refl, sym, ◌∙◌}
 use Rattle.std.proofs.KnownBytes.{Consumes-nil, Keeps-refl}
-use Rattle.app_get.specs.Exchange.{Ends}
 use Rattle.app_get.proofs.Going.{goes_none}
 use Rattle.app_get.proofs.Steps.{no_step, never_hidden, quiet_known}
-use Rattle.app_get.proofs.Stopping.{head_fails, protocol_stops}
+use Rattle.app_get.proofs.Stopping.{head_fails}
 use Rattle.app_get.proofs.exchange.Exchange.show.Goals as goal
-
-pub returns-in-Some-eq101-clause-stops : goal.returns-in-Some-eq101-clause-stops
-returns-in-Some-eq101-clause-stops g c =
-    protocol_stops _ _ _ refl
-    (subst (λ (e : Ends). e.status ≡ Some 101) c.self.view_is (c.in-Some-eq101.is ∙ ap (λ (n : ℕ). Some n) c.in-Some-eq101.field-0-test)) (Keeps-refl _)
 
 pub returns-in_ok-write_head-clause-part : goal.returns-in_ok-write_head-clause-part
 returns-in_ok-write_head-clause-part g c = (
