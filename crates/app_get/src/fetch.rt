@@ -102,7 +102,7 @@ fn fetch_over(
         Some(link) => link,
         None => Link::open(&rt, alloc, target, options.wait)?,
     };
-    ask(&mut connection, moment(&rt), &head, size)?;
+    ask(&mut connection, moment(&rt).unwrap_or(0), &head, size)?;
     let mut exchange = Exchange::new(
         alloc,
         connection,

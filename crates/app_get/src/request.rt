@@ -1,6 +1,5 @@
 //! What is asked.
 ghost use Rattle.std.specs.Prelude.{◌≡◌, is_some, OnOk, IfOk, IfErr};
-ghost use Rattle.std.specs.Option.{unwrap_or};
 ghost use Rattle.h1_client.specs.ClientMeaning.{request_of};
 ghost use Rattle.h1_encoder.specs.Meaning.{size_of};
 ghost use Rattle.app_get.specs.Asking.{TellsTime, Asks, IsUnasked};
@@ -19,14 +18,14 @@ use std::alloc::Global;
 /// Asks, where that may be, at this moment.
 pub fn ask(
     connection: &mut ClientConnection,
-    moment: Option<u64>,
+    moment: u64,
     head: &RequestHead,
     size: BodySize,
 ) -> Result<(), GetError>
-    ensures asks { OnOk result (Asks connection.old (unwrap_or moment 0) (request_of head.now) (size_of size) connection.new) }
+    ensures asks { OnOk result (Asks connection.old moment (request_of head.now) (size_of size) connection.new) }
     ensures unasked { IfErr result (IsUnasked connection.new (request_of head.now) (size_of size)) }
 {
-    tell_time(connection, moment.unwrap_or(0));
+    tell_time(connection, moment);
     if !connection.can_ask(head, size) {
         return Err(GetError::Request);
     }
