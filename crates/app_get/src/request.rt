@@ -36,9 +36,10 @@ pub fn ask(
 fn tell_time(connection: &mut ClientConnection, moment: u64)
     ensures { TellsTime connection.old moment connection.new }
 {
-    if connection.can_tick(moment) {
-        connection.tick(moment);
+    if !connection.can_tick(moment) {
+        return;
     }
+    connection.tick(moment);
 }
 
 /// The head of the request for a target.
