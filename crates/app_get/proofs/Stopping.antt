@@ -8,6 +8,7 @@ use Rattle.http_config.specs.Causes.{Rose}
 use Rattle.h1_payload.specs.declared.pulled.BodyFault.TheVariants.{Corrupted, Incomplete}
 use Rattle.h1_payload.specs.declared.pulled.Pulled.{Pulled}
 use Rattle.h1_payload.specs.declared.pulled.Pulled.TheVariants as pulled
+use Rattle.h1_client.specs.Answers.{SaysNext}
 use Rattle.h1_client.specs.State.{GoesOn, Is}
 use Rattle.h1_client.specs.declared.event.ClientEnd.{ClientEnd}
 use Rattle.h1_client.specs.declared.event.ClientEnd.TheVariants as end
@@ -15,10 +16,11 @@ use Rattle.h1_client.specs.declared.event.NextAnswer.{NextAnswer}
 use Rattle.h1_client.specs.declared.event.NextAnswer.TheVariants as next
 use Rattle.h1_client.specs.declared.heads.AnswerFault.TheVariants.{Malformed, TooLarge}
 use Rattle.model_client.specs.ClientEvent as on
+use Rattle.model_client.specs.ClientEvent.{ClientOutcome}
 use Rattle.model_client.specs.ClientKept.{client_closing}
 use Rattle.app_get.specs.declared.error.GetError.{GetError}
 use Rattle.app_get.specs.declared.error.GetError.TheVariants as get_error
-use Rattle.app_get.specs.Exchange.{Ends, Goes, Acts, is_failure}
+use Rattle.app_get.specs.Exchange.{Ends, Goes, Acts, noted_by, is_failure, IsWaiting}
 use Rattle.app_get.specs.Failure.{Hears, Heard, Draws, IsStuck, BreaksOff, IsCause, IsPart, IsUnshown, WritesOut, Fails, Stops, is_heard, error_by}
 use Rattle.app_get.specs.Patience.{left_of}
 use Rattle.app_get.proofs.Going.{goes_none, goes_then}
@@ -95,40 +97,42 @@ broken_fails : (known : Bool) (last new : Ends) → (known ≡ false → (last.b
 broken_fails true last new unheard breaks out = record { cause = inl breaks; writes = out }
 broken_fails false last new unheard breaks out = record { cause = ((unheard refl).0, (unheard refl).1, breaks); writes = out }
 
-ended_fails : (known : Bool) (e : ClientEnd) (last new : Ends) → (known ≡ false → (last.begun ≡ false) × (last.status ≡ None)) → Hears last (next.Closed e) new
+ended_fails : (known : Bool) (e : ClientEnd) (last new : Ends) → last.status ≡ None → (known ≡ false → (last.begun ≡ false) × (last.status ≡ None)) → Hears last (next.Closed e) new
     → Keeps last.out new.out → Fails (error_by known e) last new
-ended_fails known end.BadAnswer last new unheard hears out = record { cause = inr hears; writes = out }
-ended_fails known end.LargeAnswer last new unheard hears out = record { cause = inr hears; writes = out }
-ended_fails known end.FailedRequest last new unheard hears out = record { cause = inl hears; writes = out }
-ended_fails known end.BrokenAnswer last new unheard hears out = broken_fails known last new unheard (inl (end.BrokenAnswer, hears)) out
-ended_fails known end.Asked last new unheard hears out = broken_fails known last new unheard (inl (end.Asked, hears)) out
-ended_fails known end.Unasked last new unheard hears out = broken_fails known last new unheard (inl (end.Unasked, hears)) out
-ended_fails known end.InputEnded last new unheard hears out = broken_fails known last new unheard (inl (end.InputEnded, hears)) out
+ended_fails known end.BadAnswer last new none unheard hears out = record { cause = inr hears; writes = out }
+ended_fails known end.LargeAnswer last new none unheard hears out = record { cause = inr hears; writes = out }
+ended_fails known end.FailedRequest last new none unheard hears out = record { cause = inl hears; writes = out }
+ended_fails known end.BrokenAnswer last new none unheard hears out = broken_fails known last new unheard (inl (none, (end.BrokenAnswer, hears))) out
+ended_fails known end.Asked last new none unheard hears out = broken_fails known last new unheard (inl (none, (end.Asked, hears))) out
+ended_fails known end.Unasked last new none unheard hears out = broken_fails known last new unheard (inl (none, (end.Unasked, hears))) out
+ended_fails known end.InputEnded last new none unheard hears out = broken_fails known last new unheard (inl (none, (end.InputEnded, hears))) out
 
 -- its end is told where a head is asked for
-pub heard_ends : (old new : Ends) (x : NextAnswer) (e : ClientEnd) (error : GetError) → Heard old x new → x ≡ next.Closed e
+pub heard_ends : (old new : Ends) (x : NextAnswer) (e : ClientEnd) (error : GetError) → old.status ≡ None → Heard old x new → x ≡ next.Closed e
     → error ≡ error_by (is_heard new.begun new.status) e → Stops old new error
-heard_ends old new x e error heard is error_is =
+heard_ends old new x e error none heard is error_is =
     as_error old new (error_by (is_heard new.begun new.status) e) error error_is
     (fails_here old old new _ refl
-    (ended_fails (is_heard new.begun new.status) e old new
+    (ended_fails (is_heard new.begun new.status) e old new none
     (λ unheard. let u = unheard_is new.begun new.status unheard in ((heard.acts.goes.heard u.0).0, (heard.acts.goes.silent u.1).0))
     (subst (λ (x : NextAnswer). Hears old x new) is heard.hears) heard.out))
 
 -- no byte can be read
-pub unread_ends : (was old new : Ends) (error : GetError) → old ≡ was → Rose old.came_faults new.came_faults → new.begun ≡ old.begun → new.status ≡ old.status
+pub unread_ends : (was old new : Ends) (error : GetError) → old ≡ was → IsWaiting was → Rose old.came_faults new.came_faults → new.begun ≡ old.begun → new.status ≡ old.status
     → Keeps old.out new.out → error ≡ error_by (is_heard new.begun new.status) end.InputEnded → Stops was new error
-unread_ends was old new error seen rose begun status out error_is =
+unread_ends was old new error seen waiting rose begun status out error_is =
     as_error was new (error_by (is_heard new.begun new.status) end.InputEnded) error error_is
     (fails_here was old new _ seen
     (broken_fails (is_heard new.begun new.status) old new
-    (λ unheard. let u = unheard_is new.begun new.status unheard in (sym begun ∙ u.0, sym status ∙ u.1)) (inr (inr rose)) out))
+    (λ unheard. let u = unheard_is new.begun new.status unheard in (sym begun ∙ u.0, sym status ∙ u.1)) (inr (inr (subst (λ (l : Ends). IsWaiting l) (sym seen) waiting, rose))) out))
 
 -- what is heard, as it is seen from before
-pub heard_as : (was old new : Ends) (x : NextAnswer) → old ≡ was → Acts was new → Hears old x new → Keeps old.out new.out → Heard was x new
-heard_as was old new x seen acts hears out = record {
+pub heard_as : (was old new : Ends) (x : NextAnswer) → old ≡ was → Acts was new → Hears old x new
+    → ((o : ClientOutcome) → SaysNext x o → new.status ≡ noted_by o old.status) → Keeps old.out new.out → Heard was x new
+heard_as was old new x seen acts hears notes out = record {
   acts = acts;
   hears = subst (λ (l : Ends). Hears l x new) seen hears;
+  notes = subst (λ (l : Ends). (o : ClientOutcome) → SaysNext x o → new.status ≡ noted_by o l.status) seen notes;
   out = subst (λ (l : Ends). Keeps l.out new.out) seen out;
 }
 
@@ -161,9 +165,9 @@ pub late_only : (r : Result ℕ GetError) (wait since now : ℕ) → r ≡ left_
 late_only r wait since now is =
     subst (λ (r : Result ℕ GetError). IfErr r (λ e. e ≡ get_error.Late)) (sym is) (late_by (nat_lt 0 (wait - (now - since))) (wait - (now - since)))
 
-pub stuck_stops : (was old new : Ends) → old ≡ was → IsStuck was.state → Keeps old.out new.out → Stops was new get_error.Lost
+pub stuck_stops : (was old new : Ends) → old ≡ was → IsStuck was → Keeps old.out new.out → Stops was new get_error.Lost
 stuck_stops was old new seen stuck out =
-    stops_here was old new get_error.Lost seen (inr (inr (inl (subst (λ (l : Ends). IsStuck l.state) (sym seen) stuck)))) out
+    stops_here was old new get_error.Lost seen (inr (inr (inl (subst (λ (l : Ends). IsStuck l) (sym seen) stuck)))) out
 
 -- fewer bytes were taken than came
 pub loses_bytes : (was old new : Ends) (buf : List ℕ) (n count : ℕ) → old ≡ was → GoesOn old.state (on.read (take count buf)) (Is (on.took n)) new.state

@@ -1,6 +1,9 @@
 -- What is taken of an answer.
 use Rattle.std.specs.Prelude.{◌≡◌, ◌≢◌, ℕ, ◌+◌, ◌≤◌, Bool, false, length, Option, Some, Result, Ok, Err, IfOk, IsTrue}
-use Rattle.std.proofs.Common.{refl, sym, ap, subst, ◌∙◌, None, arith}
+use Rattle.std.proofs.Common.{refl, sym, ap, subst, ◌∙◌, None, inl, inr, arith}
+use Rattle.h1_client.specs.Answers.{SaysNext}
+use Rattle.h1_client.specs.declared.event.NextAnswer.{NextAnswer}
+use Rattle.h1_client.specs.declared.event.NextAnswer.TheVariants as next
 use Rattle.h1_client.specs.ClientMeaning.{setting_of}
 use Rattle.h1_client.specs.State.{State, Stands, GoesOn, Is}
 use Rattle.model_client.specs.ClientEvent as on
@@ -8,7 +11,8 @@ use Rattle.model_client.specs.ClientEvent.{ClientEvent, ClientOutcome, ClientEnd
 use Rattle.model_client.specs.ClientKept.{client_allows, client_closing}
 use Rattle.app_get.specs.declared.answer.Taken.{Taken}
 use Rattle.app_get.specs.declared.answer.Taken.TheVariants as taking
-use Rattle.app_get.specs.Exchange.{Ends, Goes, Acts, is_failure, IsWhole, asks_more, IsPending, IsTaken}
+use Rattle.app_get.specs.Exchange.{Ends, Goes, Acts, is_failure, IsWhole, IsPending, IsTaken}
+use Rattle.app_get.specs.Failure.{Hears, Heard}
 use Rattle.app_get.proofs.Freed.{free_at_end, free_for_next}
 use Rattle.app_get.proofs.Going.{goes_none, goes_then, acts_then, more_then}
 
@@ -36,14 +40,26 @@ whole_for_next a status left is may noted plain = (
 
 -- ---- nothing
 
-pub pending_after : (before : State) (event : ClientEvent) (Says : ClientOutcome → Type 0) (after : State) → asks_more event ≡ true → GoesOn before event Says after
+as_pending : (before : State) (event : ClientEvent) (Says : ClientOutcome → Type 0) (after : State) → GoesOn before event Says after
+    → ((o : ClientOutcome) → Says o → o ≡ on.pending) → GoesOn before event (Is on.pending) after
+as_pending before event Says after goes is = record { outcome = goes.outcome; says = is goes.outcome goes.says; step = goes.step; stands = goes.stands }
+
+-- no head has come
+pub pending_head : (old new : Ends) (x : NextAnswer) → old.status ≡ None → Heard old x new → x ≡ next.Pending → IsTaken taking.Nothing old new
+pending_head old new x none heard is =
+    let hears : Hears old next.Pending new = subst (λ (x : NextAnswer). Hears old x new) is heard.hears in
+    let says : SaysNext x on.pending = subst (λ (x : NextAnswer). SaysNext x on.pending) (sym is) refl in (
+      heard.acts,
+      record {
+        before = old.state;
+        answered = inl (heard.notes on.pending says ∙ none, as_pending old.state on.next (SaysNext next.Pending) new.state hears (λ o same. same));
+      },
+    )
+
+-- no more of the body has
+pub pending_body : (before : State) (Says : ClientOutcome → Type 0) (after : Ends) → GoesOn before on.pull Says after.state
     → ((o : ClientOutcome) → Says o → o ≡ on.pending) → IsPending after
-pending_after before event Says after asks goes is = record {
-  before = before;
-  event = event;
-  asks = asks;
-  answered = record { outcome = goes.outcome; says = is goes.outcome goes.says; step = goes.step; stands = goes.stands };
-}
+pending_body before Says after goes is = record { before = before; answered = inr (as_pending before on.pull Says after.state goes is) }
 
 -- ---- a part, and then
 
@@ -58,7 +74,7 @@ part_acts t a b taken is = subst (λ (t : Taken). IsTaken t a b) is taken
 pub nothing_acts : (t : Taken) (a b : Ends) → IsTaken t a b → t ≡ taking.Nothing → Acts a b
 nothing_acts t a b taken is = let n : IsTaken taking.Nothing a b = subst (λ (t : Taken). IsTaken t a b) is taken in n.0
 
-pub nothing_pending : (t : Taken) (a b : Ends) → IsTaken t a b → t ≡ taking.Nothing → IsPending b.state
+pub nothing_pending : (t : Taken) (a b : Ends) → IsTaken t a b → t ≡ taking.Nothing → IsPending b
 nothing_pending t a b taken is = let n : IsTaken taking.Nothing a b = subst (λ (t : Taken). IsTaken t a b) is taken in n.1
 
 pub whole_is : (t : Taken) (a b : Ends) (status : ℕ) → IsTaken t a b → t ≡ taking.Whole status → IsWhole b.state × (b.status ≡ Some status) × (status ≢ 101)

@@ -121,10 +121,16 @@ pub record Goes (old new : Ends) : Type 0 where
 
 -- ---- what is sent
 
+-- nothing is done with the connection, or bytes of it are written
+abbrev pub Wrote : Ends → Ends → Type 0
+Wrote old new =
+    (new.state ≡ old.state) ⊎ ((count : ℕ) × (bytes : List ℕ) × GoesOn old.state (on.write count) (Is (on.gave bytes)) new.state)
+
 -- bytes are sent
 pub record SendsSome (old new : Ends) : Type 0 where
   pub goes : Goes old new
   pub some : 0 < length (written goes.more)
+  pub wrote : Wrote old new
 
 -- nothing waits to be sent, or nothing may be, or the server takes nothing now
 abbrev pub HasNoneToSend : Ends → Ends → Type 0
@@ -136,6 +142,7 @@ pub record SendsNone (old new : Ends) : Type 0 where
   pub goes : Goes old new
   pub why : HasNoneToSend old new
   pub out : Keeps old.out new.out
+  pub wrote : Wrote old new
 
 abbrev pub IsSent : Sent → Ends → Ends → Type 0
 IsSent sending.Some old new = SendsSome old new
@@ -166,22 +173,20 @@ pub record IsWhole (state : State) : Type 0 where
   pub unbroken : is_failure (client_closing state.kept) ≡ false
   pub free : (trace : List Happened) → Stands state trace → is_free state.kept ≡ true
 
--- more of an answer is asked for
-abbrev pub asks_more : ClientEvent → Bool
-asks_more on.next = true
-asks_more on.pull = true
-asks_more _ = false
-
--- more of an answer was asked for last, and nothing more has come
-pub record IsPending (state : State) : Type 0 where
+-- More of the answer was asked for last, its head where none came yet or more of its body, and nothing more has come.
+pub record IsPending (ends : Ends) : Type 0 where
   pub before : State
-  pub event : ClientEvent
-  pub asks : asks_more event ≡ true
-  pub answered : GoesOn before event (Is on.pending) state
+  pub answered : ((ends.status ≡ None) × GoesOn before on.next (Is on.pending) ends.state) ⊎ GoesOn before on.pull (Is on.pending) ends.state
+
+-- so it was, and since then bytes were sent at most
+pub record IsWaiting (ends : Ends) : Type 0 where
+  pub last : Ends
+  pub pending : IsPending last
+  pub wrote : Wrote last ends
 
 -- What was taken of an answer. Where it is the rest, the answer is whole, and has this status, which isn't that of another
 -- protocol. A part is taken by an event at least. Where it is nothing, nothing more has come.
 abbrev pub IsTaken : Taken → Ends → Ends → Type 0
 IsTaken (taking.Whole status) old new = Goes old new × IsWhole new.state × (new.status ≡ Some status) × (status ≢ 101)
 IsTaken taking.Part old new = Acts old new
-IsTaken taking.Nothing old new = Acts old new × IsPending new.state
+IsTaken taking.Nothing old new = Acts old new × IsPending new

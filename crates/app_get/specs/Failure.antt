@@ -15,8 +15,9 @@ use Rattle.h1_client.specs.declared.event.NextAnswer.{NextAnswer}
 use Rattle.h1_client.specs.declared.event.NextAnswer.TheVariants as next
 use Rattle.h1_client.specs.declared.heads.AnswerFault.TheVariants.{Malformed, TooLarge}
 use Rattle.model_client.specs.ClientEvent as on
+use Rattle.model_client.specs.ClientEvent.{ClientOutcome}
 use Rattle.model_client.specs.ClientKept.{client_allows, client_closing}
-use Rattle.app_get.specs.Exchange.{Ends, Goes, Acts, is_failure, IsPending, HasNoneToSend}
+use Rattle.app_get.specs.Exchange.{Ends, Goes, Acts, noted_by, is_failure, IsPending, IsWaiting, HasNoneToSend}
 use Rattle.app_get.specs.declared.error.GetError.{GetError}
 use Rattle.app_get.specs.declared.error.GetError.TheVariants as get_error
 
@@ -30,19 +31,23 @@ Hears last answer new = GoesOn last.state on.next (SaysNext answer) new.state
 abbrev pub Draws : Ends → Pulled → Ends → Type 0
 Draws last answer new = GoesOn last.state on.pull (SaysPulled answer) new.state
 
--- What is heard, by one event: nothing is written out.
+-- What is heard, by one event: its status is noted, and nothing is written out.
 pub record Heard (old : Ends) (answer : NextAnswer) (new : Ends) : Type 0 where
   pub acts : Acts old new
   pub hears : Hears old answer new
+  pub notes : (o : ClientOutcome) → SaysNext answer o → new.status ≡ noted_by o old.status
   pub out : Keeps old.out new.out
 
 -- ---- causes
 
--- the connection gives no answer more, or takes no byte more, as its end was told or as many are held as may be
-abbrev pub IsStuck : State → Type 0
-IsStuck state =
-    (client_allows (setting_of state.settings) state.kept on.next ≡ false)
-    ⊎ ((client_allows (setting_of state.settings) state.kept on.eof ≡ false) ⊎ (state.settings.h1_hold_size - length state.kept.unread ≡ 0))
+-- The connection gives no answer, before one came or while nothing is left of its body; or it takes no byte although more has
+-- to come, as its end was told or as many are held as may be.
+abbrev pub IsStuck : Ends → Type 0
+IsStuck ends =
+    let allows = client_allows (setting_of ends.state.settings) ends.state.kept in
+    ((ends.status ≡ None) × (allows on.next ≡ false))
+    ⊎ (((allows on.pull ≡ false) × (allows on.next ≡ false))
+    ⊎ (IsWaiting ends × ((allows on.eof ≡ false) ⊎ (ends.state.settings.h1_hold_size - length ends.state.kept.unread ≡ 0))))
 
 -- not all bytes that came could be taken
 pub record LosesBytes (last new : Ends) : Type 0 where
@@ -51,15 +56,17 @@ pub record LosesBytes (last new : Ends) : Type 0 where
   pub reads : GoesOn last.state (on.read bytes) (Is (on.took count)) new.state
   pub fewer : count ≡ length bytes → ⊥
 
--- The connection ended or was lost: its end was told, it has failed, or no byte could be read.
+-- The connection ended or was lost: its end was told in place of a head, it has failed, or no byte could be read of what has to
+-- come.
 abbrev pub BreaksOff : Ends → Ends → Type 0
 BreaksOff last new =
-    ((e : ClientEnd) × Hears last (next.Closed e) new) ⊎ ((is_failure (client_closing last.state.kept) ≡ true) ⊎ Rose last.came_faults new.came_faults)
+    ((last.status ≡ None) × ((e : ClientEnd) × Hears last (next.Closed e) new))
+    ⊎ ((is_failure (client_closing last.state.kept) ≡ true) ⊎ (IsWaiting last × Rose last.came_faults new.came_faults))
 
 -- The answer isn't whole: the connection ended, or its end stood inside the body, or it goes on no more.
 abbrev pub IsCut : Ends → Ends → Type 0
 IsCut last new =
-    BreaksOff last new ⊎ (Draws last (pulled.Broken Incomplete) new ⊎ (IsStuck last.state ⊎ LosesBytes last new))
+    BreaksOff last new ⊎ (Draws last (pulled.Broken Incomplete) new ⊎ (IsStuck last ⊎ LosesBytes last new))
 
 -- Why it fails, by what happened last. Memory may run out at any time.
 abbrev pub IsCause : GetError → Ends → Ends → Type 0
@@ -73,7 +80,7 @@ IsCause get_error.BadChunks last new = Draws last (pulled.Broken Corrupted) new
 IsCause get_error.Protocol last new = last.status ≡ Some 101
 IsCause get_error.Unanswered last new = (last.begun ≡ false) × (last.status ≡ None) × BreaksOff last new
 IsCause get_error.Lost last new = IsCut last new
-IsCause get_error.Late last new = IsPending last.state × HasNoneToSend last new
+IsCause get_error.Late last new = IsPending last × HasNoneToSend last new
 IsCause _ last new = ⊥
 
 -- ---- what is written out

@@ -1,5 +1,5 @@
 // What comes of the answer.
-ghost use Rattle.std.specs.Prelude.{◌≡◌, ◌≢◌, false, Some, IsSome, IfOk, IfErr, OnErr, if◌then◌else◌};
+ghost use Rattle.std.specs.Prelude.{◌≡◌, ◌≢◌, false, None, Some, IsSome, IfOk, IfErr, OnErr, if◌then◌else◌};
 ghost use Rattle.h1_client.specs.Answers.{SaysNext};
 ghost use Rattle.h1_client.specs.ClientMeaning.{setting_of};
 ghost use Rattle.h1_client.specs.State.{IsAllowed};
@@ -48,6 +48,7 @@ impl<S: TimedSource + Drop, K: TimedSink + Drop, B: Source + Drop, O: Sink + Dro
 
     // An interim head is passed over (RFC 9110, section 15.2).
     fn take_head(&mut self) -> Result<Taken, GetError>
+        requires { self.old.status ≡ None }
         ensures taken { IfOk result (λ taken. IsTaken taken self.old self.new) }
         ensures stops { IfErr result (λ error. Stops self.old self.new error) }
     {

@@ -1,6 +1,6 @@
 //! One request and its answer over a connection: a client's whole loop.
 ghost use Rattle.std.specs.Prelude.{◌≡◌, ◌≢◌, ◌⊎◌, false, None, Some, OnOk, IfOk, IfErr};
-ghost use Rattle.app_get.specs.Exchange.{Ends, file_left, faults_of_file, Goes, IsWhole, IsPending};
+ghost use Rattle.app_get.specs.Exchange.{Ends, file_left, faults_of_file, Goes, IsWhole, IsPending, IsWaiting};
 ghost use Rattle.app_get.specs.Failure.{Stops, IsEndless};
 
 use crate::answer::Taken;
@@ -160,7 +160,7 @@ impl<S: TimedSource + Drop, K: TimedSink + Drop, B: Source + Drop, O: Sink + Dro
 
     // Sends what waits, and reads what has come. Where nothing else can be done it waits.
     fn listen(&mut self, patience: &mut Patience) -> Result<(), GetError>
-        requires { IsPending self.old.state }
+        requires { IsPending self.old }
         ensures goes { OnOk result (Goes self.old self.new) }
         ensures stops { IfErr result (λ error. Stops self.old self.new error) }
     {
@@ -173,8 +173,9 @@ impl<S: TimedSource + Drop, K: TimedSink + Drop, B: Source + Drop, O: Sink + Dro
 
     // Sends what waits, and says for how many milliseconds a read may then wait.
     fn send_before(&mut self, patience: &mut Patience) -> Result<u64, GetError>
-        requires { IsPending self.old.state }
+        requires { IsPending self.old }
         ensures goes { OnOk result (Goes self.old self.new) }
+        ensures waiting { OnOk result (IsWaiting self.new) }
         ensures stops { IfErr result (λ error. Stops self.old self.new error) }
     {
         match self.send() {

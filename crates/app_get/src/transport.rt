@@ -2,7 +2,7 @@
 ghost use Rattle.std.specs.Prelude.{◌<◌, ℕ, List, length, OnOk, IfErr};
 ghost use Rattle.h1_client.specs.State.{IsAllowed};
 ghost use Rattle.model_client.specs.ClientEvent as on;
-ghost use Rattle.app_get.specs.Exchange.{Goes, IsSent};
+ghost use Rattle.app_get.specs.Exchange.{Goes, IsSent, IsWaiting};
 ghost use Rattle.app_get.specs.Failure.{Stops};
 
 use crate::error::GetError;
@@ -69,6 +69,7 @@ impl<S: TimedSource + Drop, K: TimedSink + Drop, B: Source + Drop, O: Sink + Dro
     /// something has.
     #[tactic(auto, using(crate::proofs::Going::goes_none, crate::proofs::Going::goes_then))]
     pub(crate) fn read_more(&mut self, wait: u64) -> Result<bool, GetError>
+        requires { IsWaiting self.old }
         ensures goes { OnOk result (Goes self.old self.new) }
         ensures stops { IfErr result (λ error. Stops self.old self.new error) }
     {
@@ -89,6 +90,7 @@ impl<S: TimedSource + Drop, K: TimedSink + Drop, B: Source + Drop, O: Sink + Dro
         requires can_read { (bytes : List ℕ) → IsAllowed self.old.state (on.read bytes) }
         requires can_end { IsAllowed self.old.state on.eof }
         requires room { 0 < length piece.old }
+        requires waiting { IsWaiting self.old }
         ensures goes { OnOk result (Goes self.old self.new) }
         ensures stops { IfErr result (λ error. Stops self.old self.new error) }
     {

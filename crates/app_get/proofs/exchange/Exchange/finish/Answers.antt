@@ -1,4 +1,4 @@
-use Rattle.std.proofs.Common.{◌≡◌, false, Some, IsTrue, refl, sym, ap, subst, ◌∙◌, inl, rules}
+use Rattle.std.proofs.Common.{◌≡◌, false, Some, IsTrue, refl, sym, ap, subst, ◌∙◌, inl, inr, rules}
 use Rattle.std.proofs.KnownBytes.{Keeps-refl}
 use Rattle.h1_client.specs.ClientMeaning.{setting_of}
 use Rattle.model_client.specs.ClientEvent as on
@@ -17,7 +17,10 @@ returns-in-None-clause-taken g c =
 pub returns-in-None-2-clause-stops : goal.returns-in-None-2-clause-stops
 returns-in-None-2-clause-stops g c =
     stuck_stops _ _ _ refl
-    (inl (subst (λ (e : Ends). client_allows (setting_of e.state.settings) e.state.kept on.next ≡ false) c.self.view_is (sym c.can_next.ensures ∙ c.if-can_next.false)))
+    (inr (inl (
+      c.requires.nothing_left,
+      subst (λ (e : Ends). client_allows (setting_of e.state.settings) e.state.kept on.next ≡ false) c.self.view_is (sym c.can_next.ensures ∙ c.if-can_next.false),
+    )))
     (Keeps-refl _)
 
 pub returns-in-Some-Asked-clause-taken : goal.returns-in-Some-Asked-clause-taken

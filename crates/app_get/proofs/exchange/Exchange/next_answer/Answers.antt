@@ -11,7 +11,7 @@ returns-clause-heard g c =
     heard_as _ _ _ _ c.self.view_is
     (one_act _ _ _ on.next _ [] [] [] [] c.self.view_is c.in_ok-next.ensures.stands (next_moves _ _ _ c.noted-self-inside.ensures)
     (Consumes-nil _) (Appends-nil _) (Consumes-nil _) (λ _. Appends-nil _) (ends_none on.next _ _ refl refl refl) (quiet_still _ _ refl (Keeps-refl _)) refl)
-    c.in_ok-next.ensures.stands (Keeps-refl _)
+    c.in_ok-next.ensures.stands c.noted-self-inside.ensures (Keeps-refl _)
 
 pub returns-in_err-next-clause-err : goal.returns-in_err-next-clause-err
 returns-in_err-next-clause-err g c = ap (λ (e : Ends). e.out) c.self.view_is

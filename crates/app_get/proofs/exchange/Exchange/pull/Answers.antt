@@ -6,7 +6,7 @@ use Rattle.model_client.specs.ClientEvent as on
 use Rattle.app_get.specs.Exchange.{Ends}
 use Rattle.app_get.proofs.Steps.{ends_none, quiet_known, one_act, bytes_moves, none_moves, appends_same}
 use Rattle.app_get.proofs.Stopping.{no_memory, piece_fails, draws_corrupted, draws_incomplete}
-use Rattle.app_get.proofs.Taking.{pending_after}
+use Rattle.app_get.proofs.Taking.{pending_body}
 use Rattle.app_get.proofs.exchange.Exchange.pull.Goals as goal
 
 pub returns-in-Bytes-clause-taken : goal.returns-in-Bytes-clause-taken
@@ -36,7 +36,7 @@ returns-clause-taken g c = (
   (λ o says. none_moves on.pending _ refl refl refl o (subst (λ x. SaysPulled x o) c.in-Pending.is says))
   (Consumes-nil _) (Appends-nil _) (Consumes-nil _) (λ _. Appends-nil _) (ends_none on.pull _ _ refl refl refl)
   (quiet_known _ _ refl (subst (λ (e : Ends). is_some e.status ≡ true) (sym c.self.view_is) c.requires.noted)) refl,
-  pending_after _ on.pull _ _ refl c.in_ok-bytes.ensures.stands (λ o says. subst (λ x. SaysPulled x o) c.in-Pending.is says),
+  pending_body _ _ _ c.in_ok-bytes.ensures.stands (λ o says. subst (λ x. SaysPulled x o) c.in-Pending.is says),
 )
 
 pub returns-in_err-bytes-clause-stops : goal.returns-in_err-bytes-clause-stops

@@ -37,4 +37,4 @@ returns-then-branch-count-clause-stops g c =
 
 pub returns-in-Err-2-clause-stops : goal.returns-in-Err-2-clause-stops
 returns-in-Err-2-clause-stops g c =
-    unread_ends _ _ _ _ c.self.view_is c.in-Err-2.ensures.cause.failed refl refl (Keeps-refl _) c.error_of.ensures
+    unread_ends _ _ _ _ c.self.view_is c.requires.waiting c.in-Err-2.ensures.cause.failed refl refl (Keeps-refl _) c.error_of.ensures

@@ -1,4 +1,5 @@
-use Rattle.app_get.proofs.Sending.{sent_goes, late_unsent}
+use Rattle.app_get.specs.declared.transport.Sent.TheVariants as sending
+use Rattle.app_get.proofs.Sending.{sent_waits, late_unsent}
 use Rattle.app_get.proofs.exchange.Exchange.send_before.Goals as goal
 
 pub returns-in-Some-clause-goes : goal.returns-in-Some-clause-goes
@@ -15,3 +16,12 @@ returns-in_err-left-in-NotNow-clause-stops g c = late_unsent _ _ _ c.in_err-left
 
 pub returns-in_err-left-in-Nothing-clause-stops : goal.returns-in_err-left-in-Nothing-clause-stops
 returns-in_err-left-in-Nothing-clause-stops g c = late_unsent _ _ _ c.in_err-left-in-Nothing.ensures c.requires c.in-Nothing.ensures
+
+pub returns-in-Some-clause-waiting : goal.returns-in-Some-clause-waiting
+returns-in-Some-clause-waiting g c = sent_waits sending.Some _ _ c.requires c.in-Some.ensures
+
+pub returns-in-NotNow-clause-waiting : goal.returns-in-NotNow-clause-waiting
+returns-in-NotNow-clause-waiting g c = sent_waits sending.NotNow _ _ c.requires c.in-NotNow.ensures
+
+pub returns-clause-waiting : goal.returns-clause-waiting
+returns-clause-waiting g c = sent_waits sending.Nothing _ _ c.requires c.in-Nothing.ensures

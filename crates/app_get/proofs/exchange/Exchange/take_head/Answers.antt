@@ -1,19 +1,18 @@
 use Rattle.std.proofs.Common.{◌≡◌, false, refl, sym, subst, ap, ◌∙◌, inl}
 use Rattle.std.proofs.KnownBytes.{Keeps-refl}
-use Rattle.h1_client.specs.Answers.{SaysNext}
 use Rattle.h1_client.specs.ClientMeaning.{setting_of}
 use Rattle.h1_client.specs.declared.event.NextAnswer.TheVariants as next
 use Rattle.model_client.specs.ClientEvent as on
 use Rattle.model_client.specs.ClientKept.{client_allows}
 use Rattle.app_get.specs.Exchange.{Ends}
 use Rattle.app_get.proofs.Stopping.{err_then, keeps_equal, no_memory, stuck_stops, heard_ends, heard_malformed, heard_too_large}
-use Rattle.app_get.proofs.Taking.{pending_after, shown_taken}
+use Rattle.app_get.proofs.Taking.{pending_head, shown_taken}
 use Rattle.app_get.proofs.exchange.Exchange.take_head.Goals as goal
 
 pub returns-then-not-can_next-clause-stops : goal.returns-then-not-can_next-clause-stops
 returns-then-not-can_next-clause-stops g c =
     stuck_stops _ _ _ refl
-    (inl (subst (λ (e : Ends). client_allows (setting_of e.state.settings) e.state.kept on.next ≡ false) c.self.view_is (sym c.can_next.ensures ∙ c.if-not-can_next.true)))
+    (inl (c.requires, subst (λ (e : Ends). client_allows (setting_of e.state.settings) e.state.kept on.next ≡ false) c.self.view_is (sym c.can_next.ensures ∙ c.if-not-can_next.true)))
     (Keeps-refl _)
 
 pub returns-in_err-item-clause-stops : goal.returns-in_err-item-clause-stops
@@ -26,10 +25,7 @@ pub returns-in-Answer-clause-stops : goal.returns-in-Answer-clause-stops
 returns-in-Answer-clause-stops g c = err_then _ _ _ _ c.in_ok-item.ensures.heard.acts.goes c.show.ensures.stops
 
 pub returns-in-Pending-clause-taken : goal.returns-in-Pending-clause-taken
-returns-in-Pending-clause-taken g c = (
-  c.in_ok-item.ensures.heard.acts,
-  pending_after _ on.next _ _ refl c.in_ok-item.ensures.heard.hears (λ o says. subst (λ x. SaysNext x o) c.in-Pending.is says),
-)
+returns-in-Pending-clause-taken g c = pending_head _ _ _ c.requires c.in_ok-item.ensures.heard c.in-Pending.is
 
 pub returns-in-Fault-Malformed-clause-stops : goal.returns-in-Fault-Malformed-clause-stops
 returns-in-Fault-Malformed-clause-stops g c =
@@ -40,4 +36,4 @@ returns-in-Fault-TooLarge-clause-stops g c =
     heard_too_large _ _ _ c.in_ok-item.ensures.heard (c.in-Fault-TooLarge.is ∙ ap next.Fault c.in-Fault-TooLarge.field-0-is)
 
 pub returns-clause-stops : goal.returns-clause-stops
-returns-clause-stops g c = heard_ends _ _ _ _ _ c.in_ok-item.ensures.heard c.in-Closed.is c.error_of.ensures
+returns-clause-stops g c = heard_ends _ _ _ _ _ c.requires c.in_ok-item.ensures.heard c.in-Closed.is c.error_of.ensures
