@@ -129,7 +129,6 @@ impl<S: TimedSource + Drop, K: TimedSink + Drop, B: Source + Drop, O: Sink + Dro
     ///
     /// Both directions are tried in turn, since a server may answer before it has read all, and may not read on before its
     /// answer is taken.
-    #[tactic(auto, using(crate::proofs::Going::goes_none, crate::proofs::Going::goes_then))]
     pub fn run(&mut self, wait: u64) -> Result<u16, GetError>
         ensures goes { OnOk result (Goes self.old self.new) }
         ensures whole { OnOk result (IsWhole self.new.state) }
