@@ -9,7 +9,7 @@ pub loop-url-preserved : goal.loop-url-preserved
 loop-url-preserved g c = fetched_more _ _ _ _ _ _ c.loop-url.invariant c.in-Ok.ensures
 
 pub returns-in-Err : goal.returns-in-Err
-returns-in-Err g c = fetched_stopped _ _ _ _ _ _ _ c.loop-url.invariant c.loop-url-test.true c.in-Err.ensures
+returns-in-Err g c = fetched_stopped _ _ _ c.loop-url.url-index (length c.args.urls.now) _ _ c.loop-url.invariant (omega arith) c.in-Err.ensures
 
 pub returns : goal.returns
 returns g c = fetched_each _ _ c.loop-url.url-index (length c.args.urls.now) _ c.loop-url.invariant (omega arith)
