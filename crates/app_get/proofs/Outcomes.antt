@@ -131,8 +131,11 @@ tried_new a b c has_file x result first is second =
 pub tried_again : (a b c : Option (List Tried)) (has_file : Bool) (x : Option (Result ℕ GetError)) (result : Result ℕ GetError) → Notes a (kept_gave x ∷ []) b
     → x ≡ Some (Err get_error.Unanswered) → has_file ≡ false → Notes b (new_gave result ∷ []) c → IsTried a has_file c result
 tried_again a b c has_file x result first is none second =
-    inr (inr (none, notes_then a b c (kept_gave (Some (Err get_error.Unanswered)) ∷ []) (new_gave result ∷ [])
-    (subst (λ (x : Option (Result ℕ GetError)). Notes a (kept_gave x ∷ []) b) is first) second))
+    inr (inr (
+      none,
+      notes_then a b c (kept_gave (Some (Err get_error.Unanswered)) ∷ []) (new_gave result ∷ [])
+          (subst (λ (x : Option (Result ℕ GetError)). Notes a (kept_gave x ∷ []) b) is first) second,
+    ))
 
 pub tried_done : (a b c : Option (List Tried)) (has_file : Bool) (done result : Result ℕ GetError) → Notes a (kept_gave (Some done) ∷ []) b
     → done ≡ Err get_error.Unanswered → has_file ≡ false → Notes b (new_gave result ∷ []) c → IsTried a has_file c result

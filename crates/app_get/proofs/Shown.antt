@@ -15,7 +15,7 @@ shown_text none first second third version status reason lines is_none is_first 
     let so_far : first ≡ line = is_first ∙ ap (λ (l : List ℕ). l ++ (version ++ (status ++ (codes " " ++ (reason ++ codes "\n"))))) is_none in
     let more : second ≡ (version ++ (status ++ (codes " " ++ (reason ++ codes "\n")))) ++ lines = is_second ∙ ap (λ (l : List ℕ). l ++ lines) so_far in
     let joined : ((version ++ (status ++ (codes " " ++ (reason ++ codes "\n")))) ++ lines) ++ codes "\n"
-            ≡ version ++ (status ++ (codes " " ++ (reason ++ (codes "\n" ++ (lines ++ codes "\n"))))) = simp append_assoc in
+    ≡ version ++ (status ++ (codes " " ++ (reason ++ (codes "\n" ++ (lines ++ codes "\n"))))) = simp append_assoc in
     is_third ∙ ap (λ (l : List ℕ). l ++ codes "\n") more ∙ joined
 
 pub written_head : {T : Type 0} (r : Result T GetError) (item : ResponseItem) (old new : Option (List ℕ)) (text bytes : List ℕ) → IsHeadText item text → bytes ≡ text

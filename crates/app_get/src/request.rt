@@ -54,12 +54,7 @@ pub fn head_for(
         return Err(GetError::NoMemory);
     };
     let headers = headers_for(alloc, options, target)?;
-    Ok(RequestHead::from_parts(
-        method_for(options),
-        uri,
-        Version::HTTP_11,
-        headers,
-    ))
+    Ok(RequestHead::from_parts(method_for(options), uri, Version::HTTP_11, headers))
 }
 
 fn method_for(options: &Options<'_>) -> Method
@@ -75,11 +70,7 @@ fn method_for(options: &Options<'_>) -> Method
     }
 }
 
-fn headers_for(
-    alloc: Global,
-    options: &Options<'_>,
-    target: &Target,
-) -> Result<HeaderMap, GetError>
+fn headers_for(alloc: Global, options: &Options<'_>, target: &Target) -> Result<HeaderMap, GetError>
     ensures { IfOk result (λ headers. headers ≡ asked_headers (target_authority target.now) (is_some options.now.file)) }
 {
     let mut headers = general_headers(alloc, target)?;

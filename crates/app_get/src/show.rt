@@ -31,11 +31,7 @@ pub fn write_all<O: Sink>(out: &mut O, bytes: &[u8]) -> Result<(), GetError>
 }
 
 /// Writes the head of an answer, a line each, and an empty one.
-pub fn write_head<O: Sink>(
-    alloc: Global,
-    item: &ResponseItem,
-    out: &mut O,
-) -> Result<(), GetError>
+pub fn write_head<O: Sink>(alloc: Global, item: &ResponseItem, out: &mut O) -> Result<(), GetError>
     ensures ok { OnOk result (IsShown item.now (O.given out.old) (O.given out.new)) }
     ensures err { IfErr result (λ error. IsUnshown error (O.given out.old) (O.given out.new) (O.faults out.old) (O.faults out.new)) }
 {

@@ -15,7 +15,7 @@ fill_room-requires g c = record {
 pub returns-then-not-can_chunk-clause-acts : goal.returns-then-not-can_chunk-clause-acts
 returns-then-not-can_chunk-clause-acts g c =
     let may : client_allows (setting_of c.args.self.now.state.settings) c.args.self.now.state.kept (on.chunk []) ≡ false =
-        subst (λ (e : Ends). client_allows (setting_of e.state.settings) e.state.kept (on.chunk []) ≡ false) c.self.view_is (sym (c.can_chunk.ensures []) ∙ c.if-not-can_chunk.true) in
+    subst (λ (e : Ends). client_allows (setting_of e.state.settings) e.state.kept (on.chunk []) ≡ false) c.self.view_is (sym (c.can_chunk.ensures []) ∙ c.if-not-can_chunk.true) in
     not_allowed _ _ may
 
 pub returns-clause-goes : goal.returns-clause-goes

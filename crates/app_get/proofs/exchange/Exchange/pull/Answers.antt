@@ -33,9 +33,9 @@ returns-in-End-clause-taken g c =
 pub returns-clause-taken : goal.returns-clause-taken
 returns-clause-taken g c = (
   one_act _ _ _ on.pull _ [] [] [] [] c.self.view_is c.in_ok-bytes.ensures.stands
-  (λ o says. none_moves on.pending _ refl refl refl o (subst (λ x. SaysPulled x o) c.in-Pending.is says))
-  (Consumes-nil _) (Appends-nil _) (Consumes-nil _) (λ _. Appends-nil _) (ends_none on.pull _ _ refl refl refl)
-  (quiet_known _ _ refl (subst (λ (e : Ends). is_some e.status ≡ true) (sym c.self.view_is) c.requires.noted)) refl,
+      (λ o says. none_moves on.pending _ refl refl refl o (subst (λ x. SaysPulled x o) c.in-Pending.is says))
+      (Consumes-nil _) (Appends-nil _) (Consumes-nil _) (λ _. Appends-nil _) (ends_none on.pull _ _ refl refl refl)
+      (quiet_known _ _ refl (subst (λ (e : Ends). is_some e.status ≡ true) (sym c.self.view_is) c.requires.noted)) refl,
   pending_body _ _ _ c.in_ok-bytes.ensures.stands (λ o says. subst (λ x. SaysPulled x o) c.in-Pending.is says),
 )
 

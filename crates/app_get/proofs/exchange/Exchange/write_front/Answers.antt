@@ -15,7 +15,7 @@ advance-requires-clause-can_write g c =
 pub returns-in-Ok : goal.returns-in-Ok
 returns-in-Ok g c =
     let waits : 0 < length c.self.inside.connection.kept.buffered =
-        subst (λ (e : Ends). 0 < length e.state.kept.buffered) (sym c.self.view_is) c.requires.some in
+    subst (λ (e : Ends). 0 < length e.state.kept.buffered) (sym c.self.view_is) c.requires.some in
     let within : c.in-Ok.count ≤ length c.self.inside.connection.kept.buffered = omega (arith, c.in-Ok.ensures.bound, ap (λ (l : List ℕ). length l) c.front.ensures) in
     let some : 0 < c.in-Ok.count = c.in-Ok.ensures.progress (omega (arith, waits, ap (λ (l : List ℕ). length l) c.front.ensures)) in
     some_sent _ _ _ c.in-Ok.count _ c.self.view_is
