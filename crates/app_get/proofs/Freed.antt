@@ -1,5 +1,5 @@
 -- When a connection is free.
-use Rattle.std.specs.Prelude.{◌≡◌, ℕ, Bool, true, false, not, ◌&&◌, List, [], ◌∷◌, drop, Option, Some, None, is_some, IsTrue, if◌then◌else◌}
+use Rattle.std.specs.Prelude.{◌≡◌, ℕ, Bool, true, false, not, ◌&&◌, ◌==◌, List, [], ◌∷◌, length, drop, Option, Some, None, is_some, IsTrue, if◌then◌else◌}
 use Rattle.std.specs.Option.{option_or}
 use Rattle.std.proofs.Common.{refl, sym, ap, ◌∙◌, subst}
 use Rattle.model_h1.specs.Event as server
@@ -66,7 +66,9 @@ either_change true a b first second = first
 either_change false a b first second = second
 
 without_sound : (setting : Setting) (k : ClientKept) → Sound k → Sound (without_head setting k).kept
-without_sound setting k sound = either_change _ _ _ refl sound
+without_sound setting k sound =
+    either_change (length k.unread == setting.hold_size) (record { outcome = on.fault too_large; kept = record k { failed = Some on.large_answer } })
+    (record { outcome = on.pending; kept = k }) refl sound
 
 as_kept : (c d : ClientChange) → c ≡ d → Sound d.kept → Sound c.kept
 as_kept c d is sound = subst (λ (c : ClientChange). Sound c.kept) (sym is) sound

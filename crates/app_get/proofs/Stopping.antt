@@ -1,5 +1,5 @@
 -- Where an exchange stops.
-use Rattle.std.specs.Prelude.{◌≡◌, ℕ, ◌-◌, ◌≤◌, nat_lt, Bool, true, false, List, length, take, if◌then◌else◌, Option, Some, None, Result, Ok, Err, IfErr, OnErr}
+use Rattle.std.specs.Prelude.{◌≡◌, ℕ, ◌-◌, ◌≤◌, nat_lt, Bool, true, false, List, length, take, if◌then◌else◌, Option, Some, None, Result, Ok, Err, IfErr, OnErr, IsErrAnd, ◌⊎◌}
 use Rattle.std.proofs.Common.{refl, sym, subst, ◌∙◌, inl, inr}
 use Rattle.std.proofs.lemmas.List.{length-take-le}
 use Rattle.std.specs.Io.KnownBytes.{Keeps}
@@ -21,7 +21,7 @@ use Rattle.model_client.specs.ClientKept.{client_closing}
 use Rattle.app_get.specs.declared.error.GetError.{GetError}
 use Rattle.app_get.specs.declared.error.GetError.TheVariants as get_error
 use Rattle.app_get.specs.Exchange.{Ends, Goes, Acts, noted_by, is_failure, IsWaiting}
-use Rattle.app_get.specs.Failure.{Hears, Heard, Draws, IsStuck, BreaksOff, IsCause, IsPart, IsUnshown, WritesOut, Fails, Stops, is_heard, error_by}
+use Rattle.app_get.specs.Failure.{Hears, Heard, Draws, IsStuck, BreaksOff, IsCause, IsPart, IsUnshown, WritesOut, Fails, Stops, IsEndless, is_heard, error_by}
 use Rattle.app_get.specs.Patience.{left_of}
 use Rattle.app_get.proofs.Going.{goes_none, goes_then}
 
@@ -39,6 +39,22 @@ stops_then a b c e first s = record { last = s.last; goes = goes_then a b s.last
 pub err_then : {T : Type 0} (r : Result T GetError) (a b c : Ends) → Goes a b → IfErr r (λ e. Stops b c e) → IfErr r (λ e. Stops a c e)
 err_then (Ok x) a b c first second = tt
 err_then (Err e) a b c first second = stops_then a b c e first second
+
+-- where it is known which error there is
+pub err_as : {T : Type 0} (r : Result T GetError) (e : GetError) (P : GetError → Type 0) → IsErrAnd r (λ d. d ≡ e) → P e → IfErr r P
+err_as (Ok x) e P is holds = tt
+err_as (Err d) e P is holds = subst P (sym is) holds
+
+pub err_stops : {T : Type 0} (r : Result T GetError) (e : GetError) (was new : Ends) → IsErrAnd r (λ d. d ≡ e) → Stops was new e → IfErr r (λ e. Stops was new e)
+err_stops r e was new is stops = err_as r e (λ (e : GetError). Stops was new e) is stops
+
+pub err_ends : {T : Type 0} (r : Result T GetError) (e : GetError) (was new : Ends) → IsErrAnd r (λ d. d ≡ e) → Stops was new e
+    → IfErr r (λ e. Stops was new e ⊎ IsEndless was new e)
+err_ends r e was new is stops = err_as r e (λ (e : GetError). Stops was new e ⊎ IsEndless was new e) is (inl stops)
+
+pub err_always : {T E : Type 0} (r : Result T E) (P : Type 0) → P → OnErr r P
+err_always (Ok x) P holds = tt
+err_always (Err e) P holds = holds
 
 pub as_error : (was new : Ends) (e error : GetError) → error ≡ e → Stops was new e → Stops was new error
 as_error was new e error is stops = subst (λ (e : GetError). Stops was new e) (sym is) stops

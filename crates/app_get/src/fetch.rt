@@ -1,7 +1,7 @@
 //! How a URL is fetched.
 ghost use Rattle.std.specs.Prelude.{None};
 
-use crate::each::Fetches;
+use crate::each::{Fetches, fetch_each};
 use crate::error::GetError;
 use crate::exchange::Exchange;
 use crate::link::Link;
@@ -15,24 +15,25 @@ use net_sockets::{SocketSink, SocketSource, moment};
 use std::fs::File;
 use std::io::ErrorKind;
 
-/// What fetches URLs as the options say, over a connection that is kept where that may be.
+/// Fetches all, and gives the status of the program.
+pub fn fetch_all(rt: HostRuntime, options: &Options<'_>) -> u8 {
+    let mut fetcher = Fetcher {
+        rt,
+        options,
+        kept: None,
+    };
+    fetch_each(&mut fetcher, &options.urls)
+}
+
+// What fetches URLs as the options say, over a connection that is kept where that may be.
 #[derive(Drop)]
-pub struct Fetcher<'a> {
+struct Fetcher<'a, 'w> {
     rt: HostRuntime,
-    options: &'a Options<'a>,
+    options: &'a Options<'w>,
     kept: Option<Link>,
 }
 
-impl<'a> Fetcher<'a> {
-    /// Without a connection.
-    pub fn new(rt: HostRuntime, options: &'a Options<'a>) -> Fetcher<'a> {
-        Fetcher {
-            rt,
-            options,
-            kept: None,
-        }
-    }
-
+impl<'a, 'w> Fetcher<'a, 'w> {
     // Over this connection, or over a new one, which is kept.
     fn over(&mut self, target: &Target, kept: Option<Link>) -> Result<u16, GetError> {
         let (status, link) = fetch_over(self.rt, self.options, target, kept)?;
@@ -41,7 +42,7 @@ impl<'a> Fetcher<'a> {
     }
 }
 
-impl<'a> Fetches for Fetcher<'a> {
+impl<'a, 'w> Fetches for Fetcher<'a, 'w> {
     // What is done isn't kept.
     ghost done = { λ _. None };
 
@@ -66,7 +67,7 @@ impl<'a> Fetches for Fetcher<'a> {
     }
 }
 
-impl<'a> Tries for Fetcher<'a> {
+impl<'a, 'w> Tries for Fetcher<'a, 'w> {
     // Nor are tries.
     ghost tried = { λ _. None };
 

@@ -16,8 +16,7 @@ mod transport;
 mod tries;
 mod upload;
 
-use crate::each::fetch_each;
-use crate::fetch::Fetcher;
+use crate::fetch::fetch_all;
 use crate::options::{Command, HELP, VERSION};
 use std::alloc::Global;
 use std::io::ErrorKind;
@@ -45,10 +44,7 @@ fn main(rt: HostRuntime) -> ExitCode {
     match options::read(alloc, &words) {
         Ok(Command::Help) => print(rt, HELP),
         Ok(Command::Version) => print(rt, VERSION),
-        Ok(Command::Fetch(options)) => {
-            let mut fetcher = Fetcher::new(rt, &options);
-            ExitCode::from(fetch_each(&mut fetcher, &options.urls))
-        }
+        Ok(Command::Fetch(options)) => ExitCode::from(fetch_all(rt, &options)),
         Err(error) => {
             let _ = eprintln!(rt; "app_get: {error}; --help says more");
             ExitCode::from(error.status())

@@ -9,8 +9,7 @@ ghost use Rattle.app_get.specs.Heads.{IsVersionText, lines_text, IsHeadText, IsS
 use crate::error::GetError;
 use bytes::BytesMut;
 use h1_client::ResponseItem;
-use http_types::header::HeaderMap;
-use http_types::{NoMemory, Sink, Version};
+use http_types::{NoMemory, ResponseHead, Sink, Version};
 use itoa::Buffer;
 use std::alloc::Global;
 
@@ -42,18 +41,18 @@ pub fn write_head<O: Sink>(alloc: Global, item: &ResponseItem, out: &mut O) -> R
 fn head_text(alloc: Global, item: &ResponseItem) -> Result<BytesMut, NoMemory>
     ensures { IfOk result (λ text. IsHeadText item.now text.items) }
 {
-    let version = version_text(item.head.version);
+    let version = version_text(&item.head);
     let mut text = BytesMut::new(alloc);
     put_status(&mut text, version, item)?;
-    put_lines(&mut text, &item.head.headers)?;
+    put_lines(&mut text, &item.head)?;
     text.extend_from_slice(b"\n")?;
     Ok(text)
 }
 
-fn version_text(version: Version) -> &'static [u8]
-    ensures { IsVersionText version result.now }
+fn version_text(head: &ResponseHead) -> &'static [u8]
+    ensures { IsVersionText head.now.version result.now }
 {
-    if version == Version::HTTP_10 {
+    if head.version == Version::HTTP_10 {
         b"HTTP/1.0 "
     } else {
         b"HTTP/1.1 "
@@ -71,10 +70,10 @@ fn put_status(text: &mut BytesMut, version: &[u8], item: &ResponseItem) -> Resul
     text.extend_from_slice(b"\n")
 }
 
-fn put_lines(text: &mut BytesMut, headers: &HeaderMap) -> Result<(), NoMemory>
-    ensures { OnOk result (text.new.items ≡ text.old.items ++ lines_text (pairs headers.now)) }
+fn put_lines(text: &mut BytesMut, head: &ResponseHead) -> Result<(), NoMemory>
+    ensures { OnOk result (text.new.items ≡ text.old.items ++ lines_text (pairs head.now.headers)) }
 {
-    for (name, value) in headers.iter() {
+    for (name, value) in head.headers.iter() {
         put_line(text, name.as_bytes(), value.as_bytes())?;
     }
     Ok(())

@@ -17,7 +17,7 @@ loop-rest-preserved g c = record {
 pub returns-in-Err-clause-part : goal.returns-in-Err-clause-part
 returns-in-Err-clause-part g c = record {
   part = c.loop-rest.invariant.written.0;
-  rest = c.loop-rest.rest;
+  rest = c.loop-rest.rest.now;
   all = c.loop-rest.invariant.written.1;
   grew = Appends-kept _ _ _ _ c.loop-rest.invariant.written.2 c.in-Err.ensures.bytes;
 }

@@ -4,7 +4,7 @@ use Rattle.std.proofs.KnownBytes.{Consumes-nil, Appends-nil, Keeps-refl}
 use Rattle.model_client.specs.ClientEvent as on
 use Rattle.app_get.specs.Exchange.{Ends}
 use Rattle.app_get.proofs.Steps.{emptied_all, quiet_still, one_step, done_moves, at_end}
-use Rattle.app_get.proofs.Stopping.{no_memory}
+use Rattle.app_get.proofs.Stopping.{err_stops, no_memory}
 use Rattle.app_get.proofs.exchange.Exchange.close_body.Goals as goal
 
 pub returns-clause-goes : goal.returns-clause-goes
@@ -14,4 +14,4 @@ returns-clause-goes g c =
     (record { input = λ told. absurd (cc told); body = λ _. emptied_all _; keeps_rest = refl }) (quiet_still _ _ refl (Keeps-refl _)) refl
 
 pub returns-in_err-end_body-clause-stops : goal.returns-in_err-end_body-clause-stops
-returns-in_err-end_body-clause-stops g c = no_memory _ _ _ _ c.self.view_is refl (Keeps-refl _)
+returns-in_err-end_body-clause-stops g c = err_stops _ _ _ _ c.from_residual.ensures.1 (no_memory _ _ _ _ c.self.view_is refl (Keeps-refl _))

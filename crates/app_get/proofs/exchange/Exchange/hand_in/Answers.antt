@@ -4,7 +4,7 @@ use Rattle.h1_client.specs.State.{IsAllowed}
 use Rattle.model_client.specs.ClientEvent as on
 use Rattle.app_get.specs.Exchange.{Ends}
 use Rattle.app_get.proofs.Steps.{ends_none, quiet_still, one_act, done_moves}
-use Rattle.app_get.proofs.Stopping.{file_fails, no_memory}
+use Rattle.app_get.proofs.Stopping.{err_stops, file_fails, no_memory}
 use Rattle.app_get.proofs.exchange.Exchange.hand_in.Goals as goal
 
 pub chunk-requires : goal.chunk-requires
@@ -20,7 +20,7 @@ returns-clause-acts g c =
     (quiet_still _ _ refl (Keeps-refl _)) refl
 
 pub returns-in_err-count-clause-stops : goal.returns-in_err-count-clause-stops
-returns-in_err-count-clause-stops g c = file_fails _ _ _ _ c.self.view_is c.in_err-count.ensures.cause (Keeps-refl _)
+returns-in_err-count-clause-stops g c = err_stops _ _ _ _ c.from_residual.ensures.1 (file_fails _ _ _ _ c.self.view_is c.in_err-count.ensures.cause (Keeps-refl _))
 
 pub returns-in_err-chunk-clause-stops : goal.returns-in_err-chunk-clause-stops
-returns-in_err-chunk-clause-stops g c = no_memory _ _ _ _ c.self.view_is refl (Keeps-refl _)
+returns-in_err-chunk-clause-stops g c = err_stops _ _ _ _ c.from_residual-in_err-chunk.ensures.1 (no_memory _ _ _ _ c.self.view_is refl (Keeps-refl _))

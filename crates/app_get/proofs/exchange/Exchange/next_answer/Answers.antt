@@ -3,7 +3,7 @@ use Rattle.std.proofs.KnownBytes.{Consumes-nil, Appends-nil, Keeps-refl}
 use Rattle.model_client.specs.ClientEvent as on
 use Rattle.app_get.specs.Exchange.{Ends}
 use Rattle.app_get.proofs.Steps.{ends_none, quiet_still, one_act, next_moves}
-use Rattle.app_get.proofs.Stopping.{heard_as}
+use Rattle.app_get.proofs.Stopping.{err_always, heard_as}
 use Rattle.app_get.proofs.exchange.Exchange.next_answer.Goals as goal
 
 pub returns-clause-heard : goal.returns-clause-heard
@@ -14,4 +14,4 @@ returns-clause-heard g c =
     c.in_ok-next.ensures.stands c.noted-self-inside.ensures (Keeps-refl _)
 
 pub returns-in_err-next-clause-err : goal.returns-in_err-next-clause-err
-returns-in_err-next-clause-err g c = ap (λ (e : Ends). e.out) c.self.view_is
+returns-in_err-next-clause-err g c = err_always _ _ (ap (λ (e : Ends). e.out) c.self.view_is)

@@ -5,7 +5,7 @@ use Rattle.h1_client.specs.Bodies.{SaysPulled}
 use Rattle.model_client.specs.ClientEvent as on
 use Rattle.app_get.specs.Exchange.{Ends}
 use Rattle.app_get.proofs.Steps.{ends_none, quiet_known, one_act, bytes_moves, none_moves, appends_same}
-use Rattle.app_get.proofs.Stopping.{no_memory, piece_fails, draws_corrupted, draws_incomplete}
+use Rattle.app_get.proofs.Stopping.{err_stops, no_memory, piece_fails, draws_corrupted, draws_incomplete}
 use Rattle.app_get.proofs.Taking.{pending_body}
 use Rattle.app_get.proofs.exchange.Exchange.pull.Goals as goal
 
@@ -40,12 +40,13 @@ returns-clause-taken g c = (
 )
 
 pub returns-in_err-bytes-clause-stops : goal.returns-in_err-bytes-clause-stops
-returns-in_err-bytes-clause-stops g c = no_memory _ _ _ _ c.self.view_is refl (Keeps-refl _)
+returns-in_err-bytes-clause-stops g c = err_stops _ _ _ _ c.from_residual.ensures.1 (no_memory _ _ _ _ c.self.view_is refl (Keeps-refl _))
 
 pub returns-in_err-write_all-in-Bytes-clause-stops : goal.returns-in_err-write_all-in-Bytes-clause-stops
 returns-in_err-write_all-in-Bytes-clause-stops g c =
-    piece_fails _ _ _ _ _ c.in-Bytes.bytes _ c.self.view_is c.in_err-write_all-in-Bytes.ensures.cause c.in_ok-bytes.ensures.stands c.in-Bytes.is c.as_slice.ensures
-    c.in_err-write_all-in-Bytes.ensures.part
+    err_stops _ _ _ _ c.from_residual-in_err-write_all-in-Bytes.ensures.1
+    (piece_fails _ _ _ _ _ c.in-Bytes.bytes _ c.self.view_is c.in_err-write_all-in-Bytes.ensures.cause c.in_ok-bytes.ensures.stands c.in-Bytes.is c.as_slice.ensures
+    c.in_err-write_all-in-Bytes.ensures.part)
 
 pub returns-in-Broken-Corrupted-clause-stops : goal.returns-in-Broken-Corrupted-clause-stops
 returns-in-Broken-Corrupted-clause-stops g c =

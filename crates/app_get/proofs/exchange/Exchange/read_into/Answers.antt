@@ -2,7 +2,7 @@ use Rattle.std.proofs.Common.{[], refl, take, arith}
 use Rattle.std.proofs.KnownBytes.{Consumes-nil, Appends-nil, Keeps-refl}
 use Rattle.model_client.specs.ClientEvent as on
 use Rattle.app_get.proofs.Steps.{ends_none, quiet_still, quiet_heard, emptied, one_step, no_step, done_moves, read_moves, consumes_zero, all_taken}
-use Rattle.app_get.proofs.Stopping.{no_memory, loses_bytes, unread_ends}
+use Rattle.app_get.proofs.Stopping.{err_stops, no_memory, loses_bytes, unread_ends}
 use Rattle.app_get.proofs.exchange.Exchange.read_into.Goals as goal
 
 pub returns-in-Ok-eq0-clause-goes : goal.returns-in-Ok-eq0-clause-goes
@@ -29,7 +29,7 @@ returns-in-Err-clause-goes g c =
     no_step _ _ _ c.self.view_is refl c.in-Err.ensures.bytes (Keeps-refl _) (Consumes-nil _) (λ _. Appends-nil _) (quiet_still _ _ refl (Keeps-refl _)) refl refl
 
 pub returns-in_err-read-in-Ok-clause-stops : goal.returns-in_err-read-in-Ok-clause-stops
-returns-in_err-read-in-Ok-clause-stops g c = no_memory _ _ _ _ c.self.view_is refl (Keeps-refl _)
+returns-in_err-read-in-Ok-clause-stops g c = err_stops _ _ _ _ c.from_residual.ensures.1 (no_memory _ _ _ _ c.self.view_is refl (Keeps-refl _))
 
 pub returns-then-branch-count-clause-stops : goal.returns-then-branch-count-clause-stops
 returns-then-branch-count-clause-stops g c =

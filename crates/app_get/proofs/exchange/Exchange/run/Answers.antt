@@ -1,7 +1,7 @@
-use Rattle.std.proofs.Common.{refl, inl, inr, arith}
+use Rattle.std.proofs.Common.{refl, inr, arith}
 use Rattle.app_get.specs.Exchange.{Goes, Acts}
 use Rattle.app_get.proofs.Going.{goes_none, goes_then, taken_goes, acts_then, then_acts}
-use Rattle.app_get.proofs.Stopping.{stops_then}
+use Rattle.app_get.proofs.Stopping.{err_ends, stops_then}
 use Rattle.app_get.proofs.Taking.{part_acts, nothing_acts, nothing_pending, whole_is, turned_as}
 use Rattle.app_get.proofs.exchange.Exchange.run.Goals as goal
 use Rattle.app_get.proofs.exchange.Exchange.run.Goals.{in-Part, in-Nothing+in_ok-listen-in-Nothing}
@@ -26,15 +26,15 @@ pub listen-requires : goal.listen-requires
 listen-requires g c = nothing_pending _ _ _ c.in_ok-status.ensures.taken c.in-Nothing.is
 
 pub returns-in_err-fill-clause-stops : goal.returns-in_err-fill-clause-stops
-returns-in_err-fill-clause-stops g c = inl (stops_then _ _ _ _ c.loop-turn.invariant.0 c.in_err-fill.ensures.stops)
+returns-in_err-fill-clause-stops g c = err_ends _ _ _ _ c.from_residual.ensures.1 (stops_then _ _ _ _ c.loop-turn.invariant.0 c.in_err-fill.ensures.stops)
 
 pub returns-in_err-status-clause-stops : goal.returns-in_err-status-clause-stops
 returns-in_err-status-clause-stops g c =
-    inl (stops_then _ _ _ _ c.loop-turn.invariant.0 (stops_then _ _ _ _ c.in_ok-fill.ensures.goes c.in_err-status.ensures.stops))
+    err_ends _ _ _ _ c.from_residual-in_err-status.ensures.1 (stops_then _ _ _ _ c.loop-turn.invariant.0 (stops_then _ _ _ _ c.in_ok-fill.ensures.goes c.in_err-status.ensures.stops))
 
 pub returns-in_err-listen-in-Nothing-clause-stops : goal.returns-in_err-listen-in-Nothing-clause-stops
 returns-in_err-listen-in-Nothing-clause-stops g c =
-    inl (stops_then _ _ _ _ c.loop-turn.invariant.0 (stops_then _ _ _ _ c.in_ok-fill.ensures.goes
+    err_ends _ _ _ _ c.from_residual-in_err-listen-in-Nothing.ensures.1 (stops_then _ _ _ _ c.loop-turn.invariant.0 (stops_then _ _ _ _ c.in_ok-fill.ensures.goes
     (stops_then _ _ _ _ (taken_goes _ _ _ c.in_ok-status.ensures.taken) c.in_err-listen-in-Nothing.ensures.stops)))
 
 pub returns-clause-stops : goal.returns-clause-stops
