@@ -1,5 +1,5 @@
 -- When a connection is free.
-use Rattle.std.specs.Prelude.{◌≡◌, ℕ, Bool, true, false, not, ◌&&◌, ◌==◌, List, [], ◌∷◌, length, drop, Option, Some, None, is_some, IsTrue, if◌then◌else◌}
+use Rattle.std.specs.Prelude.{◌≡◌, ℕ, ◌-◌, Bool, true, false, not, ◌&&◌, ◌==◌, List, [], ◌∷◌, ◌++◌, length, take, drop, min, Option, Some, None, is_some, IsTrue, if◌then◌else◌}
 use Rattle.std.specs.Option.{option_or}
 use Rattle.std.proofs.Common.{refl, sym, ap, ◌∙◌, subst}
 use Rattle.model_h1.specs.Event as server
@@ -10,7 +10,7 @@ use Rattle.model_client.specs.AnswerReading.{Answer, AnswerReading, answer_is, r
 use Rattle.model_client.specs.ClientEvent as on
 use Rattle.model_client.specs.ClientEvent.{ClientEvent, ClientEnd, ClientOutcome}
 use Rattle.model_client.specs.ClientKept.{Waiting, SendingBody, ReadingBody, ClientKept, is_free, client_closing, client_allows}
-use Rattle.model_client.specs.ClientStep.{ClientChange, behind_final, sending_piece, ending_body, passing, dropping, end_of, IsPulling, fault_end, behind_head, without_head, IsUpcoming, IsNext, IsClientChange, IsClientStep}
+use Rattle.model_client.specs.ClientStep.{ClientChange, behind_final, sending_piece, ending_body, passing, body_at_end, dropping, end_of, IsPulling, fault_end, behind_head, without_head, IsUpcoming, IsNext, IsClientChange, IsClientStep}
 use Rattle.model_client.specs.ClientTrace.{Happened, IsClientTrace}
 use Rattle.app_get.specs.Exchange.{is_failure}
 
@@ -109,8 +109,10 @@ change_sound setting k (on.ask r size) c is sound = as_kept c _ is sound
 change_sound setting k (on.chunk bytes) c is sound = as_kept c _ is (piece_sound bytes k.sending k sound)
 change_sound setting k on.body_end c is sound = as_kept c _ is (ending_sound k.sending k sound)
 change_sound setting k on.body_error c is sound = as_kept c _ is (or_sound k.failed (Some on.failed_request) sound refl)
-change_sound setting k (on.read bytes) c is sound = as_kept c _ is (passing_sound _ _ sound)
-change_sound setting k on.eof c is sound = as_kept c _ is (passing_sound _ _ sound)
+change_sound setting k (on.read bytes) c is sound =
+    as_kept c _ is (passing_sound k.reading (record k { unread = k.unread ++ take (min (length bytes) (setting.hold_size - length k.unread)) bytes }) sound)
+change_sound setting k on.eof c is sound =
+    as_kept c _ is (passing_sound (body_at_end k.unread k.reading) (record k { has_ended = true; reading = body_at_end k.unread k.reading }) sound)
 change_sound setting k on.next c is sound = next_sound setting k (client_closing k) c is sound
 change_sound setting k on.pull c is sound = pulling_sound k k.reading c is sound
 change_sound setting k on.drop_body c is sound = as_kept c _ is (dropping_sound k.reading k sound)
