@@ -1,5 +1,5 @@
 use Rattle.std.proofs.Common.{refl}
-use Rattle.app_get.proofs.Outcomes.{tried_new, tried_again, tried_kept}
+use Rattle.app_get.proofs.Outcomes.{tried_new, tried_done, tried_kept}
 use Rattle.app_get.proofs.tries.try_twice.Goals as goal
 
 pub returns-in-None : goal.returns-in-None

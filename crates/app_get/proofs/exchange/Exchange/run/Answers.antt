@@ -42,7 +42,7 @@ returns-clause-stops g c = inr (record { late = refl; goes = c.loop-turn.invaria
 
 pub loop-turn-preserved : goal.loop-turn-preserved
 loop-turn-preserved g c =
-    elim c.match-branch.branch [
+    elim c.match-branch-3.branch [
       | in-Part w ↦
           turned_as _ _ _ _ _ w.self-is c.loop-turn.invariant.0 c.loop-turn.invariant.1
           (then_acts _ _ _ c.in_ok-fill.ensures.goes (acts_then _ _ _ (part_acts _ _ _ c.in_ok-status.ensures.taken w.in-Part.is) w.send_on-in-Part.ensures))

@@ -1,12 +1,12 @@
 use Rattle.app_get.proofs.Sending.{sent_goes, sent_waits, late_unsent}
-use Rattle.app_get.proofs.Stopping.{err_stops}
+use Rattle.app_get.proofs.Stopping.{err_stops, ok_always}
 use Rattle.app_get.proofs.exchange.Exchange.send_before.Goals as goal
 
 pub returns-clause-goes : goal.returns-clause-goes
-returns-clause-goes g c = sent_goes _ _ _ c.send.ensures
+returns-clause-goes g c = ok_always _ _ (sent_goes _ _ _ c.send.ensures)
 
 pub returns-clause-waiting : goal.returns-clause-waiting
-returns-clause-waiting g c = sent_waits _ _ _ c.requires c.send.ensures
+returns-clause-waiting g c = ok_always _ _ (sent_waits _ _ _ c.requires c.send.ensures)
 
 pub returns-in_err-left-in-NotNow-clause-stops : goal.returns-in_err-left-in-NotNow-clause-stops
 returns-in_err-left-in-NotNow-clause-stops g c =
