@@ -1,5 +1,5 @@
 -- Where an exchange stops.
-use Rattle.std.specs.Prelude.{◌≡◌, ℕ, ◌-◌, ◌≤◌, nat_lt, Bool, true, false, List, length, take, if◌then◌else◌, Option, Some, None, Result, Ok, Err, IfErr, OnOk, OnErr, IsErrAnd, ◌⊎◌}
+use Rattle.std.specs.Prelude.{◌≡◌, ℕ, ◌-◌, ◌≤◌, nat_lt, Bool, true, false, List, length, take, if◌then◌else◌, Option, Some, None, Result, Ok, Err, IfErr, OnErr, IsErrAnd, ◌⊎◌}
 use Rattle.std.proofs.Common.{refl, sym, subst, ◌∙◌, inl, inr}
 use Rattle.std.proofs.lemmas.List.{length-take-le}
 use Rattle.std.specs.Io.KnownBytes.{Keeps}
@@ -55,10 +55,6 @@ err_ends r e was new is stops = err_as r e (λ (e : GetError). Stops was new e �
 pub err_always : {T E : Type 0} (r : Result T E) (P : Type 0) → P → OnErr r P
 err_always (Ok x) P holds = tt
 err_always (Err e) P holds = holds
-
-pub ok_always : {T E : Type 0} (r : Result T E) (P : Type 0) → P → OnOk r P
-ok_always (Ok x) P holds = holds
-ok_always (Err e) P holds = tt
 
 pub as_error : (was new : Ends) (e error : GetError) → error ≡ e → Stops was new e → Stops was new error
 as_error was new e error is stops = subst (λ (e : GetError). Stops was new e) (sym is) stops

@@ -1,5 +1,6 @@
 use Rattle.app_get.proofs.Sending.{sent_goes, sent_waits, late_unsent}
-use Rattle.app_get.proofs.Stopping.{err_stops, ok_always}
+use Rattle.app_get.proofs.Results.{ok_always}
+use Rattle.app_get.proofs.Stopping.{err_stops}
 use Rattle.app_get.proofs.exchange.Exchange.send_before.Goals as goal
 
 pub returns-clause-goes : goal.returns-clause-goes
