@@ -45,7 +45,7 @@ loop-turn-preserved g c =
     elim c.match-branch-3.branch [
       | in-Part w ↦
           turned_as _ _ _ _ _ w.self-is c.loop-turn.invariant.0 c.loop-turn.invariant.1
-          (then_acts _ _ _ c.in_ok-fill.ensures.goes (acts_then _ _ _ (part_acts _ _ _ c.in_ok-status.ensures.taken w.in-Part.is) w.send_on-in-Part.ensures))
+          (then_acts _ _ _ c.in_ok-fill.ensures.goes (acts_then _ _ _ (part_acts _ _ _ c.in_ok-status.ensures.taken w.in-Part.is) w.send_on.ensures))
       | in-Nothing+in_ok-listen-in-Nothing w ↦
           turned_as _ _ _ _ _ w.self-is c.loop-turn.invariant.0 c.loop-turn.invariant.1
           (then_acts _ _ _ c.in_ok-fill.ensures.goes (acts_then _ _ _ (nothing_acts _ _ _ c.in_ok-status.ensures.taken w.in-Nothing.is) w.in_ok-listen-in-Nothing.ensures.goes))
