@@ -28,7 +28,7 @@ def by_conn(text, depth, count):
         connection.read(text)
         for _ in range(depth):
             head = connection.next()
-            if head[3]:
+            if head[4]:
                 while type(connection.pull()) is bytes:
                     pass
             connection.answer(200, 0, 0, ())
