@@ -154,8 +154,8 @@ typedef struct {
     uint64_t keep_alive_ms;  /* for the next request; 0: the connection closes after each answer */
     uint64_t request_ms;     /* for the first head; 0: no limit */
     uint64_t disconnect_ms;  /* for a closing connection to be written out; 0: no limit */
-    size_t write_buffer;     /* so many bytes may wait to be written before pieces of a body have to wait */
-    size_t hold_size;        /* so many bytes of the input may be held: 8192 at least */
+    size_t write_buffer;     /* so many bytes may wait to be written before pieces of a body have to wait: 1 at least */
+    size_t hold_size;        /* so many bytes of the input may be held: 8192 to 1048576 */
     bool half_closed;        /* whether a peer that sends no more is still answered */
     bool client;
 } rc_config;
@@ -196,7 +196,7 @@ void raspcream_drop(void *);
 /* The library's version of this header: compare it with RC_ABI. */
 static inline uint32_t rc_abi(void) { return raspcream_abi(); }
 
-/* A connection to which nothing has come. RC_INVALID: no connection has such settings. */
+/* A connection to which nothing has come. RC_INVALID: `write_buffer` or `hold_size` is out of range. */
 static inline rc_code rc_new(const rc_config *config, rc_conn **out) {
     void *at = NULL;
     uint32_t code = raspcream_open(config, &at);
@@ -224,8 +224,9 @@ static inline rc_code rc_read(rc_conn *c, const void *data, size_t len, rc_event
 /* The peer sends no more. */
 static inline rc_code rc_eof(rc_conn *c, rc_event *e) { return rc_call_(c, 1, 0, NULL, 0, e); }
 
-/* The time. RC_DONE, RC_EXPIRED or RC_ABANDONED. A moment that is before the last one is RC_MISPLACED. Call it before the
- * first answer or request, which is dated by it, and from then on at least at each deadline. */
+/* The time. RC_DONE, RC_EXPIRED or RC_ABANDONED. A moment that is before the last one is RC_MISPLACED, and so is one of the
+ * year 10000 or later. Call it before the first answer or request, which is dated by it, and from then on at least at each
+ * deadline. */
 static inline rc_code rc_tick(rc_conn *c, uint64_t moment, rc_event *e) { return rc_call_(c, 12, moment, NULL, 0, e); }
 
 /* ---- what is handed out */
@@ -263,11 +264,12 @@ static inline uint8_t *rc_pack(uint8_t *to, const void *name, size_t name_len, c
 /* Answers the open request. RC_INVALID: a status below 100 or above 999, a name or a value that none may be, or lines that
  * aren't packed. `content-length`, `transfer-encoding`, `connection` and `date` are written by the library. */
 static inline rc_code rc_answer(rc_conn *c, unsigned status, rc_keep keep, uint64_t size, const uint8_t *packed, size_t len, rc_event *e) {
-    if (status > 999) return RC_INVALID;
+    if (status > 999) status = 1000; /* the library refuses it, and clears the event */
     return rc_call_(c, 6 | (status | (uint32_t)keep << 10) << 8, size, packed, len, e);
 }
 
-/* A client asks a request of HTTP/1.`minor`. The first pair of `packed` is the method and the target, the others are lines. */
+/* A client asks a request of HTTP/1.`minor`. The first pair of `packed` is the method and the target, the others are lines.
+ * RC_INVALID: a method, a target, a name or a value that none may be, or text that isn't packed. */
 static inline rc_code rc_ask(rc_conn *c, unsigned minor, rc_keep keep, uint64_t size, const uint8_t *packed, size_t len, rc_event *e) {
     return rc_call_(c, 6 | ((uint32_t)(minor == 0) | (uint32_t)keep << 10) << 8, size, packed, len, e);
 }
@@ -305,9 +307,11 @@ static inline rc_code rc_accept(rc_conn *c, size_t limit, rc_event *e) { return 
 static inline rc_code rc_frame(rc_conn *c, rc_event *e) { return rc_call_(c, 15, 0, NULL, 0, e); }
 
 /* Sends a frame of such an opcode. Of a Close the payload is its reason, and `close_code` 0 is a Close without one. RC_DONE, or
- * RC_PROTOCOL for a fragment that may not stand there. RC_INVALID: an unknown opcode, or a text that isn't UTF-8. */
+ * RC_PROTOCOL for a fragment that may not stand there. RC_INVALID: an unknown opcode, a text or a reason that isn't UTF-8, or a
+ * code above 65535. */
 static inline rc_code rc_send(rc_conn *c, unsigned opcode, unsigned close_code, const void *data, size_t len, rc_event *e) {
-    return rc_call_(c, 16 | (opcode & 0xff) << 8, close_code, data, len, e);
+    if (opcode > 255) opcode = 255; /* there is no such opcode either, and the event is cleared */
+    return rc_call_(c, 16 | opcode << 8, close_code, data, len, e);
 }
 
 /* ---- questions, which change nothing */

@@ -218,16 +218,67 @@ tell_when_ready() {
 # What is said once the program listens at these addresses: the launcher may have another.
 ready() { echo "ready: http://$1/"; }
 
-# Starts a server, in place of this shell: the proved program, or a checked build. `more` are words for that build alone, and
-# `ports` is at how many ports it listens.
+# Starts a server and waits for its end: the proved program, or a checked build. `more` are words for that build alone, `ports` is
+# at how many ports it listens, and `ending` what ends it: `input`, where it goes on until its standard input ends, else nothing
+# but a signal.
+#
+# A proved server's standard input is a pipe that this shell holds open, so one that is started with no input goes on. The first
+# TERM, INT or HUP closes it, and the server ends what it has begun. After `drain` seconds, or with a second signal, it is killed.
 serve() {
     (tell_when_ready "$$" "${ports:-1}" </dev/null >/dev/null &)
-    if is_proved "$name"; then
-        exec "$root/crates/$name/out/$name" "$@"
+    if ! is_proved "$name"; then
+        announce_build
+        cd -- "$root/crates/$name" || exit 70
+        exec rt try --seconds 86400 -- "${words[@]}" "${more[@]}"
     fi
-    announce_build
-    cd -- "$root/crates/$name" || exit 70
-    exec rt try --seconds 86400 -- "${words[@]}" "${more[@]}"
+    make_scratch
+    mkfifo -- "$scratch/input" || exit 70
+    # Behind & it ignores INT, which a terminal sends to it as well.
+    "$root/crates/$name/out/$name" "$@" <"$scratch/input" &
+    server=$!
+    exec {input}>"$scratch/input"
+    signals=0
+    trap 'end_server' TERM INT HUP
+    at_end() { kill -KILL "$server" 2>/dev/null || :; }
+    until wait_for_server; do
+        [ "$ending" != input ] || give_time
+    done
+    exit "$status"
+}
+
+# Waits until the server has ended, which leaves its `status`, or a signal has come.
+wait_for_server() {
+    local before=$signals
+    wait "$server" 2>/dev/null
+    status=$?
+    [ "$signals" = "$before" ]
+}
+
+# What a signal does. A server that has no end of its own is asked by TERM, as it would be without this shell.
+end_server() {
+    signals=$((signals + 1))
+    if [ "$signals" -gt 1 ]; then
+        kill -KILL "$server" 2>/dev/null || :
+    elif [ "$ending" = input ]; then
+        exec {input}>&-
+    else
+        kill -TERM "$server" 2>/dev/null || :
+    fi
+}
+
+microseconds() { echo "${EPOCHREALTIME/[.,]/}"; }
+
+# Waits for a server that is to end, and kills it where it takes too long.
+give_time() {
+    local until=$(($(microseconds) + drain * 1000000))
+    while [ "$signals" = 1 ] && kill -0 "$server" 2>/dev/null; do
+        if [ "$(microseconds)" -ge "$until" ]; then
+            echo "$launcher: it hasn't ended within $drain seconds, so it is killed" >&2
+            kill -KILL "$server" 2>/dev/null || :
+            return
+        fi
+        sleep 0.1
+    done
 }
 
 # Runs a program that reads its input and ends: the proved one in place of this shell, or a checked build, which gets `words`, and
@@ -268,3 +319,5 @@ option_mark=-
 words=()
 more=()
 limits=(--seconds 86400)
+ending=
+drain=30

@@ -19,10 +19,16 @@ field() {
         $1 == word { print $columns[column] }' <<<"$table"
 }
 
+# The version of every program, which README has as well.
+show_version() {
+    name=app_get
+    text_of VERSION | sed 's/^[a-z_]* /raspcream /'
+}
+
 is_word() { [[ $1 =~ ^[a-z]+$ ]] && [ -n "$(field program "$1")" ]; }
 
 list_words() {
-    echo "usage: $launcher WORD .."
+    echo "usage: $launcher [--drain SECONDS] WORD .."
     echo
     awk -F ' *[|] *' 'NF > 1 { printf "  %-9s%-24s %s\n", $1, $4, $5 }' <<<"$table"
     cat <<END
@@ -33,6 +39,9 @@ It runs the proved program where bin/prove or rt ci has made it and nothing that
 same sources, checked as they run and not proved: that takes one to three minutes each time. Such a build shows its
 output only at its end, and gives up where that is above 1 MiB. It reads its whole input before it begins; a server gets none,
 so that one that ends with its input goes on.
+
+TERM, INT (Ctrl-C) or HUP ends a proved server gently: it takes no further connection and ends what it has begun, for at most
+--drain SECONDS (30 by default). A second signal kills it, and one signal a checked build.
 
 It ends with the program's status, 64 where there is no such word, and 70 where nothing can be built or the build gives no
 answer.
@@ -64,7 +73,8 @@ launch_serve() {
     read_words "$@"
     [ "$operands" -ge 2 ] || wrong TooFew
     [ -d "$folder" ] || refuse 3 "there is no folder $folder"
-    serve "$@"
+    ending=input
+    serve --until-input-ends "$@"
 }
 
 launch_get() {
@@ -93,6 +103,16 @@ launch_get() {
     answer "$@"
 }
 
+# Starts a server that ends with its input unless it has --ignore-input. The launcher holds the input open anyway.
+serve_to_input_end() {
+    local word given=()
+    for word; do
+        [ "$word" = --ignore-input ] || given+=("$word")
+    done
+    ending=input
+    serve "${given[@]}"
+}
+
 launch_chat() {
     flags="--ignore-input"
     valued="--bind"
@@ -106,7 +126,7 @@ launch_chat() {
     [ "$operands" -ge 1 ] || wrong TooFew
     ports=2
     more=(--ignore-input)
-    serve "$@"
+    serve_to_input_end "$@"
 }
 
 launch_proxy() {
@@ -125,7 +145,7 @@ launch_proxy() {
         refuse 2 "the server has to be a port of this machine, or an address and a port as 127.0.0.1:8080"
     fi
     more=(--ignore-input)
-    serve "$@"
+    serve_to_input_end "$@"
 }
 
 launch_replay() {
@@ -203,10 +223,11 @@ END
 launch_site() {
     answers_help "$@" <<'END'
 It serves a port of this machine, 0 to 65535, by 1 to 1024 threads, each with an event loop of its own, or with 0 by its first
-one alone. GET / is answered with a greeting, GET /lines with three lines in chunks, POST /echo with the bytes that came. It
-ends where the standard input ends or has a line, with status 0, and with 1 where the port, a loop or a thread can't be had.
+one alone. GET / is answered with a greeting, GET /lines with three lines in chunks, POST /echo with the bytes that came. It ends
+by a signal, with status 0, and with 1 where the port, a loop or a thread can't be had.
 END
     [ $# = 2 ] && is_number "$1" 65535 && is_number "$2" 1024 || refuse_usage
+    ending=input
     words=("$@")
     serve "$@"
 }

@@ -203,6 +203,7 @@ static bool websocket(rc_event *e) {
     DO(rc_frame(c, e));
     WANT(e->kind == RC_PENDING);
     WANT(rc_send(c, 1, 0, "\xff", 1, e) == RC_INVALID);
+    WANT(rc_send(c, 257, 0, "a", 1, e) == RC_INVALID && rc_send(c, 8, 65536, "", 0, e) == RC_INVALID);
     DO(rc_read(c, "\xff\xff\xff", 3, e));
     DO(rc_frame(c, e));
     WANT(e->kind == RC_PROTOCOL);
@@ -269,7 +270,12 @@ static bool wrong(rc_event *e) {
     rc_conn *c;
     rc_config config = RC_SERVER_CONFIG;
     uint8_t b[64], *last = rc_pack(b, "x", 1, "a\r\nb", 4);
-    config.hold_size = 1;
+    config.hold_size = 8191;
+    WANT(rc_new(&config, &c) == RC_INVALID);
+    config.hold_size = 1048577;
+    WANT(rc_new(&config, &c) == RC_INVALID);
+    config = RC_SERVER_CONFIG;
+    config.write_buffer = 0;
     WANT(rc_new(&config, &c) == RC_INVALID);
     DO(rc_new(&RC_SERVER_CONFIG, &c));
     WANT(rc_answer(c, 200, RC_KEEP_DEFAULT, 0, NULL, 0, e) == RC_MISPLACED);
@@ -281,6 +287,7 @@ static bool wrong(rc_event *e) {
     WANT(rc_answer(c, 200, RC_KEEP_DEFAULT, 0, b, (size_t)(last - b), e) == RC_INVALID);
     WANT(e->target.len == 0 && e->kind == RC_DONE); /* nothing of the head is left in the event */
     WANT(rc_answer(c, 99, RC_KEEP_DEFAULT, 0, b, 0, e) == RC_INVALID && rc_answer(c, 1000, RC_KEEP_DEFAULT, 0, b, 0, e) == RC_INVALID);
+    WANT(rc_state(c, e) == RC_OK && rc_answer(c, 1224, RC_KEEP_DEFAULT, 0, b, 0, e) == RC_INVALID && e->kind == RC_DONE);
     WANT(rc_answer(c, 200, RC_KEEP_DEFAULT, 0, b, 7, e) == RC_INVALID); /* lengths are cut off */
     WANT(rc_answer(c, 200, RC_KEEP_DEFAULT, 0, b, 9, e) == RC_INVALID); /* bytes are cut off */
     DO(rc_answer(c, 204, RC_KEEP_DEFAULT, RC_SIZE_NONE, NULL, 0, e));

@@ -1,16 +1,16 @@
 """The program app_get against servers: app_files, app_hello, Python's http.server, nginx, and servers that say by heart what
 they were told."""
-import os, socket, subprocess, sys, tempfile, threading
+import os, socket, struct, subprocess, sys, tempfile, threading
 
 from checks import check, differs, free_port, has, run, wait_for
 
 
 class Parrot:
     """A server on a port of its own. Each of its connections says one answer for each head that it reads, and closes after
-    its last one; None is an answer that never comes."""
+    its last one; None is an answer that never comes. One that resets breaks the connection instead."""
 
-    def __init__(self, *connections):
-        self.heads, self.count = [], 0
+    def __init__(self, *connections, resets=False):
+        self.heads, self.count, self.resets = [], 0, resets
         self.listener = socket.create_server(("127.0.0.1", 0))
         self.url = "http://127.0.0.1:%d" % self.listener.getsockname()[1]
         self.thread = threading.Thread(target=self.serve, args=(connections,), daemon=True)
@@ -21,6 +21,8 @@ class Parrot:
             sock = self.listener.accept()[0]
             self.count += 1
             self.converse(sock, answers)
+            if self.resets:
+                sock.setsockopt(socket.SOL_SOCKET, socket.SO_LINGER, struct.pack("ii", 1, 0))
             sock.close()
 
     def converse(self, sock, answers):
@@ -57,6 +59,8 @@ def get_clients(program, files, hello, folder):
     check("app_get of a file that isn't there, and of one that is", get_missing(program, url, small))
     check("app_get POST by length", get(0, big, echo, f"{folder}/big.bin"))
     check("app_get POST in chunks", get(0, big, "--chunked", echo, f"{folder}/big.bin"))
+    check("app_get POST of a file for which the system says 0 bytes",
+          get(0, open("/proc/version", "rb").read(), echo, "/proc/version"))
     check("app_get POST to a file, which isn't wanted", lambda: differs(run(program, f"{url}/a.txt", f"{folder}/big.bin").returncode, 8))
     check("app_get HEAD", get_head(program, f"{url}/big.bin"))
     check("app_get where nobody listens", lambda: differs(run(program, "http://127.0.0.1:%d/" % free_port()).returncode, 4))
@@ -115,8 +119,15 @@ def parrot_clients(program, folder, get):
     said("no answer at all", 6, b"", [[b""]], "URL/")
     said("another protocol", 6, b"", [[b"HTTP/1.1 101 Switching Protocols\r\n\r\n"]], "URL/")
     said("a server that says nothing", 7, b"", [[None]], "--wait", "1", "URL/")
+    check("app_get, a connection that is reset inside a body to its end", lambda: get_reset(program))
     said("a server that refuses a body before it came", 8, b"no", [[b"HTTP/1.1 413 Content Too Large\r\nconnection: close\r\n"
          b"content-length: 2\r\n\r\nno"]], "URL/", f"{folder}/a.txt")
+
+
+def get_reset(program):
+    # What came of the body is written, and it doesn't count as whole.
+    done = run(program, Parrot([b"HTTP/1.0 200 OK\r\n\r\nall"], resets=True).url + "/")
+    return None if done.returncode == 6 and b"all".startswith(done.stdout) else done
 
 
 def python_server(program, folder, get, small, big):

@@ -1,11 +1,14 @@
 -- An exchange that goes on twice goes on.
-use Rattle.std.specs.Prelude.{◌≡◌, ℕ, List, [], ◌∷◌, ◌++◌, Option, Result, Ok, Err, OnOk}
-use Rattle.std.proofs.Common.{refl, sym, ap, subst, ◌∙◌, append_assoc, append-nil}
-use Rattle.std.specs.Io.KnownBytes.{Consumes, Appends}
-use Rattle.std.proofs.KnownBytes.{Consumes-nil, Appends-nil, Consumes-trans, Appends-trans}
+use Rattle.std.specs.Prelude.{◌≡◌, ℕ, ◌<◌, ◌≤◌, ◌+◌, Bool, true, false, ◌||◌, List, [], ◌∷◌, ◌++◌, length, Option, Some, None, Result, Ok, Err, OnOk, IsTrue}
+use Rattle.std.proofs.Common.{refl, sym, ap, subst, ◌∙◌, append_assoc, append-nil, length-append, arith}
+use Rattle.std.specs.Io.KnownBytes.{Consumes, Appends, Keeps}
+use Rattle.std.proofs.KnownBytes.{Consumes-nil, Appends-nil, Consumes-trans, Appends-trans, Keeps-refl, Keeps-trans}
 use Rattle.h1_client.specs.State.{Stands}
 use Rattle.model_client.specs.ClientTrace.{Happened, taken, taken_by, written, given as gave}
-use Rattle.app_get.specs.Exchange.{Ends, Goes, handed, handed_by, given, given_by, noted, noted_by}
+use Rattle.model_client.specs.ClientEvent.{ClientEvent}
+use Rattle.app_get.specs.Exchange.{Ends, Goes, Acts, handed, handed_by, given, given_by, noted, noted_by, has_event, ends_input, ends_body, drops_rest, Empties, IsTaken}
+use Rattle.app_get.specs.declared.answer.Taken.{Taken}
+use Rattle.app_get.specs.declared.answer.Taken.TheVariants as taking
 
 -- ---- sums of what happened first and then
 
@@ -29,6 +32,58 @@ noted_then : (ys xs : List Happened) (status : Option ℕ) → noted (ys ++ xs) 
 noted_then [] xs status = refl
 noted_then (y ∷ ys) xs status = ap (noted_by y.outcome) (noted_then ys xs status)
 
+-- ---- ends that are told first or then
+
+or_none : (a : Bool) → a ≡ (a || false)
+or_none true = refl
+or_none false = refl
+
+or_assoc : (a b c : Bool) → ((a || b) || c) ≡ (a || (b || c))
+or_assoc true b c = refl
+or_assoc false b c = refl
+
+or_neither : (a b : Bool) → a ≡ false → b ≡ false → (a || b) ≡ false
+or_neither true b first second = first
+or_neither false b first second = second
+
+or_either : {P : Type 0} (a b : Bool) → (a || b) ≡ true → (a ≡ true → P) → (b ≡ true → P) → P
+or_either true b is first second = first refl
+or_either false b is first second = second is
+
+has_then : (is_such : ClientEvent → Bool) (ys xs : List Happened) → has_event is_such (ys ++ xs) ≡ (has_event is_such xs || has_event is_such ys)
+has_then is_such [] xs = or_none (has_event is_such xs)
+has_then is_such (y ∷ ys) xs =
+    ap (λ (b : Bool). b || is_such y.event) (has_then is_such ys xs) ∙ or_assoc (has_event is_such xs) (has_event is_such ys) (is_such y.event)
+
+none_both : (xs ys : List ℕ) → xs ≡ [] → ys ≡ [] → xs ++ ys ≡ []
+none_both [] ys first second = second
+none_both (x ∷ xs) ys first second = absurd (cc first)
+
+none_behind : (xs ys : List ℕ) → [] ≡ xs ++ ys → ys ≡ []
+none_behind [] ys is = sym is
+none_behind (x ∷ xs) ys is = absurd (cc is)
+
+-- what is empty stays so
+emptied_then : (a b c : Option (List ℕ)) (bytes : List ℕ) → Empties a b → Consumes b c bytes → Empties a c
+emptied_then None b c bytes empty then_ = tt
+emptied_then (Some xs) None c bytes empty then_ = absurd (cc empty)
+emptied_then (Some xs) (Some ys) None bytes empty then_ = absurd then_
+emptied_then (Some xs) (Some ys) (Some zs) bytes empty then_ =
+    let none : ys ≡ [] = cc empty in
+    ap (λ (l : List ℕ). Some l) (none_behind bytes zs (sym none ∙ then_))
+
+then_emptied : (a b c : Option (List ℕ)) (bytes : List ℕ) → Consumes a b bytes → Empties b c → Empties a c
+then_emptied None b c bytes first empty = tt
+then_emptied (Some xs) None c bytes first empty = absurd first
+then_emptied (Some xs) (Some ys) c bytes first empty = empty
+
+-- the end is told by one of two, the first or the second
+ends_then : (is_such : ClientEvent → Bool) (ys xs : List Happened) (a b c : Option (List ℕ)) (first second : List ℕ) → Consumes a b first → Consumes b c second
+    → (has_event is_such xs ≡ true → Empties a b) → (has_event is_such ys ≡ true → Empties b c) → has_event is_such (ys ++ xs) ≡ true → Empties a c
+ends_then is_such ys xs a b c first second lost then_lost by_first by_second told =
+    or_either (has_event is_such xs) (has_event is_such ys) (sym (has_then is_such ys xs) ∙ told)
+    (λ is. emptied_then a b c second (by_first is) then_lost) (λ is. then_emptied a b c first lost (by_second is))
+
 -- ---- going on
 
 -- nothing has happened
@@ -40,6 +95,11 @@ goes_none a = record {
   sent = Appends-nil a.sent;
   file = Consumes-nil a.file;
   out = λ _. Appends-nil a.out;
+  input_end = λ told. absurd (cc told);
+  body_end = λ told. absurd (cc told);
+  none_dropped = refl;
+  heard = λ unheard. (unheard, refl);
+  silent = λ none. (none, Keeps-refl a.out);
   status = refl;
   shows = refl;
 }
@@ -61,6 +121,19 @@ goes_then a b c first second = record {
   out = λ hides.
       subst (Appends a.out c.out) (sym (given_then second.more first.more))
       (Appends-trans a.out b.out c.out _ _ (first.out hides) (second.out (first.shows ∙ hides)));
+  input_end = ends_then ends_input second.more first.more a.came b.came c.came _ _ first.came second.came first.input_end second.input_end;
+  body_end = ends_then ends_body second.more first.more a.file b.file c.file _ _ first.file second.file first.body_end second.body_end;
+  none_dropped =
+      has_then drops_rest second.more first.more
+      ∙ or_neither (has_event drops_rest first.more) (has_event drops_rest second.more) first.none_dropped second.none_dropped;
+  heard = λ unheard.
+      let then_ : (b.begun ≡ false) × (taken second.more ≡ []) = second.heard unheard in
+      let before : (a.begun ≡ false) × (taken first.more ≡ []) = first.heard then_.0 in
+      (before.0, taken_then second.more first.more ∙ none_both (taken first.more) (taken second.more) before.1 then_.1);
+  silent = λ none.
+      let then_ : (b.status ≡ None) × Keeps b.out c.out = second.silent none in
+      let before : (a.status ≡ None) × Keeps a.out b.out = first.silent then_.0 in
+      (before.0, Keeps-trans a.out b.out c.out before.1 then_.1);
   status = second.status ∙ ap (noted second.more) first.status ∙ sym (noted_then second.more first.more a.status);
   shows = second.shows ∙ first.shows;
 }
@@ -69,3 +142,46 @@ goes_then a b c first second = record {
 pub ok_then : {T E : Type 0} (r : Result T E) (a b c : Ends) → Goes a b → OnOk r (Goes b c) → OnOk r (Goes a c)
 ok_then (Ok x) a b c first second = goes_then a b c first second
 ok_then (Err e) a b c first second = tt
+
+-- ---- going on by an event
+
+-- as many events as both ways have
+pub more_then : (a b c : Ends) (first : Goes a b) (second : Goes b c) → length (goes_then a b c first second).more ≡ length second.more + length first.more
+unfolding goes_then
+more_then a b c first second = length-append second.more first.more
+
+pub acts_then : (a b c : Ends) → Acts a b → Goes b c → Acts a c
+acts_then a b c first second = record {
+  goes = goes_then a b c first.goes second;
+  some = omega (arith, first.some, more_then a b c first.goes second);
+}
+
+pub then_acts : (a b c : Ends) → Goes a b → Acts b c → Acts a c
+then_acts a b c first second = record {
+  goes = goes_then a b c first second.goes;
+  some = omega (arith, second.some, more_then a b c first second.goes);
+}
+
+pub ok_acts_then : {T E : Type 0} (r : Result T E) (a b c : Ends) → Acts a b → OnOk r (Goes b c) → OnOk r (Acts a c)
+ok_acts_then (Ok x) a b c first second = acts_then a b c first second
+ok_acts_then (Err e) a b c first second = tt
+
+pub ok_acts_goes : {T E : Type 0} (r : Result T E) (a b : Ends) → OnOk r (Acts a b) → OnOk r (Goes a b)
+ok_acts_goes (Ok x) a b acts = acts.goes
+ok_acts_goes (Err e) a b acts = tt
+
+-- also where that was allowed
+pub ok_acts_allowed : {T E : Type 0} (r : Result T E) (a b : Ends) (P : Type 0) → OnOk r (Acts a b) → OnOk r (P → Acts a b)
+ok_acts_allowed (Ok x) a b P acts = λ _. acts
+ok_acts_allowed (Err e) a b P acts = tt
+
+-- or where it wasn't
+pub not_allowed : (allows : Bool) (P : Type 0) → allows ≡ false → IsTrue allows → P
+not_allowed true P is may = absurd (cc is)
+not_allowed false P is may = absurd (cc may)
+
+-- what was taken has gone on
+pub taken_goes : (t : Taken) (a b : Ends) → IsTaken t a b → Goes a b
+taken_goes (taking.Whole status) a b is = is.0
+taken_goes taking.Part a b is = is.goes
+taken_goes taking.Nothing a b is = is.0.goes

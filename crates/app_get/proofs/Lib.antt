@@ -1,2 +1,10 @@
+pub mod Asking
+pub mod Freed
 pub mod Going
+pub mod Outcomes
+pub mod Results
+pub mod Sending
+pub mod Shown
 pub mod Steps
+pub mod Stopping
+pub mod Taking

@@ -1,17 +1,18 @@
 -- What one event moves.
-use Rattle.std.specs.Prelude.{◌≡◌, ℕ, ◌≤◌, List, [], ◌∷◌, ◌++◌, length, take, drop, Option, Some, None, Bool, true, false}
-use Rattle.std.proofs.Common.{refl, sym, ap, subst, ◌∙◌, append-nil, append_assoc, arith, take_all, take-append-drop}
+use Rattle.std.specs.Prelude.{◌≡◌, ℕ, ◌<◌, ◌≤◌, List, [], ◌∷◌, ◌++◌, length, take, drop, Option, Some, None, is_some, Bool, true, false, if◌then◌else◌}
+use Rattle.std.proofs.Common.{refl, sym, ap, subst, ◌∙◌, append-nil, append_assoc, arith, take_all, take-append-drop, lit<}
 use Rattle.std.proofs.lemmas.List.{length-take-le}
 use Rattle.std.specs.Io.KnownBytes.{Consumes, Appends, Keeps, IsAtEnd}
-use Rattle.std.proofs.KnownBytes.{Appends-trans}
+use Rattle.std.proofs.KnownBytes.{Appends-trans, Appends-kept}
 use Rattle.h1_client.specs.Answers.{SaysNext}
 use Rattle.h1_client.specs.State.{State, Stands, GoesOn, Is}
 use Rattle.h1_client.specs.declared.event.NextAnswer.{NextAnswer}
 use Rattle.h1_client.specs.declared.event.NextAnswer.TheVariants as next
 use Rattle.model_client.specs.ClientEvent as on
 use Rattle.model_client.specs.ClientEvent.{ClientEvent, ClientOutcome}
-use Rattle.model_client.specs.ClientTrace.{taken_by, given as gave}
-use Rattle.app_get.specs.Exchange.{Ends, Goes, handed_by, given_by, noted_by}
+use Rattle.model_client.specs.AnswerParse.{is_interim}
+use Rattle.model_client.specs.ClientTrace.{Happened, taken_by, given as gave}
+use Rattle.app_get.specs.Exchange.{Ends, Goes, Acts, handed_by, given_by, noted_by, ends_input, ends_body, drops_rest, Empties}
 
 -- ---- an event
 
@@ -24,24 +25,92 @@ pub record Moves (e : ClientEvent) (o : ClientOutcome) (came sent file out : Lis
   pub shows : given_by o ≡ out
   pub notes : after ≡ noted_by o before
 
+-- the event tells an end only where nothing is left, and drops nothing
+pub record EndsWhole (e : ClientEvent) (old new : Ends) : Type 0 where
+  pub input : ends_input e ≡ true → Empties old.came new.came
+  pub body : ends_body e ≡ true → Empties old.file new.file
+  pub keeps_rest : drops_rest e ≡ false
+
+pub ends_none : (e : ClientEvent) (old new : Ends) → ends_input e ≡ false → ends_body e ≡ false → drops_rest e ≡ false → EndsWhole e old new
+ends_none e old new input body rest = record { input = λ told. absurd (cc (told, input)); body = λ told. absurd (cc (told, body)); keeps_rest = rest }
+
+pub emptied : (a b : Option (List ℕ)) (bytes : List ℕ) → Consumes a b bytes → IsAtEnd b → Empties a b
+emptied None b bytes came end = tt
+emptied (Some xs) None bytes came end = absurd came
+emptied (Some xs) (Some ys) bytes came end = ap (λ (l : List ℕ). Some l) end
+
+pub emptied_all : (a : Option (List ℕ)) → Empties a (Some [])
+emptied_all None = tt
+emptied_all (Some xs) = refl
+
+-- what isn't known to have come isn't taken, and without a status nothing is written out
+pub record IsQuiet (old new : Ends) (came : List ℕ) : Type 0 where
+  pub heard : new.begun ≡ false → (old.begun ≡ false) × (came ≡ [])
+  pub silent : new.status ≡ None → Keeps old.out new.out
+
+-- nothing is taken, and nothing is written out
+pub quiet_still : (old new : Ends) → new.begun ≡ old.begun → Keeps old.out new.out → IsQuiet old new []
+quiet_still old new begun out = record { heard = λ unheard. (sym begun ∙ unheard, refl); silent = λ _. out }
+
+-- nothing is taken, and there is a status
+pub quiet_known : (old new : Ends) → new.begun ≡ old.begun → is_some new.status ≡ true → IsQuiet old new []
+quiet_known old new begun known = record { heard = λ unheard. (sym begun ∙ unheard, refl); silent = λ none. absurd (cc (sym known ∙ ap (λ (s : Option ℕ). is_some s) none)) }
+
+-- it is known that something came
+pub quiet_heard : (old new : Ends) (came : List ℕ) → new.begun ≡ true → Keeps old.out new.out → IsQuiet old new came
+quiet_heard old new came begun out = record { heard = λ unheard. absurd (cc (begun, unheard)); silent = λ _. out }
+
+if_none : (test : Bool) (before : Option ℕ) (status : ℕ) → (if test then before else Some status) ≡ None → before ≡ None
+if_none true before status is = is
+if_none false before status is = absurd (cc is)
+
+-- where no status is noted there was none
+none_noted : (o : ClientOutcome) (before : Option ℕ) → noted_by o before ≡ None → before ≡ None
+none_noted (on.answer a) before is = if_none (is_interim a.status) before a.status is
+none_noted _ before is = is
+
+-- one event more, of which this holds
+pub one_with : (was old new : Ends) (e : ClientEvent) (Says : ClientOutcome → Type 0) (came sent file out : List ℕ) (P : List Happened → Type 0) → old ≡ was
+    → (goes : GoesOn old.state e Says new.state) → ((o : ClientOutcome) → Says o → Moves e o came sent file out old.status new.status)
+    → Consumes old.came new.came came → Appends old.sent new.sent sent → Consumes old.file new.file file
+    → (old.shows ≡ false → Appends old.out new.out out) → EndsWhole e old new → IsQuiet old new came → new.shows ≡ old.shows
+    → P (record { event = e; outcome = goes.outcome } ∷ []) → (all : Goes was new) × P all.more
+one_with was old new e Says came sent file out P seen goes moves lost got handed told ends quiet shows holds =
+    subst (λ (l : Ends). (all : Goes l new) × P all.more) seen
+    (let m = moves goes.outcome goes.says in (
+      record {
+        more = record { event = e; outcome = goes.outcome } ∷ [];
+        stands = goes.stands;
+        came = subst (Consumes old.came new.came) (sym m.takes) lost;
+        sent = subst (Appends old.sent new.sent) (sym m.gives) got;
+        file = subst (Consumes old.file new.file) (sym m.hands) handed;
+        out = λ hides. subst (Appends old.out new.out) (sym m.shows) (told hides);
+        input_end = ends.input;
+        body_end = ends.body;
+        none_dropped = ends.keeps_rest;
+        heard = λ unheard. ((quiet.heard unheard).0, m.takes ∙ (quiet.heard unheard).1);
+        silent = λ none. (none_noted goes.outcome old.status (sym m.notes ∙ none), quiet.silent none);
+        status = m.notes;
+        shows = shows;
+      },
+      holds,
+    ))
+
 -- one event more
+pub one_act : (was old new : Ends) (e : ClientEvent) (Says : ClientOutcome → Type 0) (came sent file out : List ℕ) → old ≡ was
+    → GoesOn old.state e Says new.state → ((o : ClientOutcome) → Says o → Moves e o came sent file out old.status new.status)
+    → Consumes old.came new.came came → Appends old.sent new.sent sent → Consumes old.file new.file file
+    → (old.shows ≡ false → Appends old.out new.out out) → EndsWhole e old new → IsQuiet old new came → new.shows ≡ old.shows → Acts was new
+one_act was old new e Says came sent file out seen goes moves lost got handed told ends quiet shows =
+    let all = one_with was old new e Says came sent file out (λ more. 0 < length more) seen goes moves lost got handed told ends quiet shows (lit< tt) in
+    record { goes = all.0; some = all.1 }
+
 pub one_step : (was old new : Ends) (e : ClientEvent) (Says : ClientOutcome → Type 0) (came sent file out : List ℕ) → old ≡ was
     → GoesOn old.state e Says new.state → ((o : ClientOutcome) → Says o → Moves e o came sent file out old.status new.status)
     → Consumes old.came new.came came → Appends old.sent new.sent sent → Consumes old.file new.file file
-    → (old.shows ≡ false → Appends old.out new.out out) → new.shows ≡ old.shows → Goes was new
-one_step was old new e Says came sent file out seen goes moves lost got handed told shows =
-    subst (λ (l : Ends). Goes l new) seen
-    (let m = moves goes.outcome goes.says in
-    record {
-      more = record { event = e; outcome = goes.outcome } ∷ [];
-      stands = goes.stands;
-      came = subst (Consumes old.came new.came) (sym m.takes) lost;
-      sent = subst (Appends old.sent new.sent) (sym m.gives) got;
-      file = subst (Consumes old.file new.file) (sym m.hands) handed;
-      out = λ hides. subst (Appends old.out new.out) (sym m.shows) (told hides);
-      status = m.notes;
-      shows = shows;
-    })
+    → (old.shows ≡ false → Appends old.out new.out out) → EndsWhole e old new → IsQuiet old new came → new.shows ≡ old.shows → Goes was new
+one_step was old new e Says came sent file out seen goes moves lost got handed told ends quiet shows =
+    (one_act was old new e Says came sent file out seen goes moves lost got handed told ends quiet shows).goes
 
 kept_consumes : (a b : Option (List ℕ)) → Keeps a b → Consumes a b []
 kept_consumes None b keeps = tt
@@ -55,8 +124,8 @@ kept_appends (Some ps) (Some qs) keeps = keeps ∙ sym (append-nil ps)
 
 -- no event
 pub no_step : (was old new : Ends) → old ≡ was → new.state ≡ old.state → Keeps old.came new.came → Keeps old.sent new.sent → Consumes old.file new.file []
-    → (old.shows ≡ false → Appends old.out new.out []) → new.status ≡ old.status → new.shows ≡ old.shows → Goes was new
-no_step was old new seen state came sent file out status shows =
+    → (old.shows ≡ false → Appends old.out new.out []) → IsQuiet old new [] → new.status ≡ old.status → new.shows ≡ old.shows → Goes was new
+no_step was old new seen state came sent file out quiet status shows =
     subst (λ (l : Ends). Goes l new) seen
     (record {
       more = [];
@@ -65,6 +134,11 @@ no_step was old new seen state came sent file out status shows =
       sent = kept_appends old.sent new.sent sent;
       file = file;
       out = out;
+      input_end = λ told. absurd (cc told);
+      body_end = λ told. absurd (cc told);
+      none_dropped = refl;
+      heard = quiet.heard;
+      silent = λ none. (sym status ∙ none, quiet.silent none);
       status = status;
       shows = shows;
     })

@@ -1,1 +1,7 @@
+pub mod Asking
 pub mod Exchange
+pub mod Failure
+pub mod Fetching
+pub mod Heads
+pub mod Patience
+pub mod Places

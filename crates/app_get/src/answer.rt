@@ -1,5 +1,5 @@
 // What comes of the answer.
-ghost use Rattle.std.specs.Prelude.{◌≡◌, false, Some, OnOk, IfOk};
+ghost use Rattle.std.specs.Prelude.{◌≡◌, ◌≢◌, false, None, Some, IsSome, IfOk, IfErr, OnErr, if◌then◌else◌};
 ghost use Rattle.h1_client.specs.Answers.{SaysNext};
 ghost use Rattle.h1_client.specs.ClientMeaning.{setting_of};
 ghost use Rattle.h1_client.specs.State.{IsAllowed};
@@ -7,6 +7,7 @@ ghost use Rattle.model_client.specs.ClientEvent as on;
 ghost use Rattle.model_client.specs.ClientKept.{client_allows};
 ghost use Rattle.model_client.specs.AnswerParse.{is_interim};
 ghost use Rattle.app_get.specs.Exchange.{Goes, IsTaken, noted_by};
+ghost use Rattle.app_get.specs.Failure.{Heard, Stops, is_heard, error_by};
 
 use crate::error::GetError;
 use crate::exchange::Exchange;
@@ -36,8 +37,8 @@ impl<S: TimedSource + Drop, K: TimedSink + Drop, B: Source + Drop, O: Sink + Dro
 > {
     /// Takes what comes next of the answer, and writes it out.
     pub(crate) fn take(&mut self) -> Result<Taken, GetError>
-        ensures goes { OnOk result (Goes self.old self.new) }
-        ensures whole { IfOk result (λ taken. IsTaken taken self.new) }
+        ensures taken { IfOk result (λ taken. IsTaken taken self.old self.new) }
+        ensures stops { IfErr result (λ error. Stops self.old self.new error) }
     {
         match self.status {
             Some(status) => self.take_body(status),
@@ -46,10 +47,10 @@ impl<S: TimedSource + Drop, K: TimedSink + Drop, B: Source + Drop, O: Sink + Dro
     }
 
     // An interim head is passed over (RFC 9110, section 15.2).
-    #[tactic(auto, using(crate::proofs::Going::goes_none, crate::proofs::Going::goes_then))]
     fn take_head(&mut self) -> Result<Taken, GetError>
-        ensures goes { OnOk result (Goes self.old self.new) }
-        ensures whole { IfOk result (λ taken. IsTaken taken self.new) }
+        requires { self.old.status ≡ None }
+        ensures taken { IfOk result (λ taken. IsTaken taken self.old self.new) }
+        ensures stops { IfErr result (λ error. Stops self.old self.new error) }
     {
         if !self.connection.can_next() {
             return Err(GetError::Lost);
@@ -66,34 +67,35 @@ impl<S: TimedSource + Drop, K: TimedSink + Drop, B: Source + Drop, O: Sink + Dro
     // The next head, or that there is none. The status of one that isn't interim is noted.
     fn next_answer(&mut self) -> Result<NextAnswer, NoMemory>
         requires can_next { IsAllowed self.old.state on.next }
-        ensures { OnOk result (Goes self.old self.new) }
+        ensures heard { IfOk result (λ next. Heard self.old next self.new) }
+        ensures err { OnErr result (self.new.out ≡ self.old.out) }
     {
         let next = self.connection.next()?;
         self.status = noted(&next, self.status);
         Ok(next)
     }
 
-    // Writes a head out, where that is wanted and it isn't interim. Nobody asked for another protocol.
+    // Writes a head out, where that is wanted and it isn't interim.
     fn show(&mut self, item: &ResponseItem) -> Result<Taken, GetError>
-        ensures goes { OnOk result (Goes self.old self.new) }
-        ensures whole { IfOk result (λ taken. IsTaken taken self.new) }
+        ensures part { IfOk result (λ taken. (taken ≡ Taken.Part) × Goes self.old self.new) }
+        ensures stops { IfErr result (λ error. Stops self.old self.new error) }
     {
-        let status = item.head.status.as_u16();
-        if status == 101 {
-            return Err(GetError::Protocol);
-        }
-        if self.shows_head && !is_interim(status) {
+        // The status of an interim one isn't noted.
+        if self.shows_head && self.status.is_some() {
             write_head(self.alloc, item, &mut self.out)?;
         }
         Ok(Taken::Part)
     }
 
-    #[tactic(auto, using(crate::proofs::Going::goes_none))]
+    // What comes next of the body. Nobody asked for another protocol.
     fn take_body(&mut self, status: u16) -> Result<Taken, GetError>
         requires { self.old.status ≡ Some status }
-        ensures goes { OnOk result (Goes self.old self.new) }
-        ensures whole { IfOk result (λ taken. IsTaken taken self.new) }
+        ensures taken { IfOk result (λ taken. IsTaken taken self.old self.new) }
+        ensures stops { IfErr result (λ error. Stops self.old self.new error) }
     {
+        if status == 101 {
+            return Err(GetError::Protocol);
+        }
         if self.connection.can_pull() {
             self.pull()
         } else {
@@ -104,8 +106,10 @@ impl<S: TimedSource + Drop, K: TimedSink + Drop, B: Source + Drop, O: Sink + Dro
     // Writes out what comes next of the body.
     fn pull(&mut self) -> Result<Taken, GetError>
         requires can_pull { IsAllowed self.old.state on.pull }
-        ensures goes { OnOk result (Goes self.old self.new) }
-        ensures whole { IfOk result (λ taken. IsTaken taken self.new) }
+        requires noted { IsSome self.old.status }
+        requires plain { self.old.status ≢ Some 101 }
+        ensures taken { IfOk result (λ taken. IsTaken taken self.old self.new) }
+        ensures stops { IfErr result (λ error. Stops self.old self.new error) }
     {
         match self.connection.pull()? {
             Pulled::Bytes(bytes) => {
@@ -123,27 +127,50 @@ impl<S: TimedSource + Drop, K: TimedSink + Drop, B: Source + Drop, O: Sink + Dro
     // Nothing more is to be pulled: the answer is whole, unless the connection failed before it was.
     fn finish(&self, status: u16) -> Result<Taken, GetError>
         requires noted { self.now.status ≡ Some status }
+        requires plain { status ≢ 101 }
         requires nothing_left { client_allows (setting_of self.now.state.settings) self.now.state.kept on.pull ≡ false }
-        ensures { IfOk result (λ taken. IsTaken taken self.now) }
+        ensures taken { IfOk result (λ taken. IsTaken taken self.now self.now) }
+        ensures stops { IfErr result (λ error. Stops self.now self.now error) }
     {
         match self.connection.closing() {
-            None => Ok(Taken::Whole(status)),
+            None if self.connection.can_next() => Ok(Taken::Whole(status)),
+            None => Err(GetError::Lost),
             Some(ClientEnd::Asked) => Ok(Taken::Whole(status)),
             Some(ClientEnd::Unasked) => Ok(Taken::Whole(status)),
             Some(ClientEnd::InputEnded) => Ok(Taken::Whole(status)),
             Some(ClientEnd::FailedRequest) => Err(GetError::ShortFile),
-            Some(_) => Err(GetError::Lost),
+            Some(ClientEnd::BadAnswer) => Err(GetError::Lost),
+            Some(ClientEnd::LargeAnswer) => Err(GetError::Lost),
+            Some(ClientEnd::BrokenAnswer) => Err(GetError::Lost),
         }
     }
 
     // What the end of the connection means to an answer that isn't whole.
-    pub(crate) fn error_of(&self, end: ClientEnd) -> GetError {
+    pub(crate) fn error_of(&self, end: ClientEnd) -> GetError
+        ensures { result ≡ error_by (is_heard self.now.begun self.now.status) end }
+    {
         match end {
             ClientEnd::BadAnswer => GetError::BadHead,
             ClientEnd::LargeAnswer => GetError::LongHead,
             ClientEnd::FailedRequest => GetError::ShortFile,
-            _ if self.has_begun => GetError::Lost,
-            _ => GetError::Unanswered,
+            ClientEnd::BrokenAnswer => self.broken_off(),
+            ClientEnd::Asked => self.broken_off(),
+            ClientEnd::Unasked => self.broken_off(),
+            ClientEnd::InputEnded => self.broken_off(),
+        }
+    }
+
+    // The connection has ended: after something of an answer came, or before.
+    fn broken_off(&self) -> GetError
+        ensures { result ≡ (if is_heard self.now.begun self.now.status then GetError.Lost else GetError.Unanswered) }
+    {
+        if self.has_begun {
+            return GetError::Lost;
+        }
+        if self.status.is_some() {
+            GetError::Lost
+        } else {
+            GetError::Unanswered
         }
     }
 }

@@ -1,5 +1,6 @@
 //! Why a URL wasn't fetched.
 ghost use Rattle.std.specs.Prelude.{◌≡◌, ◌<◌};
+ghost use Rattle.app_get.specs.Fetching.{error_status};
 ghost use Rattle.app_get.specs.declared.error.GetError.TheVariants as get_error;
 
 use http_types::NoMemory;
@@ -92,7 +93,8 @@ pub enum GetError {
 impl GetError {
     /// The status that the program ends with: never 0.
     pub fn status(&self) -> u8
-        ensures { 0 < result }
+        ensures value { result ≡ error_status self.now }
+        ensures fails { 0 < result }
     {
         match self {
             GetError::Output => 1,
@@ -100,8 +102,9 @@ impl GetError {
             GetError::NoFile | GetError::Folder | GetError::File | GetError::ShortFile => 3,
             GetError::Host | GetError::Refused | GetError::Unreachable => 4,
             GetError::NoMemory => 5,
+            GetError::Unanswered | GetError::Lost | GetError::BadHead | GetError::LongHead => 6,
+            GetError::BadChunks | GetError::Protocol | GetError::Request => 6,
             GetError::Late => 7,
-            _ => 6,
         }
     }
 

@@ -1,6 +1,7 @@
 //! One request and its answer over a connection: a client's whole loop.
-ghost use Rattle.std.specs.Prelude.{◌≡◌, None, Some, OnOk, IfOk};
-ghost use Rattle.app_get.specs.Exchange.{Ends, file_left, Goes, IsWhole};
+ghost use Rattle.std.specs.Prelude.{◌≡◌, ◌≢◌, ◌⊎◌, false, None, Some, OnOk, IfOk, IfErr};
+ghost use Rattle.app_get.specs.Exchange.{Ends, file_left, faults_of_file, Goes, IsWhole, IsPending, IsWaiting};
+ghost use Rattle.app_get.specs.Failure.{Stops, IsEndless};
 
 use crate::answer::Taken;
 use crate::error::GetError;
@@ -40,7 +41,7 @@ pub struct Exchange<S: TimedSource, K: TimedSink, B: Source, O: Sink> {
 }
 
 impl<S: TimedSource, K: TimedSink, B: Source, O: Sink> Model for Exchange<S, K, B, O> {
-    ghost use Rattle.app_get.specs.Exchange.{Ends, file_left};
+    ghost use Rattle.app_get.specs.Exchange.{Ends, file_left, faults_of_file};
 
     ghost Value = { Ends };
 
@@ -52,6 +53,11 @@ impl<S: TimedSource, K: TimedSink, B: Source, O: Sink> Model for Exchange<S, K, 
       out = O.given e.out;
       shows = e.shows_head;
       status = e.status;
+      begun = e.has_begun;
+      came_faults = S.faults e.input;
+      sent_faults = K.faults e.output;
+      file_faults = faults_of_file B.faults e.body;
+      out_faults = O.faults e.out;
     } };
 }
 
@@ -80,6 +86,11 @@ impl<S: TimedSource + Drop, K: TimedSink + Drop, B: Source + Drop, O: Sink + Dro
           out = O.given out;
           shows = shows_head;
           status = None;
+          begun = false;
+          came_faults = S.faults input;
+          sent_faults = K.faults output;
+          file_faults = faults_of_file B.faults body;
+          out_faults = O.faults out;
         } }
     {
         Exchange {
@@ -118,41 +129,61 @@ impl<S: TimedSource + Drop, K: TimedSink + Drop, B: Source + Drop, O: Sink + Dro
     ///
     /// Both directions are tried in turn, since a server may answer before it has read all, and may not read on before its
     /// answer is taken.
-    #[tactic(auto, using(crate::proofs::Going::goes_none, crate::proofs::Going::goes_then))]
     pub fn run(&mut self, wait: u64) -> Result<u16, GetError>
         ensures goes { OnOk result (Goes self.old self.new) }
         ensures whole { OnOk result (IsWhole self.new.state) }
         ensures status { IfOk result (λ status. self.new.status ≡ Some status) }
+        ensures protocol { IfOk result (λ status. status ≢ 101) }
+        ensures stops { IfErr result (λ error. Stops self.old self.new error ⊎ IsEndless self.old self.new error) }
     {
         let mut patience = Patience::begin(&self.input, wait);
-        for _ in 0..u64::MAX {
+        for _turn in 0..u64::MAX {
             self.fill()?;
-            let sent = self.send();
             match self.take()? {
                 Taken::Whole(status) => return Ok(status),
-                Taken::Part => {}
-                Taken::Nothing => self.listen(sent, &mut patience)?,
-            }
-            if sent == Sent::Some {
-                patience.renew(&self.input);
+                Taken::Part => self.send_on(&mut patience),
+                Taken::Nothing => self.listen(&mut patience)?,
             }
         }
         Err(GetError::Late)
     }
 
-    // Reads what has come. Where nothing else can be done it waits.
-    fn listen(&mut self, sent: Sent, patience: &mut Patience) -> Result<(), GetError>
-        ensures { OnOk result (Goes self.old self.new) }
+    // Sends what waits. That something is sent is a move.
+    fn send_on(&mut self, patience: &mut Patience)
+        ensures { Goes self.old self.new }
     {
-        let left = patience.left(&self.input)?;
-        let wait = match sent {
-            Sent::Some => 0,
-            Sent::NotNow => left.min(GLANCE),
-            Sent::Nothing => left,
-        };
+        if self.send() == Sent::Some {
+            patience.renew(&self.input);
+        }
+    }
+
+    // Sends what waits, and reads what has come. Where nothing else can be done it waits.
+    fn listen(&mut self, patience: &mut Patience) -> Result<(), GetError>
+        requires { IsPending self.old }
+        ensures goes { OnOk result (Goes self.old self.new) }
+        ensures stops { IfErr result (λ error. Stops self.old self.new error) }
+    {
+        let wait = self.send_before(patience)?;
         if self.read_more(wait)? {
             patience.renew(&self.input);
         }
         Ok(())
+    }
+
+    // Sends what waits, and says for how many milliseconds a read may then wait.
+    fn send_before(&mut self, patience: &mut Patience) -> Result<u64, GetError>
+        requires { IsPending self.old }
+        ensures goes { OnOk result (Goes self.old self.new) }
+        ensures waiting { OnOk result (IsWaiting self.new) }
+        ensures stops { IfErr result (λ error. Stops self.old self.new error) }
+    {
+        match self.send() {
+            Sent::Some => {
+                patience.renew(&self.input);
+                Ok(0)
+            }
+            Sent::NotNow => Ok(patience.left(&self.input)?.min(GLANCE)),
+            Sent::Nothing => Ok(patience.left(&self.input)?),
+        }
     }
 }

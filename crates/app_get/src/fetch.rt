@@ -1,68 +1,88 @@
-//! What the program does: URL after URL.
+//! How a URL is fetched.
+ghost use Rattle.std.specs.Prelude.{None};
+
+use crate::each::{Fetches, fetch_each};
 use crate::error::GetError;
 use crate::exchange::Exchange;
 use crate::link::Link;
 use crate::options::Options;
 use crate::request::{ask, head_for};
 use crate::target::Target;
+use crate::tries::{Tries, try_twice};
 use http_framing::BodySize;
 use http_types::{ReadSource, StdSink};
 use net_sockets::{SocketSink, SocketSource, moment};
 use std::fs::File;
 use std::io::ErrorKind;
 
-/// The status of the program where an answer says that it isn't what was asked for.
-const NO_SUCCESS: u8 = 8;
-
 /// Fetches all, and gives the status of the program.
 pub fn fetch_all(rt: HostRuntime, options: &Options<'_>) -> u8 {
-    let mut kept = None;
-    let mut status = 0;
-    for url in options.urls.iter() {
-        match fetch(rt, options, url, kept.take()) {
-            Ok((said, link)) => {
-                kept = Some(link);
-                if said >= 400 {
-                    let _ = eprintln!(rt; "app_get: {url}: the server answers with status {said}");
-                    status = NO_SUCCESS;
-                }
-            }
-            Err(error) => {
-                complain(rt, options, url, error);
-                return error.status();
-            }
-        }
-    }
-    status
-}
-
-fn complain(rt: HostRuntime, options: &Options<'_>, url: &str, error: GetError) {
-    let about = match options.file {
-        Some(file) if error.is_of_file() => file,
-        _ => url,
+    let mut fetcher = Fetcher {
+        rt,
+        options,
+        kept: None,
     };
-    let _ = eprintln!(rt; "app_get: {about}: {error}");
+    fetch_each(&mut fetcher, &options.urls)
 }
 
-// Fetches one, over the connection that is kept where that may be. It gives the answer's status, and the connection.
-fn fetch(
+// What fetches URLs as the options say, over a connection that is kept where that may be.
+#[derive(Drop)]
+struct Fetcher<'a, 'w> {
     rt: HostRuntime,
-    options: &Options<'_>,
-    url: &str,
+    options: &'a Options<'w>,
     kept: Option<Link>,
-) -> Result<(u16, Link), GetError> {
-    let target = Target::read(rt.alloc(), url)?;
-    if let Some(link) = kept {
-        if link.serves(&rt, &target) {
-            match fetch_over(rt, options, &target, Some(link)) {
-                // A server may close a connection that was kept at any time. What does nothing when it is asked twice is
-                // asked once more (RFC 9112, section 9.3.1).
-                Err(GetError::Unanswered) if options.file.is_none() => {}
-                done => return done,
-            }
+}
+
+impl<'a, 'w> Fetcher<'a, 'w> {
+    // Over this connection, or over a new one, which is kept.
+    fn over(&mut self, target: &Target, kept: Option<Link>) -> Result<u16, GetError> {
+        let (status, link) = fetch_over(self.rt, self.options, target, kept)?;
+        self.kept = Some(link);
+        Ok(status)
+    }
+}
+
+impl<'a, 'w> Fetches for Fetcher<'a, 'w> {
+    // What is done isn't kept.
+    ghost done = { λ _. None };
+
+    fn fetch(&mut self, url: &str) -> Result<u16, GetError> {
+        let target = Target::read(self.rt.alloc(), url)?;
+        let has_file = self.options.file.is_some();
+        try_twice(self, &target, has_file)
+    }
+
+    fn tell_status(&mut self, url: &str, status: u16) {
+        let rt = self.rt;
+        let _ = eprintln!(rt; "app_get: {url}: the server answers with status {status}");
+    }
+
+    fn tell_error(&mut self, url: &str, error: GetError) {
+        let rt = self.rt;
+        let about = match self.options.file {
+            Some(file) if error.is_of_file() => file,
+            _ => url,
+        };
+        let _ = eprintln!(rt; "app_get: {about}: {error}");
+    }
+}
+
+impl<'a, 'w> Tries for Fetcher<'a, 'w> {
+    // Nor are tries.
+    ghost tried = { λ _. None };
+
+    fn over_kept(&mut self, target: &Target) -> Option<Result<u16, GetError>> {
+        let link = self.kept.take()?;
+        if link.serves(&self.rt, target) {
+            Some(self.over(target, Some(link)))
+        } else {
+            None
         }
     }
-    fetch_over(rt, options, &target, None)
+
+    fn over_new(&mut self, target: &Target) -> Result<u16, GetError> {
+        self.over(target, None)
+    }
 }
 
 // Fetches one over this connection, or over a new one.
@@ -83,7 +103,7 @@ fn fetch_over(
         Some(link) => link,
         None => Link::open(&rt, alloc, target, options.wait)?,
     };
-    ask(&mut connection, moment(&rt), &head, size)?;
+    ask(&mut connection, moment(&rt).unwrap_or(0), &head, size)?;
     let mut exchange = Exchange::new(
         alloc,
         connection,
@@ -123,11 +143,13 @@ fn open(
     Ok((Some(ReadSource::new(file)), size))
 }
 
-// Only a file that is none of a device or a pipe has a length.
+// Only a file that is none of a device or a pipe has a length. Of some the system doesn't know it, and says 0.
 fn size_of(file: &File, is_chunked: bool) -> Result<BodySize, GetError> {
     match file.metadata() {
         Ok(found) if found.is_dir() => Err(GetError::Folder),
-        Ok(found) if found.is_file() && !is_chunked => Ok(BodySize::Sized(found.len())),
+        Ok(found) if found.is_file() && found.len() > 0 && !is_chunked => {
+            Ok(BodySize::Sized(found.len()))
+        }
         Ok(_) => Ok(BodySize::Stream),
         Err(_) => Err(GetError::File),
     }

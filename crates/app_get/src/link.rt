@@ -1,6 +1,9 @@
 //! A connection to a server.
-ghost use Rattle.std.specs.Prelude.{◌≡◌, true, IsTrue};
+ghost use Rattle.std.specs.Prelude.{◌≡◌, true, IsTrue, IfOk};
+ghost use Rattle.std.specs.Io.KnownBytes.{Keeps};
+ghost use Rattle.http_config.specs.Causes.{Rose};
 ghost use Rattle.model_client.specs.ClientKept.{is_reusable};
+ghost use Rattle.app_get.specs.Places.{is_place_of, IsAt};
 
 use crate::error::GetError;
 use crate::target::Target;
@@ -24,6 +27,7 @@ pub struct Link {
 /// Where a server is.
 #[derive(Drop)]
 pub struct Place {
+    // As its URL names it: an address of IPv6 in brackets.
     host: String,
     port: u16,
 }
@@ -35,8 +39,10 @@ impl Link {
         alloc: Global,
         target: &Target,
         wait: u64,
-    ) -> Result<Link, GetError> {
-        let host = String::from_str(alloc, target.host())?;
+    ) -> Result<Link, GetError>
+        ensures { IfOk result (λ link. IsAt link.place target.now) }
+    {
+        let host = String::from_str(alloc, target.named_host())?;
         let stream = connect(rt, target, wait)?;
         // Small pieces go out at once.
         if prepare(&stream, wait).is_err() {
@@ -55,24 +61,41 @@ impl Link {
     /// Whether a request for this target may be asked over it: it leads there, all that was asked over it is answered, and
     /// since then the server has neither closed it nor sent a byte, which nobody would have asked for.
     pub fn serves<R: Clock>(&self, rt: &R, target: &Target) -> bool
-        ensures { IsTrue result → is_reusable self.now.connection.kept ≡ true }
+        ensures free { IsTrue result → is_reusable self.now.connection.kept ≡ true }
+        ensures place { IsTrue result → is_place_of self.now.place target.now ≡ true }
     {
-        self.place.is_of(target) && self.connection.is_reusable() && is_quiet(rt, &self.stream)
+        let mut source = SocketSource::new(rt, &self.stream);
+        self.may_be_used(target, &mut source)
+    }
+
+    // The same, where this is what comes over it.
+    fn may_be_used<S: TimedSource>(&self, target: &Target, source: &mut S) -> bool
+        ensures free { IsTrue result → is_reusable self.now.connection.kept ≡ true }
+        ensures place { IsTrue result → is_place_of self.now.place target.now ≡ true }
+        ensures quiet { IsTrue result → Rose (S.faults source.old) (S.faults source.new) × Keeps (S.left source.old) (S.left source.new) }
+    {
+        self.place.is_of(target) && self.connection.is_reusable() && is_quiet(source)
     }
 }
 
 impl Place {
-    fn is_of(&self, target: &Target) -> bool {
-        self.port == target.port && self.host.as_str() == target.host()
+    fn is_of(&self, target: &Target) -> bool
+        ensures { result ≡ is_place_of self.now target.now }
+    {
+        self.port == target.port && self.host.as_str() == target.named_host()
     }
 }
 
 // Whether neither a byte nor the end has come. A byte that has is taken.
-fn is_quiet<R: Clock>(rt: &R, stream: &TcpStream) -> bool {
-    let mut source = SocketSource::new(rt, stream);
+fn is_quiet<S: TimedSource>(source: &mut S) -> bool
+    ensures { IsTrue result → Rose (S.faults source.old) (S.faults source.new) × Keeps (S.left source.old) (S.left source.new) }
+{
     source.wait_at_most(0);
     let mut byte = [0_u8; 1];
-    source.read(&mut byte).is_err() && source.is_not_now()
+    match source.read(&mut byte) {
+        Ok(_) => false,
+        Err(_) => source.is_not_now(),
+    }
 }
 
 fn connect<R: Net<Stream = TcpStream, Listener = TcpListener>>(

@@ -2,6 +2,7 @@
 #![tactic(auto)]
 
 mod answer;
+mod each;
 mod error;
 mod exchange;
 mod fetch;
@@ -12,6 +13,7 @@ mod request;
 mod show;
 mod target;
 mod transport;
+mod tries;
 mod upload;
 
 use crate::fetch::fetch_all;

@@ -1,5 +1,5 @@
 //! The words that the program is started with.
-ghost use Rattle.std.specs.Prelude.{◌<◌};
+ghost use Rattle.std.specs.Prelude.{◌≡◌, ◌<◌, ◌≤◌, true, false, is_some, vec_len, IfOk, OnOk};
 
 use std::alloc::Global;
 use thiserror::Error;
@@ -126,7 +126,11 @@ fn add<'a>(urls: &mut Vec<&'a str>, url: &'a str) -> Result<(), UsageError> {
     }
 }
 
-fn judge(options: &Options<'_>) -> Result<(), UsageError> {
+fn judge(options: &Options<'_>) -> Result<(), UsageError>
+    ensures urls { OnOk result (0 < vec_len options.now.urls) }
+    ensures head { OnOk result (options.now.is_head ≡ true → is_some options.now.file ≡ false) }
+    ensures chunked { OnOk result (options.now.is_chunked ≡ true → is_some options.now.file ≡ true) }
+{
     if options.urls.is_empty() {
         return Err(UsageError::NoUrl);
     }
@@ -139,7 +143,9 @@ fn judge(options: &Options<'_>) -> Result<(), UsageError> {
     Ok(())
 }
 
-fn milliseconds(word: Option<&String>) -> Result<u64, UsageError> {
+fn milliseconds(word: Option<&String>) -> Result<u64, UsageError>
+    ensures { IfOk result (λ wait. (1000 ≤ wait) × (wait ≤ 86400000)) }
+{
     let word = word.ok_or(UsageError::Wait)?;
     match word.parse::<u64>() {
         Ok(seconds) if 1 <= seconds && seconds <= 86_400 => Ok(seconds * 1000),

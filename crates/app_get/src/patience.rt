@@ -1,5 +1,6 @@
 //! For how long nothing may move.
-ghost use Rattle.std.specs.Prelude.{◌<◌, IfOk};
+ghost use Rattle.std.specs.Prelude.{◌≡◌, IfErr};
+ghost use Rattle.app_get.specs.Patience.{left_of};
 
 use crate::error::GetError;
 use net_sockets::TimedSource;
@@ -13,7 +14,9 @@ pub struct Patience {
 
 impl Patience {
     /// From now on.
-    pub fn begin<S: TimedSource>(source: &S, wait: u64) -> Patience {
+    pub fn begin<S: TimedSource>(source: &S, wait: u64) -> Patience
+        ensures { result.wait ≡ wait }
+    {
         Patience {
             wait,
             since: source.uptime().unwrap_or(0),
@@ -21,15 +24,23 @@ impl Patience {
     }
 
     /// Something has moved.
-    pub fn renew<S: TimedSource>(&mut self, source: &S) {
+    pub fn renew<S: TimedSource>(&mut self, source: &S)
+        ensures { self.new.wait ≡ self.old.wait }
+    {
         self.since = source.uptime().unwrap_or(0);
     }
 
     /// How many milliseconds are left, one at least, or `Late`.
     pub fn left<S: TimedSource>(&self, source: &S) -> Result<u64, GetError>
-        ensures { IfOk result (λ left. 0 < left) }
+        ensures { IfErr result (λ error. error ≡ GetError.Late) }
     {
-        let now = source.uptime().unwrap_or(0);
+        self.left_at(source.uptime().unwrap_or(0))
+    }
+
+    // The same at this moment.
+    fn left_at(&self, now: u64) -> Result<u64, GetError>
+        ensures { result ≡ left_of self.now.wait self.now.since now }
+    {
         match self.wait.saturating_sub(now.saturating_sub(self.since)) {
             0 => Err(GetError::Late),
             left => Ok(left),

@@ -1,4 +1,8 @@
 //! Where a URL leads.
+ghost use Rattle.std.specs.Prelude.{◌≡◌};
+ghost use Rattle.app_get.specs.Heads.{target_authority};
+ghost use Rattle.app_get.specs.Places.{target_host};
+
 use crate::error::GetError;
 use http_types::Uri;
 use http_uri::UriError;
@@ -31,14 +35,23 @@ impl Target {
 
     /// The host, an address of IPv6 without its brackets.
     pub fn host(&self) -> &str {
+        bare(self.named_host())
+    }
+
+    /// The host as the URL names it, an address of IPv6 in its brackets.
+    pub fn named_host(&self) -> &str
+        ensures { result.now ≡ target_host self.now }
+    {
         match self.uri.host() {
-            Some(host) => bare(host),
+            Some(host) => host,
             None => "",
         }
     }
 
     /// The host and, where the URL names it, the port.
-    pub fn authority(&self) -> &str {
+    pub fn authority(&self) -> &str
+        ensures { result.now ≡ target_authority self.now }
+    {
         match self.uri.authority() {
             Some(authority) => authority.as_str(),
             None => "",

@@ -1,8 +1,9 @@
 // Both directions of the connection's socket.
-ghost use Rattle.std.specs.Prelude.{ℕ, List, OnOk};
+ghost use Rattle.std.specs.Prelude.{◌<◌, ℕ, List, length, OnOk, IfErr};
 ghost use Rattle.h1_client.specs.State.{IsAllowed};
 ghost use Rattle.model_client.specs.ClientEvent as on;
-ghost use Rattle.app_get.specs.Exchange.{Goes};
+ghost use Rattle.app_get.specs.Exchange.{Goes, IsSent, IsWaiting};
+ghost use Rattle.app_get.specs.Failure.{Stops};
 
 use crate::error::GetError;
 use crate::exchange::Exchange;
@@ -33,9 +34,8 @@ impl<S: TimedSource + Drop, K: TimedSink + Drop, B: Source + Drop, O: Sink + Dro
     O,
 > {
     /// Writes what is to be written, as far as that goes without waiting.
-    #[tactic(auto, using(crate::proofs::Going::goes_none, crate::proofs::Going::goes_then))]
     pub(crate) fn send(&mut self) -> Sent
-        ensures { Goes self.old self.new }
+        ensures { IsSent result self.old self.new }
     {
         if self.connection.front().is_empty() {
             return Sent::Nothing;
@@ -51,7 +51,8 @@ impl<S: TimedSource + Drop, K: TimedSink + Drop, B: Source + Drop, O: Sink + Dro
     // Writes the first bytes that are to be written.
     fn write_front(&mut self) -> Sent
         requires can_write { (count : ℕ) → IsAllowed self.old.state (on.write count) }
-        ensures { Goes self.old self.new }
+        requires some { 0 < length self.old.state.kept.buffered }
+        ensures { IsSent result self.old self.new }
     {
         match self.output.write(self.connection.front()) {
             Ok(count) => {
@@ -68,7 +69,9 @@ impl<S: TimedSource + Drop, K: TimedSink + Drop, B: Source + Drop, O: Sink + Dro
     /// something has.
     #[tactic(auto, using(crate::proofs::Going::goes_none, crate::proofs::Going::goes_then))]
     pub(crate) fn read_more(&mut self, wait: u64) -> Result<bool, GetError>
-        ensures { OnOk result (Goes self.old self.new) }
+        requires { IsWaiting self.old }
+        ensures goes { OnOk result (Goes self.old self.new) }
+        ensures stops { IfErr result (λ error. Stops self.old self.new error) }
     {
         if !self.connection.can_read() {
             return Err(GetError::Lost);
@@ -86,7 +89,10 @@ impl<S: TimedSource + Drop, K: TimedSink + Drop, B: Source + Drop, O: Sink + Dro
     fn read_into(&mut self, piece: &mut [u8]) -> Result<bool, GetError>
         requires can_read { (bytes : List ℕ) → IsAllowed self.old.state (on.read bytes) }
         requires can_end { IsAllowed self.old.state on.eof }
-        ensures { OnOk result (Goes self.old self.new) }
+        requires room { 0 < length piece.old }
+        requires waiting { IsWaiting self.old }
+        ensures goes { OnOk result (Goes self.old self.new) }
+        ensures stops { IfErr result (λ error. Stops self.old self.new error) }
     {
         match self.input.read(piece) {
             Ok(0) => {

@@ -1,5 +1,5 @@
-//! Tests of dispatchers of frames over transports in memory, through what `ws_dispatcher` and `ws_service` make public. These are
-//! also their only callers that are proved: they show that what their calls require can be met.
+//! Tests of dispatchers of frames over transports in memory, through what `ws_dispatcher` makes public. These are also its only
+//! callers that are proved: they show that what its calls require can be met.
 #![tactic(auto)]
 
 #[cfg(test)]
@@ -8,5 +8,3 @@ mod echo;
 mod faults;
 #[cfg(test)]
 mod services;
-#[cfg(test)]
-mod upgraded;
