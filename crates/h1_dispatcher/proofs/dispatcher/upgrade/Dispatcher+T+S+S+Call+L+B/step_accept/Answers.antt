@@ -14,8 +14,5 @@ returns-in-Ok-clause-says g c =
     let w = view_of g.T.Transport.wiring g.S.Service.served g.S.Service.calling g.B.MessageBody.gives g.L.Recorder.noted g.L.Recorder.is_listening (record c.args.self.now { traced = c.step.new.self }) in
     accepts_says v w c.args.limit c.in-Ok.outcome _ c.requires.can_accept c.refusal_in.ensures c.in-Ok.ensures.stands c.step.ensures.settings c.step.ensures.listening refl
 
-pub returns-in-Err-clause-no_memory_needed : goal.returns-in-Err-clause-no_memory_needed
-returns-in-Err-clause-no_memory_needed g c = λ unheard takes. c.in-Err.ensures.no_memory_needed unheard takes
-
 pub returns-in-Ok-clause-no_memory_needed : goal.returns-in-Ok-clause-no_memory_needed
 returns-in-Ok-clause-no_memory_needed g c = λ unheard takes. refl
