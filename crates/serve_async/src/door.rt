@@ -172,16 +172,30 @@ where
                 self.step = Step::Open(permit);
                 Poll::Pending
             }
-            Poll::Ready(Ok((stream, peer))) => {
-                let Ok(task) = self.enter(stream, peer, permit) else {
-                    return cx.yield_now();
-                };
-                Poll::Ready(Some(task))
-            }
+            Poll::Ready(Ok((stream, peer))) => self.admit(stream, peer, permit, cx),
             Poll::Ready(Err(error)) => {
-                self.step = self.after(error.kind(), permit);
+                let kind = error.kind();
+                self.step = self.after(kind, permit);
                 cx.yield_now()
             }
+        }
+    }
+
+    // Hands out a task for a new connection, and asks for another poll where there is no memory for it.
+    fn admit(
+        &mut self,
+        stream: TcpStream,
+        peer: SocketAddr,
+        permit: OwnedSemaphorePermit,
+        cx: &mut Context<'_>,
+    ) -> Poll<Option<Serving<J, &'a R>>>
+        ensures registered { OnPending result (Covers cx.new (DoorNeeds self.new.step self.new.pause self.new.listener)) }
+        ensures same { self.new ≡ self.old }
+        ensures kept { Keeps cx.old cx.new }
+    {
+        match self.enter(stream, peer, permit) {
+            Ok(task) => Poll::Ready(Some(task)),
+            Err(_) => cx.yield_now(),
         }
     }
 
