@@ -9,16 +9,15 @@ mod sites;
 use http_types::ServiceConfig;
 use input::InputWatch;
 use net_sockets::Linger;
-use serve_async::{Limits, Stop, serve, serve_by_threads};
+use serve_async::{Limits, Stop, serve};
 use sites::Sites;
 use std::alloc::AllocGlobal;
 use std::env;
-use std::io;
 use std::net::{Net, TcpListener};
 use std::process::ExitCode;
 use std::random::RandomSource;
 use std::sync::Wait;
-use std::thread::{self, Threads};
+use std::thread::{self, JoinHandle, Threads};
 use std::time::Clock;
 
 /// How many connections a loop has at most, and what their peers may do.
@@ -47,35 +46,96 @@ fn main(rt: HostRuntime) -> ExitCode {
     let Ok(listener) = TcpListener::bind(&rt, ("127.0.0.1", port)) else {
         return ExitCode::FAILURE;
     };
-    match start(&rt, rt, &listener, threads) {
-        Ok(true) => ExitCode::SUCCESS,
-        Ok(false) | Err(_) => ExitCode::FAILURE,
+    let Ok(stop) = Stop::new(rt.alloc()) else {
+        return ExitCode::FAILURE;
+    };
+    if !watch_input(&rt, rt, &stop) {
+        return ExitCode::FAILURE;
+    }
+    if threads == 0 {
+        return status(is_served(rt, listener, stop));
+    }
+    let mut handles = Vec::new(rt.alloc());
+    let mut are_all = true;
+    for _ in 0..threads {
+        let Some((copy, told)) = shares(&listener, &stop) else {
+            are_all = false;
+            break;
+        };
+        let started = thread::spawn(&rt, move || is_served(rt, copy, told));
+        if !keep(started.ok(), &mut handles) {
+            are_all = false;
+            break;
+        }
+    }
+    if !are_all {
+        stop.tell();
+    }
+    status(join_all(&rt, handles) && are_all)
+}
+
+// Has a thread tell the server to end once the standard input ends or has a line.
+fn watch_input<R: Threads>(rt: &R, system: HostRuntime, stop: &Stop) -> bool {
+    let Ok(watched) = InputWatch::new(&system) else {
+        return false;
+    };
+    let Some(input) = watched else {
+        return true;
+    };
+    let Ok(ender) = stop.share() else {
+        return false;
+    };
+    let watching = thread::spawn(rt, move || {
+        input.wait();
+        ender.tell();
+    });
+    watching.is_ok()
+}
+
+// What a thread is given: the listener and the end, for it alone.
+fn shares(listener: &TcpListener, stop: &Stop) -> Option<(TcpListener, Stop)> {
+    let Ok(copy) = listener.try_clone() else {
+        return None;
+    };
+    match stop.share() {
+        Ok(told) => Some((copy, told)),
+        Err(_) => None,
     }
 }
 
-// Serves by so many threads, or by this one, until all have ended.
-fn start<R>(rt: &R, host: HostRuntime, listener: &TcpListener, threads: u64) -> io::Result<bool>
+// Keeps a thread that was started, where there is memory for it.
+fn keep(started: Option<JoinHandle<bool>>, handles: &mut Vec<JoinHandle<bool>>) -> bool {
+    match started {
+        Some(handle) => handles.push(handle).is_ok(),
+        None => false,
+    }
+}
+
+// Waits for all threads, and says whether each ended well.
+fn join_all<R: Threads>(rt: &R, handles: Vec<JoinHandle<bool>>) -> bool {
+    let mut is_well = true;
+    for handle in handles {
+        is_well = handle.join(rt) && is_well;
+    }
+    is_well
+}
+
+// Serves what a listener gives, by this thread, and says whether it ended well.
+fn is_served<R>(rt: R, listener: TcpListener, stop: Stop) -> bool
 where
-    R: Threads + Wait + Clock + Net + RandomSource + AllocGlobal + Sync + Drop,
+    R: Wait + Clock + Net + RandomSource + AllocGlobal + Drop,
 {
-    let stop = Stop::new(host.alloc())?;
-    if let Some(input) = InputWatch::new(&host)? {
-        let ender = stop.share()?;
-        let watching = thread::spawn(rt, move || {
-            input.wait();
-            ender.tell();
-        });
-        if watching.is_err() {
-            return Ok(false);
-        }
-    }
-    let sites = Sites::new(host.alloc());
+    let sites = Sites::new(rt.alloc());
     let config = ServiceConfig::default();
-    if threads == 0 {
-        serve(rt, listener, &sites, config, LIMITS, &stop)?;
-        return Ok(true);
+    match serve(&rt, &listener, &sites, config, LIMITS, &stop) {
+        Ok(()) => true,
+        Err(_) => false,
     }
-    Ok(serve_by_threads(
-        rt, threads, listener, &sites, config, LIMITS, &stop,
-    ))
+}
+
+fn status(is_well: bool) -> ExitCode {
+    match is_well {
+        true => ExitCode::SUCCESS,
+        false => ExitCode::FAILURE,
+    }
 }

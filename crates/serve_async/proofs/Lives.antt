@@ -2,7 +2,9 @@
 use Rattle.std.proofs.Common.{◌≡◌, ℕ, List, [], ◌∷◌, ◌++◌, refl, subst}
 use Rattle.futures.specs.declared.task.Poll.{Poll}
 use Rattle.futures.specs.declared.task.context.Context.{Context}
-use Rattle.serve_async.specs.JobRuns.{Polling, Draining, Act, poll, drain, Runs, Leads, Lives}
+use Rattle.futures.specs.declared.task.Poll.TheVariants.{Ready}
+use Rattle.serve_async.specs.Ends.{JobEnds}
+use Rattle.serve_async.specs.JobRuns.{Polling, Draining, Act, poll, drain, Runs, Leads, EndsBy, Lives}
 
 module _ {J O : Type 0} (polled : Polling J O) (drained : Draining J) where
   -- one run after another
@@ -31,3 +33,29 @@ module _ {J O : Type 0} (polled : Polling J O) (drained : Draining J) where
   -- and after it was asked to end
   pub lives_drained : (begun can_poll : J → Type 0) (a b : J) → drained a b → Lives polled drained begun can_poll a → can_poll b → Lives polled drained begun can_poll b
   lives_drained begun can_poll a b says lives may = lives_on begun can_poll a b lives (record { acts = drain ∷ []; runs = (b, says, refl) }) may
+
+  -- nothing was done to it
+  pub leads_nowhere : (a : J) → Leads polled drained a a
+  leads_nowhere a = record { acts = []; runs = refl }
+
+  -- it was asked to end
+  pub leads_drained : (a b : J) → drained a b → Leads polled drained a b
+  leads_drained a b says = record { acts = drain ∷ []; runs = (b, says, refl) }
+
+  -- it was polled
+  pub leads_polled : (a b : J) (moment : ℕ) (cx : Context) (result : Poll O) → polled a moment cx result b → Leads polled drained a b
+  leads_polled a b moment cx result says = record { acts = poll moment cx result ∷ []; runs = (b, says, refl) }
+
+  -- it ended by a poll
+  pub ends_polled : (a b : J) (moment : ℕ) (cx : Context) (output : O) → polled a moment cx (Ready output) b → EndsBy polled drained a moment output b
+  ends_polled a b moment cx output says = (a, leads_nowhere a, (cx, says))
+
+  -- it ended after what was done before
+  pub ends_on : (a m b : J) (moment : ℕ) (output : O) → Leads polled drained a m → EndsBy polled drained m moment output b → EndsBy polled drained a moment output b
+  ends_on a m b moment output leads ends = (ends.0, leads_on a m ends.0 leads ends.1, ends.2)
+
+  -- the same, at the moment of a clock
+  pub job_ends_on : (a m b : J) (moment at : ℕ) → moment ≡ at → Leads polled drained a m → JobEnds polled drained m moment b → JobEnds polled drained a at b
+  job_ends_on a m b moment at is leads ends =
+      let P : ℕ → Type 0 = λ t. JobEnds polled drained a t b in
+      subst P is (ends.0, ends_on a m b moment ends.0 leads ends.1)

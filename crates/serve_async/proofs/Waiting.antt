@@ -1,5 +1,5 @@
 -- What a poll that is pending has registered at, and for when its timer stands.
-use Rattle.std.proofs.Common.{◌≡◌, ◌≤◌, ◌+◌, ℕ, max, Option, Some, None, IfSome, arith}
+use Rattle.std.proofs.Common.{◌≤◌, ◌+◌, ℕ, max, Option, Some, None, IfSome, arith}
 use Rattle.futures.specs.declared.task.Poll.{Poll}
 use Rattle.futures.specs.declared.task.Poll.TheVariants.{Ready, Pending}
 use Rattle.futures.specs.declared.task.context.Context.{Context}

@@ -1,3 +1,4 @@
+pub mod Ends
 pub mod JobRuns
 pub mod Jobs
 pub mod Pace

@@ -1,5 +1,5 @@
 -- What is known of a socket as a transport: no bytes, but its end, its shutdown and the counts; and which writes are put off.
-use Rattle.std.specs.Prelude.{◌≡◌, ◌<◌, ℕ, Bool, true, false, None, List, length}
+use Rattle.std.specs.Prelude.{◌<◌, ℕ, Bool, true, false, None, List, length}
 use Rattle.futures.specs.declared.task.Poll.{Poll}
 use Rattle.futures.specs.declared.task.Poll.TheVariants.{Ready, Pending}
 use Rattle.http_transport.specs.Peer.{PeerAddress}

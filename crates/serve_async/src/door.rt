@@ -51,7 +51,7 @@ enum Step {
 /// again for a second. A connection for whose task there is no memory is lost. The stream ends once the server is to.
 #[derive(Drop)]
 pub struct Door<'a, M, J, R> {
-    rt: &'a R,
+    rt: R,
     listener: TcpListener,
     timers: Handle,
     maker: &'a M,
@@ -66,14 +66,14 @@ pub struct Door<'a, M, J, R> {
 
 impl<'a, M, J, R> Door<'a, M, J, R>
 where
-    M: Makes<TokioTransport<&'a R>, J>,
+    M: Makes<TokioTransport<R>, J>,
     J: Job,
-    R: time::Clock + AllocGlobal + Drop,
+    R: time::Clock + AllocGlobal + Copy + Drop,
 {
     /// The connections of this listener, until `stop` is told. The maker makes their jobs, and their timers are from this
     /// handle, which is that of the runtime that polls them.
     pub fn new(
-        rt: &'a R,
+        rt: R,
         listener: TcpListener,
         timers: Handle,
         maker: &'a M,
@@ -85,7 +85,7 @@ where
         let most = limits.connections.min(Semaphore::MAX_PERMITS);
         let permits = Arc::new(rt.alloc(), Semaphore::new(rt.alloc(), most)?)?;
         let hearing = stop.hearing()?;
-        let pause = timers.sleep(rt, Duration::ZERO)?;
+        let pause = timers.sleep(&rt, Duration::ZERO)?;
         Ok(Door {
             rt,
             listener,
@@ -102,7 +102,7 @@ where
     }
 
     // Asks for a permit.
-    fn ask(&mut self, cx: &mut Context<'_>) -> Poll<Option<Serving<J, &'a R>>>
+    fn ask(&mut self, cx: &mut Context<'_>) -> Poll<Option<Serving<J, R>>>
         requires open { MayGoOn self.old.step }
         ensures registered { OnPending result (Covers cx.new (DoorNeeds self.new.step self.new.pause self.new.listener)) }
         ensures open { MayGoOn self.new.step }
@@ -119,7 +119,7 @@ where
         &mut self,
         mut waits: AcquireOwned,
         cx: &mut Context<'_>,
-    ) -> Poll<Option<Serving<J, &'a R>>>
+    ) -> Poll<Option<Serving<J, R>>>
         requires acquires { CanAcquire waits }
         requires open { MayGoOn self.old.step }
         ensures registered { OnPending result (Covers cx.new (DoorNeeds self.new.step self.new.pause self.new.listener)) }
@@ -141,7 +141,7 @@ where
         &mut self,
         permit: OwnedSemaphorePermit,
         cx: &mut Context<'_>,
-    ) -> Poll<Option<Serving<J, &'a R>>>
+    ) -> Poll<Option<Serving<J, R>>>
         requires open { MayGoOn self.old.step }
         ensures registered { OnPending result (Covers cx.new (DoorNeeds self.new.step self.new.pause self.new.listener)) }
         ensures open { MayGoOn self.new.step }
@@ -161,7 +161,7 @@ where
         &mut self,
         permit: OwnedSemaphorePermit,
         cx: &mut Context<'_>,
-    ) -> Poll<Option<Serving<J, &'a R>>>
+    ) -> Poll<Option<Serving<J, R>>>
         requires open { MayGoOn self.old.step }
         ensures registered { OnPending result (Covers cx.new (DoorNeeds self.new.step self.new.pause self.new.listener)) }
         ensures open { MayGoOn self.new.step }
@@ -172,16 +172,30 @@ where
                 self.step = Step::Open(permit);
                 Poll::Pending
             }
-            Poll::Ready(Ok((stream, peer))) => {
-                let Ok(task) = self.enter(stream, peer, permit) else {
-                    return cx.yield_now();
-                };
-                Poll::Ready(Some(task))
-            }
+            Poll::Ready(Ok((stream, peer))) => self.admit(stream, peer, permit, cx),
             Poll::Ready(Err(error)) => {
-                self.step = self.after(error.kind(), permit);
+                let kind = error.kind();
+                self.step = self.after(kind, permit);
                 cx.yield_now()
             }
+        }
+    }
+
+    // Hands out a task for a new connection, and asks for another poll where there is no memory for it.
+    fn admit(
+        &mut self,
+        stream: TcpStream,
+        peer: SocketAddr,
+        permit: OwnedSemaphorePermit,
+        cx: &mut Context<'_>,
+    ) -> Poll<Option<Serving<J, R>>>
+        ensures registered { OnPending result (Covers cx.new (DoorNeeds self.new.step self.new.pause self.new.listener)) }
+        ensures same { self.new ≡ self.old }
+        ensures kept { Keeps cx.old cx.new }
+    {
+        match self.enter(stream, peer, permit) {
+            Ok(task) => Poll::Ready(Some(task)),
+            Err(_) => cx.yield_now(),
         }
     }
 
@@ -193,7 +207,7 @@ where
             ErrorKind::ConnectionAborted | ErrorKind::ConnectionReset | ErrorKind::Interrupted =>
                 Step::Open(permit),
             _ => {
-                set_pause(self.rt, &mut self.pause);
+                set_pause(&self.rt, &mut self.pause);
                 Step::Pausing(permit)
             }
         }
@@ -205,7 +219,7 @@ where
         stream: TcpStream,
         peer: SocketAddr,
         permit: OwnedSemaphorePermit,
-    ) -> io::Result<Serving<J, &'a R>> {
+    ) -> io::Result<Serving<J, R>> {
         // A socket that refuses to be set is lost, and its first read says so.
         let _ = stream.set_nodelay(true);
         let gauge = Gauge::new(self.rt.alloc())?;
@@ -213,7 +227,7 @@ where
         let timers = self.timers.clone()?;
         let place = Place {
             gauge,
-            alarm: Alarm::new(self.rt, &self.timers)?,
+            alarm: Alarm::new(&self.rt, &self.timers)?,
             stop: self.stop.hearing()?,
             permit,
         };
@@ -236,17 +250,17 @@ fn set_pause<R: time::Clock>(rt: &R, pause: &mut Sleep) {
 
 impl<'a, M, J, R> Stream for Door<'a, M, J, R>
 where
-    M: Makes<TokioTransport<&'a R>, J>,
+    M: Makes<TokioTransport<R>, J>,
     J: Job,
-    R: time::Clock + AllocGlobal + Drop,
+    R: time::Clock + AllocGlobal + Copy + Drop,
 {
-    type Item = Serving<J, &'a R>;
+    type Item = Serving<J, R>;
 
     ghost can_poll = { λ door. MayGoOn door.step };
 
     ghost needs = { λ door. DoorNeeds door.step door.pause door.listener };
 
-    fn poll_next(&mut self, cx: &mut Context<'_>) -> Poll<Option<Serving<J, &'a R>>> {
+    fn poll_next(&mut self, cx: &mut Context<'_>) -> Poll<Option<Serving<J, R>>> {
         if let Poll::Ready(()) = self.hearing.poll(cx) {
             return Poll::Ready(None);
         }

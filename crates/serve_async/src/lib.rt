@@ -1,7 +1,7 @@
 //! Async services over any number of connections: dispatchers as futures, over sockets of the kit's `tokio`, on event loops.
 //!
-//! - [`serve`] serves all connections of a listener by this thread, [`serve_by_threads`] by many. [`Services`] gives each
-//!   connection a service, [`Limits`] bound what peers may do, and [`Stop`] ends it.
+//! - [`serve`] serves all connections of a listener by the thread that calls it; any number of threads may. [`Services`] gives
+//!   each connection a service, [`Limits`] bound what peers may do, and [`Stop`] ends it.
 //! - [`serve_jobs`] does the same for any [`Job`], as a dispatcher that may be upgraded, which a [`Makes`] makes of each
 //!   connection.
 //! - [`Door`] is the new connections as a stream of [`Serving`] tasks, for a runtime of one's own, and [`TokioTransport`] a
@@ -45,7 +45,7 @@ pub use job::{Job, Makes};
 pub use laws::{ends_have_causes, jobs_are_served, requests_have_the_peer};
 pub use limits::Limits;
 pub use maker::{Maker, Services};
-pub use run::{serve, serve_by_threads, serve_jobs};
+pub use run::{serve, serve_jobs};
 pub use served::Served;
 pub use serving::Serving;
 pub use stop::Stop;

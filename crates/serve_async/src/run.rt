@@ -15,7 +15,7 @@ use std::io::{self, ErrorKind};
 use std::net::{Net, TcpListener};
 use std::random::RandomSource;
 use std::sync::Wait;
-use std::thread::{self, Threads};
+use std::thread;
 use std::time::{Clock, Duration};
 use tokio::runtime::LocalRuntime;
 
@@ -23,7 +23,8 @@ use tokio::runtime::LocalRuntime;
 const PAUSE: u64 = 100;
 
 /// Serves HTTP/1 over all connections of a listener, each with a service of its own, by this thread, until `stop` is told
-/// and all have ended.
+/// and all have ended. By more threads it is served where each calls this, with a copy of the listener (`try_clone`) and a
+/// share of `stop`.
 ///
 /// # Errors
 ///
@@ -98,65 +99,4 @@ where
     let timers = runtime.handle().time().clone()?;
     let door = Door::new(rt, socket, timers, maker, limits, stop)?;
     runtime.run_all(rt, door)
-}
-
-/// The same as [`serve`] by so many threads, each with a loop and as many connections of its own. It returns once all have
-/// ended, and says whether each ended well. With none nothing is served.
-pub fn serve_by_threads<'a, R, F, S, B>(
-    rt: &'a R,
-    threads: u64,
-    listener: &'a TcpListener,
-    services: &'a F,
-    config: ServiceConfig,
-    limits: Limits,
-    stop: &'a Stop,
-) -> bool
-where
-    R: Threads + Wait + Clock + Net + RandomSource + AllocGlobal + Sync + Drop,
-    F: Services<S> + Sync,
-    S: Service<Request<(), ()>, Response = Response<B>, Error = Response<B>, Lent = Payload>,
-    B: MessageBody,
-{
-    thread::scope(thread::scope_env(), rt, move |scope| -> bool {
-        let mut handles = Vec::new(rt.alloc());
-        for _ in 0..threads {
-            let started = scope.spawn(move || is_served(
-                rt, listener, services, config, limits, stop,
-            ));
-            let Ok(handle) = started else {
-                stop.tell();
-                return false;
-            };
-            if handles.push(handle).is_err() {
-                stop.tell();
-                return false;
-            }
-        }
-        let mut is_well = true;
-        for handle in handles {
-            is_well = handle.join(rt) && is_well;
-        }
-        is_well
-    })
-}
-
-// Whether it was served until the end.
-fn is_served<R, F, S, B>(
-    rt: &R,
-    listener: &TcpListener,
-    services: &F,
-    config: ServiceConfig,
-    limits: Limits,
-    stop: &Stop,
-) -> bool
-where
-    R: Wait + Clock + Net + RandomSource + AllocGlobal + Drop,
-    F: Services<S>,
-    S: Service<Request<(), ()>, Response = Response<B>, Error = Response<B>, Lent = Payload>,
-    B: MessageBody,
-{
-    match serve(rt, listener, services, config, limits, stop) {
-        Ok(()) => true,
-        Err(_error) => false,
-    }
 }

@@ -1,8 +1,10 @@
 //! A job over a connection, as a future.
-ghost use Rattle.std.specs.Prelude.{◌≡◌, ◌≤◌, ◌+◌, ◌⊎◌, true, IfSome, max};
-ghost use Rattle.futures.specs.Poll.{OnPending};
+ghost use Rattle.std.specs.Prelude.{◌≡◌, ◌≤◌, ◌+◌, ◌⊎◌, true, None, IfSome, IfNone, max};
+ghost use Rattle.futures.specs.Poll.{IfReady, OnPending};
 ghost use Rattle.futures.specs.Task.{Covers, Keeps};
 ghost use Rattle.net_sockets.specs.Moments.{last_moment};
+ghost use Rattle.serve_async.specs.Ends.{IsGivenUp, JobEnds, TaskEnds};
+ghost use Rattle.serve_async.specs.JobRuns.{Leads};
 ghost use Rattle.serve_async.specs.Sources.{alarm_source, StandsBy};
 
 use crate::alarm::Alarm;
@@ -71,7 +73,9 @@ impl<J: Job, R: time::Clock + Copy> Serving<J, R> {
 impl<J: Job, R: time::Clock> Serving<J, R> {
     // Asks the job to end, where the server was told to.
     fn hear(&mut self, cx: &mut Context<'_>)
-        ensures { Keeps cx.old cx.new }
+        ensures leads { Leads J.polled J.drained self.old.live.job self.new.live.job }
+        ensures same { self.new ≡ record self.old { live = self.new.live; place = self.new.place } }
+        ensures kept { Keeps cx.old cx.new }
     {
         if let Poll::Ready(()) = self.place.stop.poll(cx) {
             self.live.drain();
@@ -81,6 +85,7 @@ impl<J: Job, R: time::Clock> Serving<J, R> {
     // Polls the job, and once more where a write was put off.
     fn poll_job(&mut self, moment: u64, cx: &mut Context<'_>) -> Poll<()>
         ensures registered { OnPending result (Covers cx.new (J.needs self.new.live.job)) }
+        ensures ended { IfReady result (λ _. JobEnds J.polled J.drained self.old.live.job moment self.new.live.job) }
         ensures same { self.new ≡ record self.old { live = self.new.live } }
         ensures kept { Keeps cx.old cx.new }
     {
@@ -102,6 +107,7 @@ impl<J: Job, R: time::Clock> Serving<J, R> {
     // When the job is to be polled at the latest, after this moment; none where it is to be given up.
     fn next(&mut self, moment: u64) -> Option<u64>
         ensures due { IfSome result (λ at. IfSome (J.due self.old.live.job) (λ due. at ≤ max due (moment + 1))) }
+        ensures given_up { IfNone result (IsGivenUp (J.due self.old.live.job) self.old.limits self.old.pace moment) }
         ensures same { self.new ≡ record self.old { pace = self.new.pace } }
     {
         let later = moment.saturating_add(1);
@@ -119,7 +125,8 @@ impl<J: Job, R: time::Clock> Serving<J, R> {
 
     // When it is to be looked again at how fast bytes move; none where they move too slowly.
     fn look(&mut self, moment: u64) -> Option<u64>
-        ensures { self.new ≡ record self.old { pace = self.new.pace } }
+        ensures given_up { IfNone result (IsGivenUp None self.old.limits self.old.pace moment) }
+        ensures same { self.new ≡ record self.old { pace = self.new.pace } }
     {
         let moved = self.place.gauge.moved();
         let mut pace = match self.pace {
@@ -138,6 +145,7 @@ impl<J: Job, R: time::Clock> Serving<J, R> {
     fn wait(&mut self, moment: u64, cx: &mut Context<'_>) -> Poll<()>
         ensures registered { OnPending result (Covers cx.new (λ s. s ≡ alarm_source self.new.place.alarm)) }
         ensures stands { OnPending result ((cx.new.is_woken ≡ true) ⊎ StandsBy (J.due self.new.live.job) moment self.new.place.alarm) }
+        ensures given_up { IfReady result (λ _. IsGivenUp (J.due self.new.live.job) self.old.limits self.old.pace moment) }
         ensures same { self.new ≡ record self.old { place = self.new.place; pace = self.new.pace } }
         ensures kept { Keeps cx.old cx.new }
     {
@@ -160,6 +168,7 @@ impl<J: Job, R: time::Clock + Drop> Future for Serving<J, R> {
     fn poll(&mut self, cx: &mut Context<'_>) -> Poll<()>
         ensures registered { OnPending result (Covers cx.new (λ s. J.needs self.new.live.job s ⊎ (s ≡ alarm_source self.new.place.alarm))) }
         ensures stands { OnPending result ((cx.new.is_woken ≡ true) ⊎ StandsBy (J.due self.new.live.job) (last_moment self.new.clock) self.new.place.alarm) }
+        ensures ended { IfReady result (λ _. TaskEnds J.polled J.drained J.due self.old.limits self.old.pace self.old.live.job (last_moment self.new.clock) self.new.live.job) }
         ensures kept { Keeps cx.old cx.new }
     {
         self.hear(cx);
