@@ -115,11 +115,7 @@ where
     }
 
     // Waits for a permit.
-    fn wait(
-        &mut self,
-        mut waits: AcquireOwned,
-        cx: &mut Context<'_>,
-    ) -> Poll<Option<Serving<J, R>>>
+    fn wait(&mut self, mut waits: AcquireOwned, cx: &mut Context<'_>) -> Poll<Option<Serving<J, R>>>
         requires acquires { CanAcquire waits }
         requires open { MayGoOn self.old.step }
         ensures registered { OnPending result (Covers cx.new (DoorNeeds self.new.step self.new.pause self.new.listener)) }
