@@ -320,8 +320,8 @@ static inline rc_code rc_send(rc_conn *c, unsigned opcode, unsigned close_code, 
 /* What may come next, and the numbers of the connection: RC_STATE. */
 static inline rc_code rc_state(rc_conn *c, rc_event *e) { return rc_call_(c, 17, 0, NULL, 0, e); }
 
-/* How many heads stand ahead of the one that was handed out last, 16 at most: RC_AHEAD. None stands behind a request with a
- * body. Each is read for it, which may want memory, so ask only where the number is needed. */
+/* Of a server's side how many heads stand ahead of the one that was handed out last, 16 at most: RC_AHEAD. None does behind a
+ * request with a body. Each is read for it, which may want memory: ask where the number is needed, and not at each step. */
 static inline rc_code rc_ahead(rc_conn *c, rc_event *e) { return rc_call_(c, 19, 0, NULL, 0, e); }
 
 #ifdef __cplusplus
