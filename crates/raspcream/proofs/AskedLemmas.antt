@@ -1,5 +1,6 @@
 -- A step of a client's connection is one of what a clause sees.
 use Rattle.std.proofs.Common.{◌≡◌, ◌≤◌, ◌-◌, ◌∙◌, ℕ, Bool, List, true, false, length, take, drop, min, ap, refl, sym, subst, arith, length-drop}
+use Rattle.std.proofs.lemmas.List.{length-take}
 use Rattle.model_h1.specs.Answer as answers
 use Rattle.model_client.specs.ClientEvent as on
 use Rattle.model_client.specs.ClientEvent.{ClientRequest}
@@ -54,8 +55,8 @@ has_held before seen place start reply is kind said len =
     let all : HasHeld place reply before before = record { same = refl; kind = kind; start = start; said = said; whole = len } in subst (λ (s : State). HasHeld place reply s s) is all
 
 -- how many bytes are left behind a place
-pub left_over : (held unread : List ℕ) (start at : ℕ) → held ≡ unread → at ≡ min start (length held) → length (drop at held) ≡ length unread - start
-left_over held unread start at is least = omega (arith, length-drop at held, ap length is, least)
+pub left_over : (held unread : List ℕ) (start at : ℕ) → held ≡ unread → at ≡ min start (length held) → length (take (length held - at) (drop at held)) ≡ length unread - start
+left_over held unread start at is least = omega (arith, length-take (length held - at) (drop at held), length-drop at held, ap length is, least)
 
 -- ---- refusals
 
