@@ -1,4 +1,4 @@
-use Rattle.model_h1.specs.Frame.{Message as Said}
+use Rattle.model_h1.specs.Frame.{Message as Said, frame, text}
 use Rattle.ws_frames.specs.Sent.{message_says}
 use Rattle.ws_frames.specs.declared.message.Message.{Message}
 use Rattle.raspcream.specs.Served.{IsMessageOf}
@@ -18,8 +18,10 @@ returns-clause-why c = IfErr-weaker _ _ _ (λ why. fails_too _ _ why (no_bytes _
 
 pub returns-then-kind-eq1-clause-ok : goal.returns-then-kind-eq1-clause-ok
 returns-then-kind-eq1-clause-ok c =
-    let both : (c.args.kind ≡ 1) × (c.args.input.now ≡ c.args.input.now) = (c.if-kind-eq1.true, refl) in
-    IfOk-weaker _ _ _ (λ message says. subst (λ (m : Said). IsMessageOf c.args.kind c.args.code c.args.input.now m) (sym says) both) c.text_message.ensures.ok
+    let both : IsMessageOf c.args.kind c.args.code c.args.input.now (frame (text c.args.input.now)) = (c.if-kind-eq1.true, refl) in
+    IfOk-weaker _ _ _
+    (λ (message : Message) (says : message_says message ≡ frame (text c.args.input.now)). subst (λ (m : Said). IsMessageOf c.args.kind c.args.code c.args.input.now m) (sym says) both)
+    c.text_message.ensures.ok
 
 pub returns-then-kind-eq8-clause-ok : goal.returns-then-kind-eq8-clause-ok
 returns-then-kind-eq8-clause-ok c =
