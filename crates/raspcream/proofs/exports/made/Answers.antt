@@ -11,3 +11,6 @@ returns-in-Ok-clause-can_be c = λ made never. is_some_none (c.in-Some.ensures.n
 
 pub returns-in-Ok-clause-stands : goal.returns-in-Ok-clause-stands
 returns-in-Ok-clause-stands c = subst StandsForNothing (sym c.in-Ok.ensures.ok) c.in-Some.ensures.stands
+
+pub returns-clause-code : goal.returns-clause-code
+returns-clause-code c = inl (refl, λ never. is_some_none (c.in-Some.ensures.none.1 never))
