@@ -8,8 +8,8 @@
  *
  * Events. What a call tells is written to the caller's rc_event, which is cleared first. It has some 3 KB: keep one. Its spans
  * point into the handle. Those of a head stand until the next rc_next; those of a piece and of trailers until the next
- * rc_pull; that of a frame until the next rc_frame; those of rc_front and rc_held until the next call that isn't rc_state,
- * rc_front or rc_held. No span of a handle is given back to the same handle.
+ * rc_pull; that of a frame until the next rc_frame; those of rc_front and rc_held until the next call that isn't a question
+ * (rc_state, rc_front, rc_held, rc_ahead). No span of a handle is given back to the same handle.
  *
  * Units. Sizes are bytes; times are milliseconds, and moments milliseconds after the start of 1970.
  *
@@ -71,7 +71,8 @@ typedef enum {
     RC_PROTOCOL,  /* a rule of WebSocket is broken: `reason` is an rc_rule */
     RC_REFUSED,   /* of rc_accept: the request fails a check: `reason` is an rc_check. It is still to be answered */
     RC_STATE,     /* of rc_state: `state`, and in `reason` why the connection closes, or RC_OPEN */
-    RC_HOLDS      /* of rc_held: `bytes` */
+    RC_HOLDS,     /* of rc_held: `bytes` */
+    RC_AHEAD      /* of rc_ahead: `number` heads */
 } rc_kind;
 
 /* How a body that comes ends: rc_event.body of RC_HEAD. */
@@ -128,7 +129,7 @@ typedef enum {
 /* The numbers of rc_state. */
 typedef struct {
     uint32_t can;       /* what may come next: RC_CAN_ bits */
-    uint32_t waiting;   /* of a server: heads that were read ahead, 16 at most; of a client: requests without an answer */
+    uint32_t waiting;   /* of a client: requests without an answer; of a server 0 */
     uint64_t buffered;  /* how many bytes wait to be written */
     uint64_t write_room; /* while it is above 0 another piece of a body may be handed in */
     uint64_t held;      /* how many bytes came and were not passed */
@@ -318,6 +319,10 @@ static inline rc_code rc_send(rc_conn *c, unsigned opcode, unsigned close_code, 
 
 /* What may come next, and the numbers of the connection: RC_STATE. */
 static inline rc_code rc_state(rc_conn *c, rc_event *e) { return rc_call_(c, 17, 0, NULL, 0, e); }
+
+/* Of a server's side how many heads stand ahead of the one that was handed out last, 16 at most: RC_AHEAD. None does behind a
+ * request with a body. Each is read for it, which may want memory: ask where the number is needed, and not at each step. */
+static inline rc_code rc_ahead(rc_conn *c, rc_event *e) { return rc_call_(c, 19, 0, NULL, 0, e); }
 
 #ifdef __cplusplus
 }

@@ -21,7 +21,14 @@ WHAT_IT_MEANS = {
 }
 # A function's first line.
 FUNCTION = re.compile(r"(\s*)(?:pub(?:\([^)]*\))?\s+)?(?:(?:const|unsafe|ghost|extern)\s+)*fn\s+(\w+)")
-ANSWER = re.compile(r"must-fail ([a-z0-9_]+)/(\S+?)\.edit: (.*)")
+# A block of methods, and what its first line says behind the word.
+BLOCK = re.compile(r"(?:pub(?:\([^)]*\))?\s+)?(?:unsafe\s+)?(impl|trait)\b(.*)")
+PARAMETERS = re.compile(r"^<(?:[^<>]|<[^<>]*>)*>")
+# A proof that names what the edit took away.
+NAMES = re.compile(r"(note: )?(\./)?proofs/.*(has no field|is not in scope|has no `|was not admitted)")
+# What the prover says of a text that it can't read, and of a limit of its own.
+UNREAD = re.compile(r"is not in scope|has no field|is no name|operand is missing|expected the end|cannot continue")
+LIMITS = re.compile(r"ran out of (stack|the (steps|memory) that)|(outgrew the memory limit|stopped at the step limit) \(")
 PLACE = re.compile(r"(?:note: )?(?:\./)?(\S+?):(\d+):\d+: ?(?:error: )?(.*)")
 
 
@@ -34,6 +41,8 @@ class Edit:
     unfit: str = ""
     # The functions that it changes, as their file, the numbers of their first and last line, and their name.
     changed: list = dataclasses.field(default_factory=list)
+    # The edited files' texts, by their paths below the crate.
+    texts: dict = dataclasses.field(default_factory=dict)
     outcome: str = UNTRIED
     said: str = ""
 
@@ -59,7 +68,7 @@ def read(crate, file):
     edit = Edit(crate, file)
     folder = os.path.dirname(os.path.dirname(file))
     path = old = None
-    texts = {}
+    texts = edit.texts
     with open(file, encoding="utf-8") as lines:
         for line in lines.read().split("\n"):
             if line.startswith("file: "):
@@ -108,33 +117,75 @@ def function_at(lines, line):
     return 1, len(lines), ""
 
 
-def outcomes(edits, said):
-    """Gives each edit what rt said of it; also gives back what rt said in all."""
-    by_name = {it.name: it for it in edits}
-    for line in said.splitlines():
-        found = ANSWER.search(line)
-        if found and found[2] in by_name:
-            edit = by_name[found[2]]
-            edit.outcome, edit.said = judged(edit, found[3])
-    return edits, said
+def ways_of(edit, folder):
+    """The words for rt check that name what is to be tried, the narrowest first: the changed functions, their modules, the crate."""
+    changed = [it for it in edit.changed if it[3]]
+    if not changed or len(changed) < len(edit.changed) or any(not it.startswith("src/") for it in edit.texts):
+        return [[]]
+    ways = [sorted(set(it)) for it in zip(*(names_of(it, folder) for it in changed))]
+    modules = sorted({module_of(it[0]) for it in changed})
+    if all(modules):
+        ways.append(modules)
+    return [[word for name in way for word in ("--only", name)] for at, way in enumerate(ways) if way not in ways[:at]] + [[]]
 
 
-def judged(edit, answer):
-    """What rt's answer to an edit shows of the contract, and the part of it that says so."""
-    if answer.startswith("NOT REFUSED"):
+def names_of(changed, folder):
+    """What rt check may call a function: by its type or module, by both, by its own name alone."""
+    path, first, _, function = changed
+    with open(f"{folder}/{path}", encoding="utf-8") as text:
+        lines = text.read().split("\n")
+    module, kind = module_of(path), type_at(lines, first)
+    whole = "::".join(it for it in (module, kind, function) if it)
+    return [f"{kind}::{function}" if kind else whole, whole, function]
+
+
+def module_of(path):
+    parts = path.removeprefix("src/").removesuffix(".rt").split("/")
+    return "::".join(it for it in parts if it not in ("lib", "main", "mod"))
+
+
+def type_at(lines, line):
+    """The type or trait that the block around a line belongs to, or nothing."""
+    for at in range(line - 1, -1, -1):
+        if lines[at].startswith("}"):
+            return ""
+        found = BLOCK.match(lines[at])
+        if found:
+            head = PARAMETERS.sub("", found[2]) if found[1] == "impl" else found[2]
+            return re.match(r"[&\s]*(?:mut\s+)?(\w*)", head.rpartition(" for ")[2])[1]
+    return ""
+
+
+def judged(edit, status, said):
+    """What a check of the edited crate shows of the contract, and the line that says so."""
+    lines = said.rstrip("\n").split("\n")
+    if status == 0:
         return PROVED, ""
-    if answer.startswith("BAD EDIT"):
-        return BAD, answer.removeprefix("BAD EDIT: ")
-    if not answer.startswith("refused, as it must be"):
-        return UNTRIED, answer
-    rest = answer.removeprefix("refused, as it must be")
-    if rest.startswith(" (only because a proof file names"):
-        return NAME, rest.partition("): ")[2]
-    if rest.startswith(" (only by a limit"):
-        return LIMIT, rest.partition("): ")[2]
-    place = PLACE.match(rest.removeprefix(": "))
-    is_own = place and any(is_at(it, place[1], int(place[2])) for it in edit.changed)
-    return (GOAL if is_own else ELSEWHERE), rest.removeprefix(": ")
+    unread = next((it for it in lines if is_unread(it, edit)), "")
+    if status == 1 and unread:
+        return BAD, unread
+    told = [it for it in lines if PLACE.match(it) and (": error" in it or it.startswith("note: "))]
+    if status == 1 and any("not proved" in it for it in lines):
+        first = next((it for it in told if not NAMES.match(it)), "")
+        if told and not first:
+            return NAME, told[0]
+        place = PLACE.match(first)
+        is_own = place and any(is_at(it, place[1], int(place[2])) for it in edit.changed)
+        return (GOAL if is_own else ELSEWHERE), first
+    limit = next((it for it in lines if LIMITS.search(it)), "")
+    if status == 3 and limit:
+        return LIMIT, limit
+    if status == 1:
+        return BAD, next((it for it in lines if "error" in it), lines[-1])
+    return UNTRIED, f"rt check ended with status {status}: {lines[-1]}"
+
+
+def is_unread(line, edit):
+    """Whether the prover couldn't read an edited text, where one that only makes a statement false reads well."""
+    at = re.match(r"(?:\./)?(\S+?):\d+:\d+: error: (?:(`[^`]*`): )?(.*)", line)
+    if not at or at[1] not in edit.texts and not at[1].startswith(("src/", "specs/")):
+        return False
+    return not at[2] or bool(UNREAD.search(re.sub(r"`[^`]*`", "", at[3])))
 
 
 def is_at(changed, path, line):

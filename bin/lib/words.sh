@@ -7,7 +7,7 @@ chat     | app_chat     | one to three minutes   | PORT                    | cha
 proxy    | app_proxy    | one to three minutes   | PORT SERVER             | a reverse proxy before one server
 replay   | app_replay   | a minute or two        | replay, gen, hub, again | replays a script of events, or runs exchanges of a seed
 echo     | app_echo     | about a minute         | [MOMENT]                | answers requests on the standard input with their bodies
-site     | app_site     | one to three minutes   | PORT THREADS            | a small site by an event loop
+site     | app_site     | one to three minutes   | PORT THREADS            | a small site by event loops
 counters | app_counters | one to three minutes   | PORT N POLLS            | counters on one board, a thread for each connection
 hello    | app_hello    | one to three minutes   | PORT N [AT_ONCE]        | a greeting and an echo by a handler
 '
@@ -222,11 +222,11 @@ END
 
 launch_site() {
     answers_help "$@" <<'END'
-It serves a port of this machine, 0 to 65535, by 1 to 1024 threads, each with an event loop of its own. GET / is answered with a
-greeting, GET /lines with three lines in chunks, POST /echo with the bytes that came. It ends by a signal, with status 0, and with
-1 where the port, a loop or a thread can't be had.
+It serves a port of this machine, 0 to 65535, by 1 to 1024 threads, each with an event loop of its own, or with 0 by its first
+one alone. GET / is answered with a greeting, GET /lines with three lines in chunks, POST /echo with the bytes that came. It ends
+by a signal, with status 0, and with 1 where the port, a loop or a thread can't be had.
 END
-    [ $# = 2 ] && is_number "$1" 65535 && is_number "$2" 1024 && [ "${2#+}" -gt 0 ] || refuse_usage
+    [ $# = 2 ] && is_number "$1" 65535 && is_number "$2" 1024 || refuse_usage
     ending=input
     words=("$@")
     serve "$@"

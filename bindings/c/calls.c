@@ -61,7 +61,7 @@ static void look_at(const rc_event *e) {
 /* A call that may come next, or any. */
 static uint32_t wanted(rc_conn *c, rc_event *e, bool client) {
     static const uint32_t calls[13] = {0, 2, 3, 4, 5, 6, 7, 8, 11, 13, 14, 15, 16};
-    if (any(3) > 0 || rc_state(c, e) != RC_OK) return any(3) == 0 ? any(4) : any(20);
+    if (any(3) > 0 || rc_state(c, e) != RC_OK) return any(3) == 0 ? any(4) : any(21);
     uint32_t can = e->state.can | (client ? 32 : 0), bit = any(13);
     for (int i = 0; i < 13 && !(can >> bit & 1); i++) bit = (bit + 1) % 13;
     return calls[bit];
@@ -86,7 +86,7 @@ static rc_code call(rc_conn *c, rc_event *e, bool client, bool whole, uint64_t *
 }
 
 int main(int count, char **given) {
-    unsigned long codes[4] = {0}, kinds[18] = {0};
+    unsigned long codes[4] = {0}, kinds[19] = {0};
     long connections = count > 2 ? atol(given[2]) : 1000;
     rc_event e;
     seed = (count > 1 ? strtoull(given[1], NULL, 10) : 1) * 2654435761u + 88172645463325252ull;
@@ -98,7 +98,7 @@ int main(int count, char **given) {
         if (rc_new(&config, &c) != RC_OK) return 1;
         for (uint32_t calls = 20 + any(200); calls > 0; calls--) {
             rc_code code = call(c, &e, client, whole, &moment);
-            if (code > RC_INVALID || e.kind > RC_HOLDS || e.count > RC_MAX_FIELDS) return puts("no such answer"), 1;
+            if (code > RC_INVALID || e.kind > RC_AHEAD || e.count > RC_MAX_FIELDS) return puts("no such answer"), 1;
             codes[code]++, kinds[e.kind] += code == RC_OK;
             look_at(&e);
         }
@@ -107,7 +107,7 @@ int main(int count, char **given) {
     printf("codes");
     for (int i = 0; i < 4; i++) printf(" %lu", codes[i]);
     printf("\nkinds");
-    for (int i = 0; i < 18; i++) printf(" %lu", kinds[i]);
+    for (int i = 0; i < 19; i++) printf(" %lu", kinds[i]);
     puts("");
     return 0;
 }

@@ -236,12 +236,12 @@ static bool client(rc_event *e) {
     WANT(e->kind == RC_END);
     DO(rc_state(c, e));
     WANT((e->state.can & RC_REUSABLE) && e->state.held == 0 && e->state.deadline == UINT64_MAX);
-    WANT(rc_drain(c, e) == RC_INVALID);
+    WANT(rc_drain(c, e) == RC_INVALID && rc_ahead(c, e) == RC_INVALID);
     end(c);
     return true;
 }
 
-/* Requests that were read ahead don't lie together with what came behind them. */
+/* Requests that stand ahead are held, and counted. */
 static bool held(rc_event *e) {
     rc_conn *c;
     text *all = calloc(1, sizeof *all);
@@ -252,7 +252,17 @@ static bool held(rc_event *e) {
     DO(rc_read(c, others, strlen(others), e));
     DO(rc_next(c, e));
     DO(rc_state(c, e));
-    WANT(e->state.waiting == 2 && e->state.held == strlen(others));
+    WANT(e->state.waiting == 0 && e->state.held == strlen(others));
+    for (refused_at = 0;; refused_at++) {
+        made = 0;
+        rc_code code = rc_ahead(c, e);
+        if (code == RC_OK) break;
+        WANT(code == RC_NO_MEMORY && e->kind == RC_DONE);
+    }
+    WANT(refused_at > 0 && e->kind == RC_AHEAD && e->number == 2);
+    refused_at = -1;
+    DO(rc_state(c, e));
+    WANT(e->state.held == strlen(others));
     for (;;) {
         DO(rc_held(c, all->len, e));
         if (e->bytes.len == 0) break;
@@ -280,7 +290,8 @@ static bool wrong(rc_event *e) {
     DO(rc_new(&RC_SERVER_CONFIG, &c));
     WANT(rc_answer(c, 200, RC_KEEP_DEFAULT, 0, NULL, 0, e) == RC_MISPLACED);
     WANT(rc_pull(c, e) == RC_MISPLACED && rc_frame(c, e) == RC_MISPLACED && rc_send(c, 1, 0, "", 0, e) == RC_MISPLACED);
-    WANT(rc_advance(c, 1, e) == RC_INVALID && raspcream_call(c, 99, 0, b, 0, e) == RC_INVALID);
+    WANT(rc_advance(c, 1, e) == RC_INVALID && raspcream_call(c, 20, 0, b, 0, e) == RC_INVALID && raspcream_call(c, 99, 0, b, 0, e) == RC_INVALID);
+    WANT(rc_ahead(c, e) == RC_OK && e->number == 0);
     DO(rc_read(c, "GET / HTTP/1.1\r\n\r\n", 18, e));
     DO(rc_next(c, e));
     WANT(e->kind == RC_HEAD && e->target.len == 1);

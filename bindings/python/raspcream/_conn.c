@@ -347,6 +347,13 @@ static PyObject *Conn_state(Conn *self, PyObject *unused) {
                          (unsigned long long)n->held, (unsigned long long)n->read_room, n->waiting, deadline);
 }
 
+static PyObject *Conn_ahead(Conn *self, PyObject *unused) {
+    (void)unused;
+    OPEN(self);
+    TRY(rc_ahead(self->conn, &self->event));
+    return PyLong_FromUnsignedLongLong(self->event.number);
+}
+
 #define METHOD(NAME, FLAGS, TEXT) {#NAME, (PyCFunction)(void (*)(void))Conn_##NAME, FLAGS, TEXT}
 static PyMethodDef methods[] = {
     METHOD(read, METH_O, "Bytes were read: how many there was room for."),
@@ -368,6 +375,7 @@ static PyMethodDef methods[] = {
     METHOD(frame, METH_NOARGS, "None, (opcode, close code, payload), or (kind, reason)."),
     METHOD(send, METH_VARARGS, "send(opcode, close_code, payload): 0, or the number of the rule that is broken."),
     METHOD(state, METH_NOARGS, "(can, closing, buffered, write_room, held, read_room, waiting, deadline or -1)."),
+    METHOD(ahead, METH_NOARGS, "How many further heads have come, on a server's side, 16 at most. Each is read for it."),
     {NULL, NULL, 0, NULL},
 };
 

@@ -73,6 +73,7 @@ class Server(unittest.TestCase):
         conn.read(more)
         conn.next()
         self.assertEqual(conn.held(), more)
+        self.assertEqual((conn.ahead(), conn.state()[6]), (2, 0))
 
     def test_a_websocket(self):
         conn = server()
@@ -98,7 +99,9 @@ class Client(unittest.TestCase):
         self.assertEqual(conn.next(), (Kind.HEAD, 404, b"Nowhere", 1, Body.LENGTH, 2, [(b"content-length", b"2")]))
         self.assertEqual([conn.pull(), conn.pull()], [b"no", (Kind.END, 0)])
         self.assertTrue(conn.state()[0] & Can.REUSABLE)
+        self.assertEqual(conn.state()[6], 0)
         self.assertRaises(Invalid, conn.drain)
+        self.assertRaises(Invalid, conn.ahead)
         self.assertRaises(Invalid, conn.ask, b"G T", b"/", 1, Keep.DEFAULT, NO_BODY, [])
 
 

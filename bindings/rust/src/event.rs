@@ -354,7 +354,7 @@ pub struct State {
     /// The moment at which a time runs out: tell the time then.
     pub deadline: Option<u64>,
 
-    /// Of a server heads that were read ahead; of a client requests that wait for their answers.
+    /// How many requests of a client wait for their answers; of a server 0.
     pub waiting: u32,
 
     /// Whether another request may be asked once all that was is done.

@@ -23,6 +23,7 @@ pub const FRAME: u32 = 15;
 pub const SEND: u32 = 16;
 pub const STATE: u32 = 17;
 pub const HELD: u32 = 18;
+pub const AHEAD: u32 = 19;
 
 pub struct Handle {
     at: *mut c_void,

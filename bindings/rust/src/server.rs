@@ -42,6 +42,12 @@ impl Server {
         })
     }
 
+    /// How many heads stand ahead of the one that was handed out last, 16 at most; none behind a request with a body. Each is read
+    /// for it, which may want memory.
+    pub fn ahead(&mut self) -> Result<usize, Error> {
+        self.0.call(handle::AHEAD, 0, &[]).map(|event| event.number as usize)
+    }
+
     /// Tells the client of the open request to go on with its body. `Misplaced`: it doesn't wait for that.
     pub fn send_continue(&mut self) -> Result<(), Error> {
         self.0.done(handle::CONTINUE)

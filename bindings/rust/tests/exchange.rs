@@ -116,6 +116,18 @@ fn what_is_behind_an_upgrade_is_held() {
 }
 
 #[test]
+fn heads_ahead_are_counted() {
+    let mut server = server();
+    assert_eq!(server.ahead(), Ok(0));
+    server
+        .read(b"GET /1 HTTP/1.1\r\nHost: a\r\n\r\nGET /2 HTTP/1.1\r\nHost: a\r\n\r\nGET /3 HTTP/1.1\r\nHost: a\r\n\r\nPOST")
+        .unwrap();
+    assert!(matches!(server.next_request(), Ok(Next::Head(_))));
+    assert_eq!(server.ahead(), Ok(2));
+    assert_eq!(server.state().unwrap().waiting, 0);
+}
+
+#[test]
 fn a_websocket_echoes() {
     let mut server = server();
     server

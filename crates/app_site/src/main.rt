@@ -1,38 +1,36 @@
-//! A small site by an event loop: `app_site PORT THREADS`. It listens on the port of this machine, and serves it by so
-//! many threads, each with a loop of its own, until its standard input ends or has a line; where that can't be watched, as
-//! a file, it goes on.
+//! A small site by event loops: `app_site PORT THREADS`. It listens on the port of this machine, and serves it by so many
+//! threads, each with a loop of its own, or with 0 by its first one alone, until its standard input ends or has a line; where
+//! that can't be watched, as a file, it goes on.
 #![tactic(auto)]
 
+mod input;
 mod sites;
 
 use http_types::ServiceConfig;
-use net_loop::Limits;
-use net_sockets::{Linger, MioWatch, SystemClock};
-use serve_loop::run_many;
+use input::InputWatch;
+use net_sockets::Linger;
+use serve_async::{Limits, Stop, serve};
 use sites::Sites;
 use std::alloc::AllocGlobal;
 use std::env;
 use std::net::{Net, TcpListener};
 use std::process::ExitCode;
 use std::random::RandomSource;
-use std::thread::{self, Threads};
+use std::sync::Wait;
+use std::thread::{self, JoinHandle, Threads};
 use std::time::Clock;
 
-/// How many connections a loop has at most, how long a job without a deadline isn't polled, and for how long nothing happens
-/// on its connection, in milliseconds.
+/// How many connections a loop has at most, and what their peers may do.
 const LIMITS: Limits = Limits {
-    jobs: 20_000,
-    beat: 1000,
-    patience: 60_000,
-};
-
-/// How many happenings a wait tells at most.
-const HAPPENINGS: usize = 1024;
-
-/// What is still read after the last answer.
-const LINGER: Linger = Linger {
-    milliseconds: 2000,
-    bytes: 65_536,
+    connections: 20_000,
+    idle: 60_000,
+    stall: 30_000,
+    least: 1,
+    linger: Linger {
+        milliseconds: 2000,
+        bytes: 65_536,
+    },
+    end: 10_000,
 };
 
 fn main(rt: HostRuntime) -> ExitCode {
@@ -48,29 +46,73 @@ fn main(rt: HostRuntime) -> ExitCode {
     let Ok(listener) = TcpListener::bind(&rt, ("127.0.0.1", port)) else {
         return ExitCode::FAILURE;
     };
-    if listener.set_nonblocking(true).is_err() || !start(&rt, rt, &listener, threads) {
+    let Ok(stop) = Stop::new(rt.alloc()) else {
+        return ExitCode::FAILURE;
+    };
+    if !watch_input(&rt, rt, &stop) {
         return ExitCode::FAILURE;
     }
-    ExitCode::SUCCESS
-}
-
-// Serves by so many threads, until all have ended.
-fn start<R>(rt: &R, system: HostRuntime, listener: &TcpListener, threads: u64) -> bool
-where
-    R: Threads,
-{
-    let mut handles = Vec::new(system.alloc());
+    if threads == 0 {
+        return status(is_served(rt, listener, stop));
+    }
+    let mut handles = Vec::new(rt.alloc());
+    let mut are_all = true;
     for _ in 0..threads {
-        let Ok(copy) = listener.try_clone() else {
-            return false;
+        let Some((copy, told)) = shares(&listener, &stop) else {
+            are_all = false;
+            break;
         };
-        let Ok(handle) = thread::spawn(rt, move || serve(system, copy)) else {
-            return false;
-        };
-        if handles.push(handle).is_err() {
-            return false;
+        let started = thread::spawn(&rt, move || is_served(rt, copy, told));
+        if !keep(started.ok(), &mut handles) {
+            are_all = false;
+            break;
         }
     }
+    if !are_all {
+        stop.tell();
+    }
+    status(join_all(&rt, handles) && are_all)
+}
+
+// Has a thread tell the server to end once the standard input ends or has a line.
+fn watch_input<R: Threads>(rt: &R, system: HostRuntime, stop: &Stop) -> bool {
+    let Ok(watched) = InputWatch::new(&system) else {
+        return false;
+    };
+    let Some(input) = watched else {
+        return true;
+    };
+    let Ok(ender) = stop.share() else {
+        return false;
+    };
+    let watching = thread::spawn(rt, move || {
+        input.wait();
+        ender.tell();
+    });
+    watching.is_ok()
+}
+
+// What a thread is given: the listener and the end, for it alone.
+fn shares(listener: &TcpListener, stop: &Stop) -> Option<(TcpListener, Stop)> {
+    let Ok(copy) = listener.try_clone() else {
+        return None;
+    };
+    match stop.share() {
+        Ok(told) => Some((copy, told)),
+        Err(_) => None,
+    }
+}
+
+// Keeps a thread that was started, where there is memory for it.
+fn keep(started: Option<JoinHandle<bool>>, handles: &mut Vec<JoinHandle<bool>>) -> bool {
+    match started {
+        Some(handle) => handles.push(handle).is_ok(),
+        None => false,
+    }
+}
+
+// Waits for all threads, and says whether each ended well.
+fn join_all<R: Threads>(rt: &R, handles: Vec<JoinHandle<bool>>) -> bool {
     let mut is_well = true;
     for handle in handles {
         is_well = handle.join(rt) && is_well;
@@ -79,17 +121,21 @@ where
 }
 
 // Serves what a listener gives, by this thread, and says whether it ended well.
-fn serve<R>(rt: R, listener: TcpListener) -> bool
+fn is_served<R>(rt: R, listener: TcpListener, stop: Stop) -> bool
 where
-    R: Net + Clock + RandomSource + AllocGlobal + Copy + Drop,
+    R: Wait + Clock + Net + RandomSource + AllocGlobal + Drop,
 {
-    let listener = mio::net::TcpListener::from_std(listener);
-    let Ok(mut watch) = MioWatch::new(rt, listener, HAPPENINGS, LINGER) else {
-        return false;
-    };
-    let _ = watch.watch_input();
-    let mut clock = SystemClock::new(rt);
-    let config = ServiceConfig::default();
     let sites = Sites::new(rt.alloc());
-    run_many(&rt, &mut watch, &mut clock, sites, config, LIMITS).is_ok()
+    let config = ServiceConfig::default();
+    match serve(&rt, &listener, &sites, config, LIMITS, &stop) {
+        Ok(()) => true,
+        Err(_) => false,
+    }
+}
+
+fn status(is_well: bool) -> ExitCode {
+    match is_well {
+        true => ExitCode::SUCCESS,
+        false => ExitCode::FAILURE,
+    }
 }

@@ -1,6 +1,6 @@
 //! A service for each connection.
 use http_services::CountedService;
-use serve_loop::Services;
+use serve_async::Services;
 use site::Site;
 use std::alloc::Global;
 
@@ -17,7 +17,7 @@ impl Sites {
 }
 
 impl Services<CountedService<Site>> for Sites {
-    fn service(&mut self) -> CountedService<Site> {
+    fn service(&self) -> CountedService<Site> {
         CountedService::new(Site::new(self.alloc))
     }
 }

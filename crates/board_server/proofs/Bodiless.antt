@@ -67,8 +67,8 @@ step_hands_on v w drained is b all = same v w _ refl refl (ap (λ (x : View). x.
 step_hands_on v w (written answer) is b all = same v w _ refl refl (ap (λ (x : View). x.stage) is.4) b
 step_hands_on v w (read came answer) is b all = same v w _ refl refl (ap (λ (x : View). x.stage) is.4) b
 step_hands_on v w (shut answer) is b all = same v w _ refl refl (ap (λ (x : View). x.stage) is.2) b
-step_hands_on v w (next head) is b all =
-    record { only = refl; bodiless = from_stage (stage_at (request_at head)) w.stage (ap (λ (x : View). x.stage) is.4) (at_head (request_at head)) }
+step_hands_on v w (next peer head) is b all =
+    record { only = refl; bodiless = from_stage (stage_at (request_at peer head)) w.stage (ap (λ (x : View). x.stage) is.4) (at_head (request_at peer head)) }
 step_hands_on v w (closed end) is b all = same v w _ refl refl (ap (λ (x : View). x.stage) is.4) b
 step_hands_on v w continued is b all = same v w _ refl refl (ap (λ (x : View). x.stage) is.3) b
 step_hands_on v w (ready request answer) is b all =

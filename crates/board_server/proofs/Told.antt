@@ -6,6 +6,7 @@ use Rattle.http_config.specs.Config.{Settings}
 use Rattle.http_bodies.specs.Values.{holds}
 use Rattle.http_bodies.specs.Told.{Grows}
 use Rattle.http_services.specs.Serving.{Serving}
+use Rattle.http_transport.specs.Peer.{PeerAddress}
 use Rattle.http_transport.specs.Wiring.{Wiring}
 use Rattle.model_h1.specs.Event as on
 use Rattle.model_h1.specs.Sums as sums
@@ -17,8 +18,10 @@ use Rattle.h1_traced.specs.Traced.{SaysNoted, TracedStands}
 use Rattle.h1_dispatcher.specs.View.{View, Answer, told_result, told_service, is_replying}
 use Rattle.h1_dispatcher.specs.Steps.{Step}
 use Rattle.h1_dispatcher.specs.Order.{waits_in, reply_in, calls_in, requests, calls, left, answers, replies, KeepsOrder}
+use Rattle.h1_dispatcher.specs.Peers.{AreFrom, TellsPeer}
 use Rattle.h1_dispatcher.specs.Traces.{requests_in, answers_in, hands, came, Follows}
 use Rattle.h1_dispatcher.proofs.Orders.{run_keeps}
+use Rattle.h1_dispatcher.proofs.Peers.{from_on, run_tells}
 use Rattle.h1_dispatcher.proofs.Traces.{run_follows}
 use Rattle.board.specs.Views.{Held}
 use Rattle.board.specs.Answers.{Asking, Pair, AllAnswered}
@@ -84,6 +87,16 @@ requests_so v u steps work o none called_so in_order one kept order =
     kept.asked_so ∙ ap (λ l. l ++ requests steps) (sym none) ∙ order.waits ∙ ap (λ l. l ++ waits_in u.stage) (kept.left_so ∙ called_so ∙ in_order)
     ∙ append_assoc (map (λ (p : Pair). p.0) work.answers) (option_to_list work.waiting) (waits_in u.stage) ∙ ap (λ l. map (λ (p : Pair). p.0) work.answers ++ l) one
 
+-- and so all of them are from the peer
+all_from : (peer : PeerAddress) (u : View) (steps : List Step) (work : Worked) (o : Option Asking) → calls steps ≡ work.calls → work.calls ≡ map (λ (p : Pair). p.0) work.answers ++ option_to_list work.waiting
+    → option_to_list work.waiting ++ waits_in u.stage ≡ option_to_list o → AreFrom peer (calls steps) → AreFrom peer (waits_in u.stage)
+    → AreFrom peer (map (λ (p : Pair). p.0) work.answers ++ option_to_list o)
+all_from peer u steps work o called_so in_order one called waits =
+    subst (λ (l : List Asking). AreFrom peer l)
+    (ap (λ l. l ++ waits_in u.stage) (called_so ∙ in_order) ∙ append_assoc (map (λ (p : Pair). p.0) work.answers) (option_to_list work.waiting) (waits_in u.stage)
+    ∙ ap (λ l. map (λ (p : Pair). p.0) work.answers ++ l) one)
+    (from_on peer (calls steps) (waits_in u.stage) called waits)
+
 -- ---- memory
 
 none_is_some : (n : ℕ) → n ≡ 0 → 0 < n → ⊥
@@ -107,16 +120,17 @@ moved_so begun between was now before trace first last taken_so written_so recei
       (subst (λ (x : Wiring). Grows x.sent between.transport.sent (written trace)) first (subst (λ l. Grows begun.transport.sent between.transport.sent l) (sym written_so) sent_so)),
 )
 
-pub told : (was now : Wiring) (number : ℕ) (settings : Settings) (recorded later : Option (List noted.Pair)) (polls : ℕ) (may_give : ℕ → Bool) (pass : Held) (end : Result Unit ServeError)
-    → TracedStands (begun_view was number settings recorded).traced [] → HasServed (begun_view was number settings recorded) polls may_give now later pass end
-    → IsTold settings was now later pass end
-told was now number settings recorded later polls may_give pass end stands served =
-    let begun : View = begun_view was number settings recorded in
+pub told : (was now : Wiring) (peer : PeerAddress) (number : ℕ) (settings : Settings) (recorded later : Option (List noted.Pair)) (listens : Bool) (polls : ℕ) (may_give : ℕ → Bool) (pass : Held) (end : Result Unit ServeError)
+    → TracedStands (begun_view was peer number settings recorded listens).traced [] → HasServed (begun_view was peer number settings recorded listens) polls may_give now later pass end
+    → IsTold settings was now peer later pass end
+told was now peer number settings recorded later listens polls may_give pass end stands served =
+    let begun : View = begun_view was peer number settings recorded listens in
     let work : Worked = served.work in
     let ran : Ran (HadMemory end) begun served.last = ends_ran polls may_give begun served.last end served.ends in
     let u : View = ran.between in
     let kept : AllKept begun ran.steps u = run_kept begun u ran.steps ran.noted ran.undecided ran.run refl in
     let order : KeepsOrder begun ran.steps u = run_keeps begun u ran.steps ran.run in
+    let tells : TellsPeer begun ran.steps u = run_tells begun u ran.steps ran.run tt in
     let f : Follows begun u [] (hands ran.steps) (came ran.steps) = run_follows begun u ran.steps ran.noted ran.run [] stands in
     let a : After u served.last f.more = after_end u served.last f.more ran.end (subst (λ (l : List sums.Step). TracedStands u.traced l) (append-nil f.more) f.stands) in
     let w : WorkedBy begun ran.steps u work = by_work begun u ran.steps work refl refl refl (sym a.service_so ∙ served.service_is) kept order in
@@ -136,6 +150,7 @@ told was now number settings recorded later polls may_give pass end stands serve
           subst (λ l. AreHeads (map (λ (p : Pair). p.0) work.answers ++ option_to_list one.waiting) l) (sym a.heads_so)
           (subst (λ l. AreHeads l (heads_in (requests_in f.more))) (requests_so begun u ran.steps work one.waiting refl w.called_so in_order one.are kept order)
           (are_heads (came ran.steps) (requests_in f.more) f.requests));
+      sender = all_from peer u ran.steps work one.waiting w.called_so in_order one.are tells.called tells.waits;
       last = last_of u.stage;
       answers = answers_so begun u ran.steps work (answers_in a.trace) refl (a.answers_so ∙ f.answers) handed w.given_so order;
       handed = λ enough. none_last u.stage (subst (λ (x : View). is_replying x.stage ≡ false) (ran.whole enough) (ends_hand polls may_give begun served.last end enough served.ends stands refl));

@@ -7,6 +7,7 @@ use Rattle.futures.specs.declared.task.context.Context.{Context}
 use Rattle.http_bodies.specs.Values.{holds}
 use Rattle.http_config.specs.Config.{Settings}
 use Rattle.http_types.specs.declared.error.DispatchError.{DispatchError}
+use Rattle.http_transport.specs.Peer.{PeerAddress}
 use Rattle.http_transport.specs.Wiring.{Wiring}
 use Rattle.h1_connection.specs.Steps.{Pair}
 use Rattle.h1_dispatcher.specs.Acts.{Act, polled, asked, ActsSay}
@@ -17,9 +18,9 @@ use Rattle.board_server.specs.declared.error.ServeError.{ServeError}
 use Rattle.board_server.specs.declared.error.ServeError.TheVariants.{Dispatch, Budget, NoMemory}
 use Rattle.board.specs.Work.{Worked, begun_work, serving_of, IsKept}
 
--- a new dispatcher over this transport, for the pass of this number, to which nothing was asked
-abbrev pub begun_view : Wiring → ℕ → Settings → Option (List Pair) → View
-begun_view transport number settings noted = view_begun transport (told_service (λ _. holds []) (serving_of (begun_work number))) settings noted
+-- a new dispatcher over this transport, with this peer, for the pass of this number, to which nothing was asked
+abbrev pub begun_view : Wiring → PeerAddress → ℕ → Settings → Option (List Pair) → Bool → View
+begun_view transport peer number settings noted listens = view_begun transport (told_service (λ _. holds []) (serving_of (begun_work number))) settings peer noted listens
 
 -- a poll at a moment that the clock may give, which was pending
 abbrev pub IsWait : (ℕ → Bool) → Act → Type 0

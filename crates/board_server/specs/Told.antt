@@ -6,6 +6,7 @@ use Rattle.http_config.specs.Config.{Settings}
 use Rattle.http_types.specs.Response.{FullResponse}
 use Rattle.http_types.specs.declared.error.DispatchError.TheVariants as error
 use Rattle.http_bodies.specs.Told.{Grows}
+use Rattle.http_transport.specs.Peer.{PeerAddress}
 use Rattle.http_transport.specs.Wiring.{Wiring}
 use Rattle.h1_encoder.specs.Meaning.{answer_of}
 use Rattle.model_h1.specs.Answer.{size_of}
@@ -17,6 +18,7 @@ use Rattle.model_h1.specs.Trace.{IsTrace}
 use Rattle.h1_connection.specs.EventMeaning.{setting_of}
 use Rattle.h1_connection.specs.Steps as noted
 use Rattle.h1_traced.specs.Traced.{SaysNoted}
+use Rattle.h1_dispatcher.specs.Peers.{AreFrom}
 use Rattle.h1_dispatcher.specs.Traces.{HasHead, answers_in, requests_in}
 use Rattle.board.specs.declared.command.Entry.{Entry}
 use Rattle.board.specs.Views.{Held}
@@ -66,13 +68,13 @@ Shows was now (Err (Dispatch e)) = ⊥
 Shows was now (Err Budget) = ⊤
 Shows was now (Err NoMemory) = ⊤
 
--- A connection with these settings was served, with a pass that is now this, from that transport on to this. What was noted is a
+-- A connection with these settings and this peer was served, with a pass that is now this, from that transport on to this. What was noted is a
 -- trace of it, the newest step first. Its reads took what the transport gave, all of it and in order, and what the transport took is
 -- what it wrote, where memory didn't run out. The requests of its heads are those that were answered, each with its answer,
--- and at most one more. Its answers are theirs, in order; where memory ran out the last one may not be among them. The pass has one entry
+-- and at most one more, and all are from that peer. Its answers are theirs, in order; where memory ran out the last one may not be among them. The pass has one entry
 -- for each answer of a call, in order, with the command of its request and the reply of its answer, and no other; but where
 -- memory ran out with the request that waits it may have the entry of that one.
-pub record IsTold (settings : Settings) (was now : Wiring) (noted : Option (List noted.Pair)) (pass : Held) (end : Result Unit ServeError) : Type 0 where
+pub record IsTold (settings : Settings) (was now : Wiring) (peer : PeerAddress) (noted : Option (List noted.Pair)) (pass : Held) (end : Result Unit ServeError) : Type 0 where
   pub trace : List sums.Step
   pub traced : IsTrace (setting_of settings) trace
   pub notes : SaysNoted noted trace
@@ -81,6 +83,7 @@ pub record IsTold (settings : Settings) (was now : Wiring) (noted : Option (List
   pub answered : List Pair
   pub waiting : Option Asking
   pub requests : AreHeads (map (λ p. p.0) answered ++ option_to_list waiting) (heads_in (requests_in trace))
+  pub sender : AreFrom peer (map (λ p. p.0) answered ++ option_to_list waiting)
   pub last : Option on.Event
   pub answers : answers_in trace ++ option_to_list last ≡ map (λ p. event_of p.1) answered
   pub handed : HadMemory end → last ≡ None

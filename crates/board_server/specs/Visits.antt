@@ -4,6 +4,7 @@ use Rattle.std.specs.List.{AllZip}
 use Rattle.http_config.specs.Causes.{Rose, counted}
 use Rattle.http_config.specs.Config.{Settings}
 use Rattle.http_transport.specs.Opening.{Opening, IsFresh}
+use Rattle.http_transport.specs.Peer.{PeerAddress}
 use Rattle.http_transport.specs.Wiring.{Wiring}
 use Rattle.h1_connection.specs.Steps.{Pair}
 use Rattle.board.specs.Views.{Held}
@@ -18,10 +19,12 @@ use Rattle.board_server.specs.declared.visit.Visit.{Visit}
 pub record WasServed (settings : Settings) (polls : ℕ) (may_give : ℕ → Bool) (now : Wiring) (noted : Option (List Pair)) (pass : Held) (end : Result Unit ServeError) : Type 0 where
   pub was : Wiring
   pub fresh : IsFresh was
+  pub peer : PeerAddress
   pub number : ℕ
   pub recorded : Option (List Pair)
-  pub served : HasServed (begun_view was number settings recorded) polls may_give now noted pass end
-  pub told : IsTold settings was now noted pass end
+  pub listens : Bool
+  pub served : HasServed (begun_view was peer number settings recorded listens) polls may_give now noted pass end
+  pub told : IsTold settings was now peer noted pass end
 
 -- a count after so many more
 abbrev pub counted_on : ℕ → ℕ → ℕ

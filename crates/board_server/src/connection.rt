@@ -67,8 +67,8 @@ where
     R: Wait + RandomSource + AllocGlobal,
     requires is_new { pass.entries ≡ [] }
     requires some { 0 < polls }
-    ensures served { HasServed (begun_view (W.wiring transport) pass.number config (L.noted recorder)) polls (K.may_give clock) (W.wiring result.transport) (L.noted result.recorder) result.pass.pass result.end }
-    ensures told { (L.noted recorder ≡ None) ⊎ (L.noted recorder ≡ Some []) → IsTold config (W.wiring transport) (W.wiring result.transport) (L.noted result.recorder) result.pass.pass result.end }
+    ensures served { HasServed (begun_view (W.wiring transport) (W.peer transport) pass.number config (L.noted recorder) (L.is_listening recorder)) polls (K.may_give clock) (W.wiring result.transport) (L.noted result.recorder) result.pass.pass result.end }
+    ensures told { (L.noted recorder ≡ None) ⊎ (L.noted recorder ≡ Some []) → IsTold config (W.wiring transport) (W.wiring result.transport) (W.peer transport) (L.noted result.recorder) result.pass.pass result.end }
 {
     poll_service(
         rt, config, transport, clock, shared, pass, gate, conn, polls, recorder,
@@ -97,12 +97,13 @@ where
     R: Wait + RandomSource + AllocGlobal,
     requires is_new { pass.entries ≡ [] }
     requires some { 0 < polls }
-    ensures served { HasServed (begun_view (W.wiring transport) pass.number config (L.noted recorder)) polls (K.may_give clock) (W.wiring result.transport) (L.noted result.recorder) result.pass.pass result.end }
-    ensures stands { (L.noted recorder ≡ None) ⊎ (L.noted recorder ≡ Some []) → TracedStands (begun_view (W.wiring transport) pass.number config (L.noted recorder)).traced [] }
+    ensures served { HasServed (begun_view (W.wiring transport) (W.peer transport) pass.number config (L.noted recorder) (L.is_listening recorder)) polls (K.may_give clock) (W.wiring result.transport) (L.noted result.recorder) result.pass.pass result.end }
+    ensures stands { (L.noted recorder ≡ None) ⊎ (L.noted recorder ≡ Some []) → TracedStands (begun_view (W.wiring transport) (W.peer transport) pass.number config (L.noted recorder) (L.is_listening recorder)).traced [] }
 {
     let alloc = rt.alloc();
     let service = BoardService::new(rt, alloc, shared, gate, conn, pass);
-    let mut dispatcher = Dispatcher::new(alloc, transport, service, config, recorder);
+    let peer = transport.peer_addr();
+    let mut dispatcher = Dispatcher::new(alloc, transport, service, config, peer, recorder);
     let end = poll_as_task(rt, &mut dispatcher, clock, polls);
     let (transport, service, recorder) = dispatcher.into_parts();
     Served {
@@ -128,8 +129,8 @@ where
     M: Ledger,
     R: Wait + RandomSource + AllocGlobal,
     requires open { MayBePolled (λ _. unknown_call) dispatcher.old }
-    requires answers { (view_of W.wiring (λ s. serving_of s.work) (λ _. unknown_call) (λ _. holds []) L.noted dispatcher.old).service.call_waits ≡ 0 }
-    ensures ends { Ends polls (K.may_give clock) (view_of W.wiring (λ s. serving_of s.work) (λ _. unknown_call) (λ _. holds []) L.noted dispatcher.old) (view_of W.wiring (λ s. serving_of s.work) (λ _. unknown_call) (λ _. holds []) L.noted dispatcher.new) result }
+    requires answers { (view_of W.wiring (λ s. serving_of s.work) (λ _. unknown_call) (λ _. holds []) L.noted L.is_listening dispatcher.old).service.call_waits ≡ 0 }
+    ensures ends { Ends polls (K.may_give clock) (view_of W.wiring (λ s. serving_of s.work) (λ _. unknown_call) (λ _. holds []) L.noted L.is_listening dispatcher.old) (view_of W.wiring (λ s. serving_of s.work) (λ _. unknown_call) (λ _. holds []) L.noted L.is_listening dispatcher.new) result }
 {
     match Solo::new(rt, Doorbell::spinning()) {
         Ok(task) => poll_to_end(dispatcher, &task, clock, polls),
@@ -152,8 +153,8 @@ where
     M: Ledger,
     R: Wait,
     requires open { MayBePolled (λ _. unknown_call) dispatcher.old }
-    requires answers { (view_of W.wiring (λ s. serving_of s.work) (λ _. unknown_call) (λ _. holds []) L.noted dispatcher.old).service.call_waits ≡ 0 }
-    ensures ends { Ends polls (K.may_give clock) (view_of W.wiring (λ s. serving_of s.work) (λ _. unknown_call) (λ _. holds []) L.noted dispatcher.old) (view_of W.wiring (λ s. serving_of s.work) (λ _. unknown_call) (λ _. holds []) L.noted dispatcher.new) result }
+    requires answers { (view_of W.wiring (λ s. serving_of s.work) (λ _. unknown_call) (λ _. holds []) L.noted L.is_listening dispatcher.old).service.call_waits ≡ 0 }
+    ensures ends { Ends polls (K.may_give clock) (view_of W.wiring (λ s. serving_of s.work) (λ _. unknown_call) (λ _. holds []) L.noted L.is_listening dispatcher.old) (view_of W.wiring (λ s. serving_of s.work) (λ _. unknown_call) (λ _. holds []) L.noted L.is_listening dispatcher.new) result }
 {
     let mut clock = clock;
     for count in 0..polls {
@@ -193,7 +194,7 @@ where
     M: Ledger,
     R: Wait,
     requires open { MayBePolled (λ _. unknown_call) dispatcher.old }
-    ensures polls { PollsAt (K.may_give clock.old) (view_of W.wiring (λ s. serving_of s.work) (λ _. unknown_call) (λ _. holds []) L.noted dispatcher.old) (view_of W.wiring (λ s. serving_of s.work) (λ _. unknown_call) (λ _. holds []) L.noted dispatcher.new) result }
+    ensures polls { PollsAt (K.may_give clock.old) (view_of W.wiring (λ s. serving_of s.work) (λ _. unknown_call) (λ _. holds []) L.noted L.is_listening dispatcher.old) (view_of W.wiring (λ s. serving_of s.work) (λ _. unknown_call) (λ _. holds []) L.noted L.is_listening dispatcher.new) result }
     ensures open { MayBePolled (λ _. unknown_call) dispatcher.new }
     ensures same { (moment : ℕ) → K.may_give clock.new moment ≡ K.may_give clock.old moment }
 {
@@ -211,7 +212,7 @@ where
     L: Recorder,
     M: Ledger,
     R: Wait,
-    ensures { result ≡ nat_lt 0 (view_of W.wiring (λ s. serving_of s.work) (λ _. unknown_call) (λ _. holds []) L.noted dispatcher.now).service.call_waits }
+    ensures { result ≡ nat_lt 0 (view_of W.wiring (λ s. serving_of s.work) (λ _. unknown_call) (λ _. holds []) L.noted L.is_listening dispatcher.now).service.call_waits }
 {
     dispatcher.service().is_stuck()
 }

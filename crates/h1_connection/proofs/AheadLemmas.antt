@@ -1,124 +1,207 @@
--- Heads that were read ahead are those that may be.
-use Rattle.std.proofs.Math.Seq.{drop-append_seam}
-use Rattle.std.proofs.Common.{◌≡◌, ℕ, zero, suc, ◌<◌, ◌≤◌, Bool, true, false, not, List, [], ◌∷◌, ◌++◌, length, Option, Some, None, inl, inr, refl, sym, ap, ◌∙◌, subst, arith, append_assoc, length-append}
-use Rattle.std.specs.Prelude.{slice_range, ◌&&◌, ◌⊎◌, nat_lt, ⊤}
-use Rattle.std.proofs.lemmas.Bool.{false≢true, ltb-false}
+-- The heads that stand ahead, by the bytes that were counted.
+use Rattle.std.proofs.Common.{◌≡◌, ℕ, zero, suc, ◌-◌, ◌<◌, ◌≤◌, Bool, true, false, List, [], ◌∷◌, ◌++◌, length, take, drop, slice_range, inl, refl, sym, ap, ◌∙◌, subst, arith, append_assoc, length-drop}
+use Rattle.std.specs.Prelude.{if◌then◌else◌}
+use Rattle.std.proofs.lemmas.List.{take-append-le, drop-append-le, take-append-drop, length-take}
+use Rattle.httparse.specs.Grammar.{print_end}
 use Rattle.httparse.proofs.RunLemmas.{length-slice_range}
-use Rattle.http_types.specs.declared.error.ParseError.{ParseError}
-use Rattle.model_h1.specs.HeadPiece.{IsHeadPiece, HasNoHeadPiece}
-use Rattle.model_h1.specs.Request.{BodyKind, has_body, Reading, head_is, faulty}
+use Rattle.model_h1.specs.HeadPiece.{AreBlankLines, EndsBlank, IsHeadPiece, HasNoHeadPiece}
+use Rattle.model_h1.specs.Request.{Reading}
 use Rattle.model_h1.specs.RequestHead.{IsReading, IsReadingWithin}
-use Rattle.model_h1.proofs.HeadPieceLemmas.{head_piece_append, slice_range-append}
+use Rattle.model_h1.proofs.HeadPieceLemmas.{head_piece_append, head_piece_unique, slice_range-append}
+use Rattle.model_h1.proofs.ReadingDecisions.{reading_of}
+use Rattle.model_h1.proofs.ReadingLemmas.{reading_unique}
 use Rattle.model_state.specs.Ahead.{is_bodiless, AreAhead}
-use Rattle.h1_decoder.specs.declared.decoder.HeadItem.{HeadItem}
-use Rattle.h1_connection.specs.Ahead.{joined, SaysRead, IsRead, AreRead, bare_by, has_no_body, last_has_none, may_go_on}
-use Rattle.h1_connection.specs.declared.connection.ahead.Slot.{Slot}
+use Rattle.h1_decoder.specs.HeadScan.{AnswersScan}
+use Rattle.h1_decoder.specs.declared.scan.HeadScan.{HeadScan}
+use Rattle.h1_decoder.specs.declared.scan.HeadScan.TheVariants.{Open, Piece}
+use Rattle.h1_connection.specs.Ahead.{read_as, counted_from, heads_in}
+use Rattle.h1_connection.specs.Scan.{scan_of}
+use Rattle.h1_connection.specs.Incoming.{Incoming, incoming, IsSearched}
+use Rattle.h1_connection.specs.declared.connection.head_search.Search.{Search}
+use Rattle.h1_connection.proofs.InputLemmas.{scan_is, cut_head, first_bytes}
+use Rattle.h1_connection.proofs.ScanLemmas.{scan_answers}
 
--- ---- a head
+-- ---- the number
 
--- whether another may follow it is what its reading says
-bare_says : (item : HeadItem) (refused : Option ParseError) (head : List ℕ) (what : Reading) → SaysRead item refused head what → bare_by refused item ≡ is_bodiless what
-bare_says item None head (head_is h) says = ap (λ (k : BodyKind). not (has_body k)) says.1.body
-bare_says item None head (faulty f) says = absurd says
-bare_says item (Some e) head (head_is h) says = absurd says
-bare_says item (Some e) head (faulty f) says = refl
+pub heads_zero : (bytes : List ℕ) → heads_in 0 bytes ≡ 0
+unfolding heads_in
+heads_zero bytes = refl
 
-pub bare_read : (s : Slot) (what : Reading) → IsRead s what → has_no_body s ≡ is_bodiless what
-bare_read s what read = bare_says s.item s.refused _ what read.says
+heads_suc : (limit : ℕ) (bytes : List ℕ) → heads_in (suc limit) bytes ≡ counted_from bytes (scan_of bytes) (λ rest. heads_in limit rest)
+unfolding heads_in
+heads_suc limit bytes = refl
 
--- its bytes are read so
-says_reading : (item : HeadItem) (refused : Option ParseError) (head : List ℕ) (what : Reading) → SaysRead item refused head what → IsReading head what
-says_reading item None head (head_is h) says = says.0
-says_reading item None head (faulty f) says = absurd says
-says_reading item (Some e) head (head_is h) says = absurd says
-says_reading item (Some e) head (faulty f) says = says.2
+-- where the search finds this
+heads_at : (limit : ℕ) (bytes : List ℕ) (found : HeadScan) → found ≡ scan_of bytes → heads_in (suc limit) bytes ≡ counted_from bytes found (λ rest. heads_in limit rest)
+heads_at limit bytes found is = heads_suc limit bytes ∙ ap (λ (p : HeadScan). counted_from bytes p (λ rest. heads_in limit rest)) (sym is)
 
--- also with others behind them
-reads_with : (hold : ℕ) (s : Slot) (what : Reading) (rest : List ℕ) (read : IsRead s what) → length (s.piece ++ rest) ≤ hold
-    → IsHeadPiece (s.piece ++ rest) read.start (length s.piece) × IsReadingWithin hold (slice_range (s.piece ++ rest) read.start (length s.piece)) what
-reads_with hold s what rest read fits =
-    let n = length s.piece in
-    let here = read.here in
-    let same = slice_range-append s.piece rest read.start n here.ordered here.in_range in
-    let long = length-slice_range s.piece read.start n here.ordered here.in_range in
-    let less : length (slice_range s.piece read.start n) ≤ hold = omega (arith, long, fits, length-append s.piece rest) in (
-      head_piece_append s.piece rest read.start n here,
-      inl (
-        subst (λ (l : List ℕ). length l ≤ hold) (sym same) less,
-        subst (λ (l : List ℕ). IsReading l what) (sym same) (says_reading s.item s.refused _ what read.says),
-      ),
-    )
+-- no head, none counted
+pub heads_none : (limit : ℕ) (bytes : List ℕ) → HasNoHeadPiece bytes → heads_in limit bytes ≡ 0
+heads_none zero bytes none = heads_zero bytes
+heads_none (suc limit) bytes none = heads_at limit bytes Open (scan_is bytes Open none)
 
--- ---- all of them
+-- a head that is read so
+abbrev pub with_behind : ℕ → Bool → List ℕ → ℕ
+with_behind limit bodiless rest = suc (if bodiless then heads_in limit rest else 0)
 
--- what they are read as
-abbrev pub readings_of : (heads : List Slot) → AreRead heads → List Reading
-readings_of [] are = []
-readings_of (s ∷ more) are = are.0.0 ∷ readings_of more are.1
+pub heads_one : (limit : ℕ) (bytes : List ℕ) (start end : ℕ) (what : Reading) → IsHeadPiece bytes start end → IsReading (slice_range bytes start end) what
+    → heads_in (suc limit) bytes ≡ with_behind limit (is_bodiless what) (drop end bytes)
+heads_one limit bytes start end what here reads =
+    let same : read_as (slice_range bytes start end) ≡ what =
+    reading_unique (slice_range bytes start end) (read_as (slice_range bytes start end)) what (reading_of (slice_range bytes start end)).1 reads in
+    heads_at limit bytes (Piece start end) (scan_is bytes (Piece start end) here) ∙ ap (λ (r : Reading). with_behind limit (is_bodiless r) (drop end bytes)) same
 
-pub readings_count : (heads : List Slot) (are : AreRead heads) → length (readings_of heads are) ≡ length heads
-readings_count [] are = refl
-readings_count (s ∷ more) are = ap suc (readings_count more are.1)
+pub one_some : (limit : ℕ) (bytes : List ℕ) (start end : ℕ) → IsHeadPiece bytes start end → 0 < limit → 0 < heads_in limit bytes
+one_some zero bytes start end here some = absurd (omega (arith, some))
+one_some (suc limit) bytes start end here some =
+    let one = heads_one limit bytes start end (read_as (slice_range bytes start end)) here (reading_of (slice_range bytes start end)).1 in
+    omega (arith, one)
 
--- no further one may be read behind them, of at most so many behind one that has no body or has one
-abbrev pub IsEnd : ℕ → Bool → List Slot → List ℕ → Type 0
-IsEnd zero bare heads rest = ⊤
-IsEnd (suc limit) bare [] rest = (bare ≡ false) ⊎ HasNoHeadPiece rest
-IsEnd (suc limit) bare (s ∷ more) rest = IsEnd limit (has_no_body s) more rest
+-- where one may be counted
+pub one_bodied : (limit : ℕ) (bytes : List ℕ) (start end : ℕ) (what : Reading) → ¬ (limit ≡ 0) → IsHeadPiece bytes start end → IsReading (slice_range bytes start end) what
+    → is_bodiless what ≡ false → heads_in limit bytes ≡ 1
+one_bodied zero bytes start end what may here reads body = absurd (may refl)
+one_bodied (suc limit) bytes start end what may here reads body =
+    heads_one limit bytes start end what here reads ∙ ap (λ (b : Bool). with_behind limit b (drop end bytes)) body
 
-are_ahead : (hold limit : ℕ) (bare : Bool) (heads : List Slot) (rest : List ℕ) (are : AreRead heads) → (0 < length heads → bare ≡ true) → length heads ≤ limit
-    → length (joined heads ++ rest) ≤ hold → IsEnd limit bare heads rest → AreAhead hold limit bare (joined heads ++ rest) (readings_of heads are)
-are_ahead hold zero bare [] rest are first few fits end = refl
-are_ahead hold zero bare (s ∷ more) rest are first few fits end = absurd (omega (arith, few))
-are_ahead hold (suc limit) false [] rest are first few fits end = refl
-are_ahead hold (suc limit) false (s ∷ more) rest are first few fits end = absurd (false≢true (first (omega arith)))
-are_ahead hold (suc limit) true [] rest are first few fits (inl is) = absurd (false≢true (sym is))
-are_ahead hold (suc limit) true [] rest are first few fits (inr none) = none
-are_ahead hold (suc limit) true (s ∷ more) rest are first few fits end =
-    let what = are.0.0 in
-    let read = are.0.1 in
-    let split : (s.piece ++ joined more) ++ rest ≡ s.piece ++ (joined more ++ rest) = append_assoc s.piece (joined more) rest in
-    let whole : length (s.piece ++ (joined more ++ rest)) ≤ hold = subst (λ (l : List ℕ). length l ≤ hold) split fits in
-    let here = reads_with hold s what (joined more ++ rest) read whole in
-    let less : length (joined more ++ rest) ≤ hold = omega (arith, whole, length-append s.piece (joined more ++ rest)) in
-    let bare : has_no_body s ≡ is_bodiless what = bare_read s what read in
-    let goes = are_ahead hold limit (is_bodiless what) more rest are.1 are.0.2 (omega (arith, few)) less (subst (λ (b : Bool). IsEnd limit b more rest) bare end) in
-    subst (λ (l : List ℕ). AreAhead hold (suc limit) true l (what ∷ readings_of more are.1)) (sym split) (
-      read.start,
-      length s.piece,
-      here.0,
-      here.1,
-      subst (λ (l : List ℕ). AreAhead hold limit (is_bodiless what) l (readings_of more are.1)) (sym (drop-append_seam s.piece (joined more ++ rest))) goes,
-    )
+pub one_more : (limit : ℕ) (bytes : List ℕ) (start end : ℕ) (what : Reading) → ¬ (limit ≡ 0) → IsHeadPiece bytes start end → IsReading (slice_range bytes start end) what
+    → is_bodiless what ≡ true → heads_in limit bytes ≡ suc (heads_in (limit - 1) (drop end bytes))
+one_more zero bytes start end what may here reads bare = absurd (may refl)
+one_more (suc limit) bytes start end what may here reads bare =
+    let less : limit ≡ suc limit - 1 = omega arith in
+    heads_one limit bytes start end what here reads ∙ ap (λ (b : Bool). with_behind limit b (drop end bytes)) bare
+    ∙ ap (λ (n : ℕ). suc (heads_in n (drop end bytes))) less
 
--- ---- where the reading ended
+-- where a scan finds none
+pub none_found : (bytes : List ℕ) (found : HeadScan) → AnswersScan bytes found → ((start end : ℕ) → ¬ (found ≡ Piece start end)) → HasNoHeadPiece bytes
+none_found bytes Open answer none = answer
+none_found bytes (Piece start end) answer none = absurd (none start end refl)
 
--- at the most that may be, behind one that has a body, or where no further one is whole
-ends : (limit : ℕ) (s : Slot) (more : List Slot) (rest : List ℕ) → (last_has_none s more ≡ false) ⊎ HasNoHeadPiece rest → IsEnd limit (has_no_body s) more rest
-ends zero s more rest end = tt
-ends (suc limit) s [] rest end = end
-ends (suc limit) s (t ∷ more) rest end = ends limit t more rest end
+-- at most as many as may be
+cond_within : (b : Bool) (m n : ℕ) → m ≤ n → (if b then m else 0) ≤ n
+cond_within true m n fits = fits
+cond_within false m n fits = omega arith
 
-full_ends : (limit : ℕ) (bare : Bool) (heads : List Slot) (rest : List ℕ) → limit ≤ length heads → IsEnd limit bare heads rest
-full_ends zero bare heads rest full = tt
-full_ends (suc limit) bare [] rest full = absurd (omega (arith, full))
-full_ends (suc limit) bare (s ∷ more) rest full = full_ends limit (has_no_body s) more rest (omega (arith, full))
+counted_within : (limit : ℕ) (bytes : List ℕ) (found : HeadScan) (behind : List ℕ → ℕ) → ((rest : List ℕ) → behind rest ≤ limit) → counted_from bytes found behind ≤ suc limit
+counted_within limit bytes Open behind fits = omega arith
+counted_within limit bytes (Piece start end) behind fits =
+    let less = cond_within (is_bodiless (read_as (slice_range bytes start end))) (behind (drop end bytes)) limit (fits (drop end bytes)) in
+    omega (arith, less)
 
-both_false : (a b : Bool) → (a && b) ≡ false → (a ≡ false) ⊎ (b ≡ false)
-both_false false b is = inl refl
-both_false true b is = inr is
+pub heads_within : (limit : ℕ) (bytes : List ℕ) → heads_in limit bytes ≤ limit
+heads_within zero bytes = omega (arith, heads_zero bytes)
+heads_within (suc limit) bytes = omega (arith, heads_suc limit bytes, counted_within limit bytes (scan_of bytes) (λ rest. heads_in limit rest) (λ rest. heads_within limit rest))
 
-no_more : (s : Slot) (more : List Slot) (rest : List ℕ) → (nat_lt (suc (length more)) 17 ≡ false) ⊎ (last_has_none s more ≡ false) → IsEnd 16 (has_no_body s) more rest
-no_more s more rest (inl full) = full_ends 16 (has_no_body s) more rest (omega (arith, ltb-false (suc (length more)) 17 full))
-no_more s more rest (inr last) = ends 16 s more rest (inl last)
+-- ---- by the readings
 
-pub read_all : (s : Slot) (more : List Slot) (rest : List ℕ) → (may_go_on (s ∷ more) ≡ false) ⊎ HasNoHeadPiece rest → IsEnd 16 (has_no_body s) more rest
-read_all s more rest (inl done) = no_more s more rest (both_false (nat_lt (suc (length more)) 17) (last_has_none s more) done)
-read_all s more rest (inr none) = ends 16 s more rest (inr none)
+-- There are as many readings, and they are those of the heads that may follow.
+pub record AreCounted (limit : ℕ) (bodiless : Bool) (bytes : List ℕ) (n : ℕ) : Type 0 where
+  pub readings : List Reading
+  pub count : n ≡ length readings
+  pub are : (hold : ℕ) → length bytes ≤ hold → AreAhead hold limit bodiless bytes readings
 
--- So behind the first of those that were read are as many as may be.
-pub ahead_behind : (hold : ℕ) (s : Slot) (more : List Slot) (rest : List ℕ) (are : AreRead (s ∷ more)) → length more ≤ 16 → length (joined more ++ rest) ≤ hold
-    → (may_go_on (s ∷ more) ≡ false) ⊎ HasNoHeadPiece rest → AreAhead hold 16 (has_no_body s) (joined more ++ rest) (readings_of more are.1)
-ahead_behind hold s more rest are few fits end =
-    let bare = bare_read s are.0.0 are.0.1 in
-    are_ahead hold 16 (has_no_body s) more rest are.1 (λ some. bare ∙ are.0.2 some) few fits (read_all s more rest end)
+-- a piece that fits is read so within a size
+within_size : (hold : ℕ) (bytes : List ℕ) (start end : ℕ) (what : Reading) → IsHeadPiece bytes start end → IsReading (slice_range bytes start end) what → length bytes ≤ hold
+    → IsReadingWithin hold (slice_range bytes start end) what
+within_size hold bytes start end what here reads fits =
+    inl (omega (arith, length-slice_range bytes start end here.ordered here.in_range, here.in_range, fits), reads)
+
+-- behind one that has a body there is none
+pub none_behind : (limit : ℕ) (bytes : List ℕ) → AreCounted limit false bytes 0
+none_behind zero bytes = record { readings = []; count = refl; are = λ hold fits. refl }
+none_behind (suc limit) bytes = record { readings = []; count = refl; are = λ hold fits. refl }
+
+behind_read : (limit : ℕ) (bodiless : Bool) (rest : List ℕ) → AreCounted limit true rest (heads_in limit rest) → AreCounted limit bodiless rest (if bodiless then heads_in limit rest else 0)
+behind_read limit true rest read = read
+behind_read limit false rest read = none_behind limit rest
+
+found_read : (limit : ℕ) (bytes : List ℕ) (found : HeadScan) → ((rest : List ℕ) → AreCounted limit true rest (heads_in limit rest)) → found ≡ scan_of bytes → AnswersScan bytes found
+    → AreCounted (suc limit) true bytes (heads_in (suc limit) bytes)
+found_read limit bytes Open read is none = record { readings = []; count = heads_at limit bytes Open is; are = λ hold fits. none }
+found_read limit bytes (Piece start end) read is here =
+    let piece = slice_range bytes start end in
+    let what = read_as piece in
+    let rest = drop end bytes in
+    let more = behind_read limit (is_bodiless what) rest (read rest) in
+    record {
+      readings = what ∷ more.readings;
+      count = heads_at limit bytes (Piece start end) is ∙ ap suc more.count;
+      are = λ hold fits. (
+        start,
+        end,
+        here,
+        within_size hold bytes start end what here (reading_of piece).1 fits,
+        more.are hold (omega (arith, length-drop end bytes, fits)),
+      );
+    }
+
+pub heads_read : (limit : ℕ) (bytes : List ℕ) → AreCounted limit true bytes (heads_in limit bytes)
+heads_read zero bytes = record { readings = []; count = heads_zero bytes; are = λ hold fits. refl }
+heads_read (suc limit) bytes = found_read limit bytes (scan_of bytes) (λ rest. heads_read limit rest) refl (scan_answers bytes)
+
+-- ---- the first of the bytes
+
+-- a head that ends within so many bytes is that of the first so many
+pub head_in_first : (n : ℕ) (bytes : List ℕ) (s e : ℕ) → IsHeadPiece bytes s e → e ≤ n → IsHeadPiece (take n bytes) s e
+head_in_first n bytes s e piece near =
+    let front = take n bytes in
+    let back = drop n bytes in
+    let fits : e ≤ length front = omega (arith, length-take n bytes, near, piece.in_range) in
+    let there : IsHeadPiece (front ++ back) s e = subst (λ (b : List ℕ). IsHeadPiece b s e) (sym (take-append-drop n bytes)) piece in
+    let start : s ≤ length front = omega (arith, fits, piece.ordered) in
+    record {
+      ordered = piece.ordered;
+      in_range = fits;
+      blank = subst AreBlankLines (take-append-le s front back start) there.blank;
+      begins = λ (end, rest, is). there.begins
+          (end, rest ++ back, drop-append-le s front back start ∙ ap (λ (l : List ℕ). l ++ back) is ∙ append_assoc (print_end end) rest back);
+      ends = subst EndsBlank (slice_range-append front back s e piece.ordered fits) there.ends;
+      first = λ e' low less ends. there.first e' low less
+          (subst EndsBlank (sym (slice_range-append front back s e' low (omega (arith, fits, less)))) ends);
+    }
+
+-- of the first bytes the piece is the same
+pub slice_in_first : (n : ℕ) (bytes : List ℕ) (s e : ℕ) → IsHeadPiece bytes s e → e ≤ n → slice_range (take n bytes) s e ≡ slice_range bytes s e
+slice_in_first n bytes s e piece near =
+    let fits : e ≤ length (take n bytes) = omega (arith, length-take n bytes, near, piece.in_range) in
+    sym (slice_range-append (take n bytes) (drop n bytes) s e piece.ordered fits) ∙ ap (λ (l : List ℕ). slice_range l s e) (take-append-drop n bytes)
+
+-- one of the first bytes is that of all
+first_in_all : (n : ℕ) (bytes : List ℕ) (s e : ℕ) → IsHeadPiece (take n bytes) s e → IsHeadPiece bytes s e
+first_in_all n bytes s e here = subst (λ (b : List ℕ). IsHeadPiece b s e) (take-append-drop n bytes) (head_piece_append (take n bytes) (drop n bytes) s e here)
+
+-- where there is none, or it ends behind them, the first bytes have none
+pub none_in_none : (n : ℕ) (bytes : List ℕ) → HasNoHeadPiece bytes → HasNoHeadPiece (take n bytes)
+none_in_none n bytes none s e here = none s e (first_in_all n bytes s e here)
+
+pub none_in_first : (n : ℕ) (bytes : List ℕ) (s e : ℕ) → IsHeadPiece bytes s e → n < e → HasNoHeadPiece (take n bytes)
+none_in_first n bytes s e here far s' e' there =
+    let same = head_piece_unique bytes s e s' e' here (first_in_all n bytes s' e' there) in
+    omega (arith, far, same.1, there.in_range, length-take n bytes)
+
+-- ---- where the first head was cut off
+
+-- where it ends behind them none is counted
+pub cut_none : (limit n : ℕ) (front bytes : List ℕ) (search : Search) (i : Incoming) → incoming front bytes search ≡ i → IsSearched front bytes search → n < length front
+    → heads_in limit (take n i.unread) ≡ 0
+cut_none limit n front bytes search i view searched less =
+    let here = cut_head front bytes search searched (λ none. absurd (omega (arith, less, ap (λ (l : List ℕ). length l) none))) in
+    ap (λ (j : Incoming). heads_in limit (take n j.unread)) (sym view)
+    ∙ heads_none limit (take n (front ++ bytes)) (none_in_first n (front ++ bytes) here.0 (length front) here.1 less)
+
+-- and else it is
+pub cut_some : (limit n : ℕ) (front bytes : List ℕ) (search : Search) (i : Incoming) → incoming front bytes search ≡ i → IsSearched front bytes search → ¬ (length front ≡ 0)
+    → length front ≤ n → ¬ (limit ≡ 0) → 0 < heads_in limit (take n i.unread)
+cut_some limit n front bytes search i view searched some near may =
+    let here = cut_head front bytes search searched (λ none. some (ap (λ (l : List ℕ). length l) none)) in
+    let one = one_some limit (take n (front ++ bytes)) here.0 (length front) (head_in_first n (front ++ bytes) here.0 (length front) here.1 near) (omega (arith, may)) in
+    subst (λ (j : Incoming). 0 < heads_in limit (take n j.unread)) view one
+
+-- the bytes that are counted
+pub cut_bytes : (n : ℕ) (front bytes : List ℕ) (search : Search) (i : Incoming) → incoming front bytes search ≡ i → length front ≤ n
+    → front ++ take (n - length front) bytes ≡ take n i.unread
+cut_bytes n front bytes search i view near = sym (first_bytes front bytes n near) ∙ ap (λ (j : Incoming). take n j.unread) view
+
+pub uncut_bytes : (n : ℕ) (front bytes : List ℕ) (search : Search) (i : Incoming) → incoming front bytes search ≡ i → length front ≡ 0 → take n bytes ≡ take n i.unread
+uncut_bytes n [] bytes search i view none = ap (λ (j : Incoming). take n j.unread) view
+uncut_bytes n (b ∷ front) bytes search i view none = absurd (omega (arith, none))

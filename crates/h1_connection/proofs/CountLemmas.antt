@@ -1,4 +1,4 @@
--- How the number of heads that are read ahead goes on.
+-- How the number of heads that stand ahead goes on.
 use Rattle.std.proofs.Common.{◌≡◌, ◌≢◌, ℕ, suc, List, ◌∷◌, length, sym, refl}
 use Rattle.model_h1.specs.Request.{Head, Fault, Reading, head_is}
 use Rattle.model_h1.specs.Setting.{Setting}
@@ -11,7 +11,7 @@ use Rattle.model_state.specs.Ahead.{MAX_AHEAD, is_bodiless, AreAhead, decoded_be
 use Rattle.model_state.proofs.Counts.{next_decodes}
 use Rattle.model_state.proofs.Numbers.{other_event, other_outcome, goes_on}
 
--- behind a head where none was read ahead
+-- behind a head where none stood ahead
 pub decodes : (setting : Setting) (k : Kept) (trace : List Step) (h : Head) (readings : List Reading) → IsAhead setting trace 0
     → StandsFor setting k (record { event = on.next; outcome = on.head h } ∷ trace) → AreAhead setting.hold_size MAX_AHEAD (is_bodiless (head_is h)) k.unread readings
     → IsAhead setting (record { event = on.next; outcome = on.head h } ∷ trace) (length readings)

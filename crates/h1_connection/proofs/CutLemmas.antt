@@ -1,20 +1,15 @@
 -- A head that was parsed and cut off where no byte was searched.
-use Rattle.std.proofs.Math.Seq.{take-append_seam, drop-append_seam}
+use Rattle.std.proofs.Math.Seq.{take-append_seam}
 use Rattle.std.proofs.lemmas.Slice.{between_is}
-use Rattle.std.proofs.Common.{◌≡◌, ◌≢◌, ℕ, true, List, [], ◌++◌, length, take, drop, Some, inl, inr, refl, sym, ap, ◌∙◌, subst}
+use Rattle.std.proofs.Common.{◌≡◌, ℕ, List, [], ◌++◌, length, take, Some, inl, inr, refl, sym, ap, ◌∙◌, subst}
 use Rattle.std.specs.Prelude.{slice_range, ◌⊎◌}
 use Rattle.model_h1.specs.HeadPiece.{IsHeadPiece}
-use Rattle.http_framing.specs.Kinds.{kind_of}
-use Rattle.model_h1.specs.Request.{has_body}
-use Rattle.h1_decoder.specs.declared.decoder.FrontHead.{FrontHead}
-use Rattle.h1_decoder.specs.declared.decoder.FrontHead.TheVariants.{Missing, Read, Left}
-use Rattle.h1_decoder.specs.declared.decoder.HeadItem.{HeadItem}
 use Rattle.h1_decoder.specs.declared.scan.HeadScan.{HeadScan}
 use Rattle.h1_decoder.specs.declared.scan.HeadScan.TheVariants.{Piece}
 use Rattle.h1_connection.specs.Scan.{scan_of}
-use Rattle.h1_connection.specs.Incoming.{Incoming, incoming, due_in, is_coming_in, IsHeadIn, IsHeadOf, IsWhole, IsSearchedTo, IsSearched, HasSearched, IsCutNoted, IsAlone, IsAloneIn}
-use Rattle.h1_connection.specs.declared.connection.input.Search.{Search}
-use Rattle.h1_connection.specs.declared.connection.input.Search.TheVariants.{Off, Due, Done}
+use Rattle.h1_connection.specs.Incoming.{Incoming, incoming, due_in, is_coming_in, IsHeadIn, IsHeadOf, IsWhole, IsSearchedTo, IsSearched, HasSearched, IsCutNoted}
+use Rattle.h1_connection.specs.declared.connection.head_search.Search.{Search}
+use Rattle.h1_connection.specs.declared.connection.head_search.Search.TheVariants.{Off, Due, Done}
 use Rattle.h1_connection.proofs.InputLemmas.{scan_is, due_front, due_searched, due_incoming}
 
 -- the view of bytes that weren't searched
@@ -37,23 +32,6 @@ found_head front rest bytes all here =
     sym (between_is bytes 0 (length front) ∙ ap (take (length front)) (sym all) ∙ take-append_seam front rest) in
     subst (λ (p : HeadScan). IsHeadIn (due_in bytes) (Some p) (Some front)) (sym (found_piece bytes (length front) here))
     (here, ap (λ (l : List ℕ). Some l) cut)
-
--- a head that was cut off is the one that was found
-pub read_piece_at : {P : Type 0} (found : FrontHead) → found ≡ Read → (found ≢ Missing → P) → P
-read_piece_at found is here = here (λ missing. let no : Read ≡ Missing = sym is ∙ missing in cc no)
-
-pub left_piece_at : {P : Type 0} (found : FrontHead) → found ≡ Left → (found ≢ Missing → P) → P
-left_piece_at found is here = here (λ missing. let no : Left ≡ Missing = sym is ∙ missing in cc no)
-
--- it has a body, or no byte is left behind it
-pub due_alone : (front rest bytes : List ℕ) (item : HeadItem) → front ++ rest ≡ bytes → IsHeadPiece bytes 0 (length front)
-    → (has_body (kind_of item.body) ≡ true) ⊎ (rest ≡ []) → IsAlone (due_in bytes) item
-due_alone front rest bytes item all here alone =
-    subst (λ (p : HeadScan). IsAloneIn (due_in bytes) (Some p) item) (sym (found_piece bytes (length front) here)) (behind alone)
-  where
-    behind : (has_body (kind_of item.body) ≡ true) ⊎ (rest ≡ []) → (has_body (kind_of item.body) ≡ true) ⊎ (drop (length front) bytes ≡ [])
-    behind (inl is) = inl is
-    behind (inr is) = inr (ap (drop (length front)) (sym all) ∙ drop-append_seam front rest ∙ is)
 
 -- ---- what is kept behind it
 

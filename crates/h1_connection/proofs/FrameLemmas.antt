@@ -97,7 +97,7 @@ upgrades p request is raw =
       },
     )
 
--- one that may be upgraded has none read ahead behind it
+-- one that may be upgraded has none counted behind it
 raw_leaves : (p : Parts) (e : Option Exchange) → is_raw_request (kept_of (record p { exchange = e })) ≡ true → leaves_body (kept_of (record p { exchange = e })) ≡ true
 raw_leaves p None raw = raw
 raw_leaves p (Some x) raw = ap (λ (b : Bool). b || not (is_nothing x.rest)) raw
@@ -199,7 +199,7 @@ upgraded_none p is may = may.searched (upgraded_case p p.exchange is)
 pub upgraded_unsearched : (s : Settings) (p : Parts) → is_upgraded (kept_of p) ≡ true → IsSound s p → p.input.piece ≡ None
 upgraded_unsearched s p is sound = upgraded_none p is (sound_may s p sound)
 
--- nor read ahead
+-- nor is one counted
 leaves_frames : (raw : Bool) (rest : Rest) → is_frames rest ≡ true → (raw || not (is_nothing rest)) ≡ true
 leaves_frames true rest is = refl
 leaves_frames false no_rest is = absurd (cc is)

@@ -20,8 +20,8 @@ use Rattle.h1_connection.specs.Frames.{IsFramePulled, IsLightFrame}
 use Rattle.h1_connection.specs.Incoming.{piece_of, IsSearched}
 use Rattle.h1_connection.specs.Stock.{Stock}
 use Rattle.h1_connection.specs.declared.connection.frames.PulledFrame.TheVariants as pulled
-use Rattle.h1_connection.specs.declared.connection.input.Search.{Search}
-use Rattle.h1_connection.specs.declared.connection.input.Search.TheVariants.{Off, Due, Done}
+use Rattle.h1_connection.specs.declared.connection.head_search.Search.{Search}
+use Rattle.h1_connection.specs.declared.connection.head_search.Search.TheVariants.{Off, Due, Done}
 
 -- ---- the bytes
 

@@ -62,7 +62,7 @@ state_of s p = record { settings = s; kept = kept_of p; marks = p.output.marks; 
 pub same_state : {A E : Type 0} (r : Result A E) (s : Settings) (p q : Parts) (now : State) → state_of s p ≡ now → OnErr r (q ≡ p) → OnErr r (state_of s q ≡ now)
 same_state r s p q now view same = err_map r (q ≡ p) (state_of s q ≡ now) (λ e. ap (λ (p : Parts). state_of s p) e ∙ view) same
 
--- what the event and its outcome do to the number of heads that were read ahead, behind each trace
+-- what the event and its outcome do to the number of heads that stand ahead, behind each trace
 abbrev AheadGoes : Settings → Parts → on.Event → on.Outcome → Parts → Type 0
 AheadGoes s p event out q =
     (trace : List sums.Step) → Stands (state_of s p) trace → Stands (state_of s q) (record { event = event; outcome = out } ∷ trace)

@@ -297,7 +297,7 @@ handed_kept s p after x h start end runs at passed item piece reading says fresh
     sym (noted_same set (kept_of (handed p after x)) (handed_noted set p after x runs waits plain))
     ∙ (λ i. noting_since set (record (kept_of p) { unread = ends.0 i; is_coming = is_coming_in (ends.1 i); exchange = Some (exchange i) }))
 
--- it may have heads read ahead behind it where it has no body
+-- heads may be counted behind it where it has no body
 bare_rest : (ended : Bool) (unread : List ℕ) (body : model.BodyKind) → not (model.has_body body) ≡ true → is_nothing (rest_in ended unread (whole_rest body)) ≡ true
 bare_rest true [] model.no_body bare = refl
 bare_rest true (b ∷ unread) model.no_body bare = refl
@@ -342,7 +342,7 @@ handed_sound s p after x item sound runs out fresh =
       noted = handed_noted (setting_of s) p after x runs waits (rest_plain p.has_ended after.unread (kind_of item.body) x.rest fresh.rest);
     }
 
--- ---- where no head is there, none was read ahead
+-- ---- where no head is there, none is counted
 
 -- an answered request of which something is left
 left_open : (k : Kept) (e : Option machine.Exchange) → is_open (record k { exchange = e }) ≡ false → is_free (record k { exchange = e }) ≡ false

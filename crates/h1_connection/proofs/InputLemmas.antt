@@ -1,8 +1,8 @@
 -- The search for a head in the bytes that are held.
-use Rattle.std.proofs.Math.Seq.{drop-append_seam}
+use Rattle.std.proofs.Math.Seq.{take-append-add}
 use Rattle.std.proofs.lemmas.Grind.{common_steps}
 use Rattle.std.proofs.lemmas.List.{take_all}
-use Rattle.std.proofs.Common.{◌≡◌, ℕ, zero, suc, ◌≤◌, ◌-◌, true, false, List, [], ◌∷◌, ◌++◌, length, take, drop, Option, Some, None, inl, inr, refl, sym, ap, ◌∙◌, subst, arith, append-nil, append_assoc}
+use Rattle.std.proofs.Common.{◌≡◌, ℕ, zero, suc, ◌+◌, ◌≤◌, ◌-◌, true, false, List, [], ◌∷◌, ◌++◌, length, take, drop, Option, Some, None, inl, inr, refl, sym, ap, ◌∙◌, subst, arith, append-nil, append_assoc}
 use Rattle.std.specs.Prelude.{is_some, slice_range, ◌⊎◌, IsTrue}
 use Rattle.model_h1.specs.HeadPiece.{IsHeadPiece, HasNoHeadPiece}
 use Rattle.bytes.proofs.Ranges.{slice_range_front}
@@ -13,10 +13,10 @@ use Rattle.h1_decoder.specs.HeadPosition.{HeadPosition, HasScanned}
 use Rattle.h1_decoder.specs.HeadScan.{AnswersScan}
 use Rattle.h1_decoder.proofs.HeadPieceLemmas.{HasScanned-append, AnswersScan-found}
 use Rattle.h1_connection.specs.Scan.{scan_of}
-use Rattle.h1_connection.specs.Incoming.{Incoming, piece_of, incoming, IsFoundIn, IsHeadIn, IsHeadOf, IsPieceOf, IsSearchedTo, IsSearched, CanScan, CanGoOn, HasSearched, GoesOnTo, GoesOnIn, IsCaughtUp, IsWhole, IsPassedIn, IsPassedHead, IsTakenIn, IsTakenHead, is_coming_in}
-use Rattle.h1_connection.specs.declared.connection.input.Scan.{Scan}
-use Rattle.h1_connection.specs.declared.connection.input.Search.{Search}
-use Rattle.h1_connection.specs.declared.connection.input.Search.TheVariants.{Off, Due, Done}
+use Rattle.h1_connection.specs.Incoming.{Incoming, piece_of, incoming, IsFoundIn, IsHeadIn, IsHeadOf, IsPieceOf, IsSearchedTo, IsSearched, CanScan, CanGoOn, HasSearched, GoesOnTo, GoesOnIn, IsCaughtUp, IsWhole, IsPassedIn, IsPassedHead, is_coming_in}
+use Rattle.h1_connection.specs.declared.connection.head_search.Scan.{Scan}
+use Rattle.h1_connection.specs.declared.connection.head_search.Search.{Search}
+use Rattle.h1_connection.specs.declared.connection.head_search.Search.TheVariants.{Off, Due, Done}
 use Rattle.h1_connection.proofs.ScanLemmas.{scan_answers}
 
 -- ---- what a search finds
@@ -243,72 +243,22 @@ no_head_in i None none = refl
 no_head_in i (Some Open) none = refl
 no_head_in i (Some (Piece start end)) none = absurd (cc none)
 
--- ---- the head's bytes are taken from the others
+-- ---- the first bytes
 
-taken_in : (front bytes cut rest : List ℕ) (i : Incoming) (search after : Search) (scan : Scan) (start end : ℕ) → incoming front bytes search ≡ i
-    → incoming front bytes after ≡ incoming front bytes search → after ≡ Done scan → scan.piece ≡ Piece start end → IsSearched front bytes after
-    → cut ≡ take end (front ++ bytes) → cut ++ rest ≡ front ++ bytes → IsTakenHead i cut (incoming [] rest Off)
-taken_in front bytes cut rest i search after scan start end view same is found searched cut_is all =
-    let piece : i.piece ≡ Some (Piece start end) =
-    ap (λ (j : Incoming). j.piece) (sym view ∙ sym same) ∙ ap (piece_of (front ++ bytes)) is ∙ ap (λ (p : HeadScan). Some p) found in
-    let here = (piece_searched front bytes after scan start end is found searched).0 in
-    let long : length cut ≡ end = ap length cut_is ∙ take_length end (front ++ bytes) here.in_range in
-    let whole : front ++ bytes ≡ i.unread = ap (λ (j : Incoming). j.unread) view in
-    let rest_is : rest ≡ drop end i.unread =
-    sym (drop-append_seam cut rest) ∙ ap (λ (n : ℕ). drop n (cut ++ rest)) long ∙ ap (drop end) (all ∙ whole) in
-    subst (λ (o : Option HeadScan). IsTakenIn i o cut (incoming [] rest Off)) (sym piece)
-    (cut_is ∙ ap (take end) whole, ap (λ (l : List ℕ). record { unread = l; piece = None }) rest_is)
+-- a head that was cut off is the first
+cut_to : (front bytes : List ℕ) (scanner : HeadPosition) (piece : HeadScan) → IsSearchedTo front bytes scanner piece → ¬ (front ≡ [])
+    → (start : ℕ) × IsHeadPiece (front ++ bytes) start (length front)
+cut_to front bytes scanner Open searched some = absurd (some searched.0)
+cut_to front bytes scanner (Piece start end) (here, inl none) some = absurd (some none)
+cut_to front bytes scanner (Piece start end) (here, inr whole) some = (start, subst (λ (n : ℕ). IsHeadPiece (front ++ bytes) start n) (sym whole) here)
 
-pub taken_head : (front bytes cut rest out none left : List ℕ) (i : Incoming) (search after : Search) (scan : Scan) (start end : ℕ) → incoming front bytes search ≡ i
-    → incoming front bytes after ≡ incoming front bytes search → after ≡ Done scan → scan.piece ≡ Piece start end → IsSearched front bytes after
-    → cut ≡ take end (front ++ bytes) → cut ++ rest ≡ front ++ bytes → out ≡ cut → none ≡ [] → left ≡ rest → IsTakenHead i out (incoming none left Off)
-taken_head front bytes cut rest out none left i search after scan start end view same is found searched cut_is all out_is none_is left_is =
-    let taken = taken_in front bytes cut rest i search after scan start end view same is found searched cut_is all in
-    subst (λ (l : List ℕ). IsTakenHead i l (incoming none left Off)) (sym out_is)
-    (subst (λ (f : List ℕ). IsTakenHead i cut (incoming f left Off)) (sym none_is)
-    (subst (λ (r : List ℕ). IsTakenHead i cut (incoming [] r Off)) (sym left_is) taken))
+pub cut_head : (front bytes : List ℕ) (search : Search) → IsSearched front bytes search → ¬ (front ≡ []) → (start : ℕ) × IsHeadPiece (front ++ bytes) start (length front)
+cut_head front bytes Off searched some = absurd (some searched)
+cut_head front bytes Due searched some = absurd (some searched)
+cut_head front bytes (Done scan) searched some = cut_to front bytes scan.scanner scan.piece searched some
 
--- where none is searched for, nothing was cut off
-off_front : (front bytes : List ℕ) (search : Search) → piece_of (front ++ bytes) search ≡ None → IsSearched front bytes search → front ≡ []
-off_front front bytes Off none searched = searched
-off_front front bytes Due none searched = absurd (cc none)
-off_front front bytes (Done scan) none searched = absurd (cc none)
-
--- and put back in front of them
-pub head_back : (front bytes head : List ℕ) (i : Incoming) (search : Search) (scan : Scan) (start : ℕ) → incoming front bytes search ≡ i → i.piece ≡ None → IsSearched front bytes search
-    → IsHeadPiece head start (length head) → AnswersScan head scan.piece
-    → IsSearched head bytes (Done scan) × (incoming head bytes (Done scan) ≡ record { unread = head ++ i.unread; piece = Some (scan_of (head ++ i.unread)) })
-head_back front bytes head i search scan start view none searched here answers =
-    let found : scan.piece ≡ Piece start (length head) = AnswersScan-found head scan.piece answers start (length head) here in
-    let grown : IsHeadPiece (head ++ bytes) start (length head) = head_piece_append head bytes start (length head) here in
-    let piece : scan.piece ≡ scan_of (head ++ bytes) = found ∙ scan_is (head ++ bytes) (Piece start (length head)) grown in
-    let empty : front ≡ [] = off_front front bytes search (ap (λ (j : Incoming). j.piece) view ∙ none) searched in
-    let bytes_is : bytes ≡ i.unread = ap (λ (f : List ℕ). f ++ bytes) (sym empty) ∙ ap (λ (j : Incoming). j.unread) view in (
-      subst (λ (p : HeadScan). IsSearchedTo head bytes scan.scanner p) (sym found) (grown, inr refl),
-      ap (λ (p : HeadScan). record { unread = head ++ bytes; piece = Some p }) piece
-          ∙ ap (λ (l : List ℕ). record { unread = head ++ l; piece = Some (scan_of (head ++ l)) }) bytes_is,
-    )
-
--- ---- none is searched for any more
-
-none_cut_in : (front bytes : List ℕ) (scanner : HeadPosition) (piece : HeadScan) → is_coming_in (Some piece) ≡ false → IsSearchedTo front bytes scanner piece → front ≡ []
-none_cut_in front bytes scanner Open none searched = searched.0
-none_cut_in front bytes scanner (Piece start end) none searched = absurd (cc none)
-
-none_cut : (front bytes : List ℕ) (search : Search) → is_coming_in (piece_of (front ++ bytes) search) ≡ false → IsSearched front bytes search → front ≡ []
-none_cut front bytes Off none searched = searched
-none_cut front bytes Due none searched = searched
-none_cut front bytes (Done scan) none searched = none_cut_in front bytes scan.scanner scan.piece none searched
-
-pub stopped : (front bytes : List ℕ) (i : Incoming) (search : Search) → incoming front bytes search ≡ i → is_coming_in i.piece ≡ false → IsSearched front bytes search
-    → (front ≡ []) × (incoming front bytes Off ≡ record { unread = i.unread; piece = None })
-stopped front bytes i search view none searched = (
-  none_cut front bytes search (ap (λ (j : Incoming). is_coming_in j.piece) view ∙ none) searched,
-  ap (λ (j : Incoming). record { unread = j.unread; piece = None }) view,
-)
-
--- where no head is there none is coming
-pub none_coming : (i : Incoming) (piece : Option HeadScan) → IsHeadIn i piece None → is_coming_in piece ≡ false
-none_coming i None none = refl
-none_coming i (Some Open) none = refl
-none_coming i (Some (Piece start end)) none = absurd (cc none.1)
+-- they are those that were cut off, and the first of the others
+pub first_bytes : (front bytes : List ℕ) (n : ℕ) → length front ≤ n → take n (front ++ bytes) ≡ front ++ take (n - length front) bytes
+first_bytes front bytes n far =
+    let sum : n ≡ length front + (n - length front) = omega (arith, far) in
+    ap (λ (m : ℕ). take m (front ++ bytes)) sum ∙ take-append-add front bytes (n - length front)

@@ -1,413 +1,356 @@
--- What is held of the input while heads are read ahead, and where they wait.
-use Rattle.std.proofs.Common.{◌≡◌, ℕ, ◌+◌, ◌<◌, ◌≤◌, ◌^◌, Bool, true, false, List, [], ◌∷◌, ◌++◌, length, take, Option, Some, None, Result, inl, inr, refl, sym, ap, ◌∙◌, subst, arith, append_assoc, length-append, length-drop}
-use Rattle.std.specs.Prelude.{is_some, IsOk, ◌⊎◌}
-use Rattle.std.proofs.lemmas.Bool.{cases_Bool}
-use Rattle.std.proofs.lemmas.List.{take-append-drop}
-use Rattle.model_h1.specs.HeadPiece.{HasNoHeadPiece}
-use Rattle.model_h1.specs.Request.{Fault}
+-- What is held of the input, and the heads that stand ahead in it.
+use Rattle.std.proofs.Common.{◌≡◌, ℕ, zero, suc, ◌-◌, ◌<◌, ◌≤◌, Bool, true, false, not, List, ◌++◌, length, take, drop, slice_range, Option, Some, None, inl, inr, refl, sym, ap, ◌∙◌, subst, arith, length-append, length-drop}
+use Rattle.std.specs.Prelude.{is_some, ◌⊎◌, if◌then◌else◌}
+use Rattle.std.proofs.lemmas.Bool.{cases_Bool, true≢false, cases_lt}
+use Rattle.std.proofs.lemmas.List.{take-append-le, take_all}
+use Rattle.bytes.proofs.Ranges.{drop-take_less}
+use Rattle.model_h1.specs.HeadPiece.{IsHeadPiece, HasNoHeadPiece}
+use Rattle.model_h1.specs.Request.{Head, Fault, has_body, Reading, head_is, faulty}
+use Rattle.model_h1.specs.RequestHead.{IsReading}
+use Rattle.model_h1.specs.Event as on
+use Rattle.model_state.specs.Ahead.{is_bodiless, AreAhead}
+use Rattle.model_state.specs.Body.{pass_rest}
 use Rattle.model_state.specs.Kept.{Rest, no_rest, raw_rest, fixed_rest, chunks_rest, frames_rest, is_nothing}
 use Rattle.model_state.specs.Pull.{Pulled, finishes, IsPull}
-use Rattle.model_h1.specs.Event as on
-use Rattle.h1_payload.specs.Rests.{SaysPulled, IsPulled, IsLight}
+use Rattle.h1_payload.specs.Rests.{IsPulled}
 use Rattle.h1_payload.specs.declared.pulled.Pulled.{Pulled as Answer}
-use Rattle.h1_decoder.specs.Refusal.{fault_of}
+use Rattle.h1_decoder.specs.HeadItem.{SaysHead}
 use Rattle.h1_decoder.specs.declared.decoder.HeadItem.{HeadItem}
 use Rattle.h1_decoder.specs.declared.scan.HeadScan.{HeadScan}
 use Rattle.h1_decoder.specs.declared.scan.HeadScan.TheVariants.{Open, Piece}
-use Rattle.http_types.specs.declared.error.ParseError.{ParseError}
-use Rattle.h1_connection.specs.Ahead.{joined, AreRead, FirstIsHead, may_go_on, turn_behind, IsReadNext, IsFilled, IsFilling, IsFillingOn}
-use Rattle.h1_connection.specs.Incoming.{Incoming, is_coming_in, IsFound, IsFoundIn, IsWhole, IsHeadIn, IsHeadOf, IsNextHead, IsNextFault, IsPassedHead, IsPassedIn, IsAlone, IsTakenIn}
-use Rattle.h1_connection.specs.Scan.{scan_of}
-use Rattle.h1_connection.specs.Stock.{Stock, IsFaultAhead, IsWholeOf, HandsOut, piece_by, ahead_by, stock_of, IsTurn, IsStocked, IsSameStock}
-use Rattle.h1_connection.specs.declared.connection.ahead.Slot.{Slot}
-use Rattle.h1_connection.specs.declared.connection.intake.Turn.{Turn}
-use Rattle.h1_connection.specs.declared.connection.intake.Turn.TheVariants.{Unasked, Later, Next}
-use Rattle.h1_connection.proofs.InputLemmas.{scan_is}
-use Rattle.h1_connection.proofs.ScanLemmas.{scan_answers}
-use Rattle.h1_connection.proofs.RingLemmas.{joined_more}
-use Rattle.h1_connection.proofs.StockLemmas.{first_coming, is_refused, refused_last, hands_out, counts_fewer, counts_all, lone_handed}
+use Rattle.h1_connection.specs.Ahead.{heads_in, nothing_counted, IsCountBehind}
+use Rattle.h1_connection.specs.Incoming.{Incoming, IsFound, IsFoundIn, IsHeadIn, IsHeadOf, IsNextHead, IsNextFault, IsPassedIn, IsPassedHead}
+use Rattle.h1_connection.specs.Stock.{Stock, is_bare, IsPassedTo, HandsOut, stock_of, IsStocked}
+use Rattle.h1_connection.specs.declared.connection.ahead.Count.{Count}
+use Rattle.h1_connection.proofs.AheadLemmas.{heads_zero, heads_none, heads_one, with_behind, AreCounted, none_behind, heads_read, head_in_first, slice_in_first, none_in_none, none_in_first}
 
--- ---- where none is searched for
+-- ---- more bytes
 
--- nor is one among the bytes behind the heads
-pub unsearched : (turn : Turn) (heads : List Slot) (i : Incoming) → IsStocked heads turn i → piece_by turn heads i ≡ None → i.piece ≡ None
-unsearched Unasked [] i stocked none = none
-unsearched Unasked (s ∷ more) i stocked none = absurd (cc none)
-unsearched Later heads i stocked none = stocked.turns.2
-unsearched Next heads i stocked none = absurd (cc none)
+-- those that were counted stand in front still
+pub still_counted : (count : Count) (i j : Incoming) (more : List ℕ) → IsStocked count i → j.unread ≡ i.unread ++ more
+    → (heads_in count.left (take count.mark j.unread) ≡ heads_in count.left (take count.mark i.unread)) × IsStocked count j
+still_counted count i j more stocked is = (
+  ap (λ (l : List ℕ). heads_in count.left (take count.mark l)) is ∙ ap (heads_in count.left) (take-append-le count.mark i.unread more stocked.within),
+  record { within = omega (arith, stocked.within, ap (λ (l : List ℕ). length l) is, length-append i.unread more); few = stocked.few },
+)
 
--- where none is counted either, none was read
-pub no_heads : (turn : Turn) (heads : List Slot) (i : Incoming) → IsStocked heads turn i → piece_by turn heads i ≡ None → ahead_by turn heads ≡ 0 → heads ≡ []
-no_heads Unasked [] i stocked none zero_is = refl
-no_heads Unasked (s ∷ more) i stocked none zero_is = absurd (cc none)
-no_heads Later heads i stocked none zero_is = absurd (omega (arith, stocked.turns.0, zero_is))
-no_heads Next heads i stocked none zero_is = absurd (cc none)
+-- the same bytes
+pub same_counted : (count : Count) (i j : Incoming) → IsStocked count i → j.unread ≡ i.unread
+    → (heads_in count.left (take count.mark j.unread) ≡ heads_in count.left (take count.mark i.unread)) × IsStocked count j
+same_counted count i j stocked is = (
+  ap (λ (l : List ℕ). heads_in count.left (take count.mark l)) is,
+  record { within = omega (arith, stocked.within, ap (λ (l : List ℕ). length l) is); few = stocked.few },
+)
 
--- with other bytes behind them, none of which is searched
-pub still_waits : (turn : Turn) (heads : List Slot) (i j : Incoming) → IsStocked heads turn i → piece_by turn heads i ≡ None → j.piece ≡ None → length (joined heads ++ j.unread) < 2 ^ 64
-    → IsStocked heads turn j × (piece_by turn heads j ≡ None)
-still_waits Unasked [] i j stocked none still fits = (record { fits = fits; are = stocked.are; turns = tt }, still)
-still_waits Unasked (s ∷ more) i j stocked none still fits = absurd (cc none)
-still_waits Later heads i j stocked none still fits =
-    (record { fits = fits; are = stocked.are; turns = (stocked.turns.0, stocked.turns.1, still) }, refl)
-still_waits Next heads i j stocked none still fits = absurd (cc none)
+-- ---- none is counted
+
+nothing_count : (after : Count) (rest : List ℕ) → after ≡ nothing_counted → heads_in after.left (take after.mark rest) ≡ 0
+nothing_count after rest is = ap (λ (c : Count). heads_in c.left (take c.mark rest)) is ∙ heads_zero (take 0 rest)
+
+-- in what is held
+pub nothing_stocked : (after : Count) (i : Incoming) → after ≡ nothing_counted
+    → (stock_of after i ≡ record { unread = i.unread; piece = i.piece; ahead = 0 }) × IsStocked after i
+nothing_stocked after i is = (
+  ap (λ (n : ℕ). record { unread = i.unread; piece = i.piece; ahead = n }) (nothing_count after i.unread is),
+  record { within = omega (arith, ap (λ (c : Count). c.mark) is); few = omega (arith, ap (λ (c : Count). c.left) is) },
+)
 
 -- ---- a body's bytes
 
--- where nothing is left of one, or no head waits, the bytes behind the heads are all that count
-abbrev pub IsBare : Rest → List Slot → Type 0
-IsBare rest heads = (is_nothing rest ≡ true) ⊎ (heads ≡ [])
+-- of a body that is not yet passed none is counted, and where nothing is left of one the bytes are the same
+body_counted : (count after : Count) (i j : Incoming) (nothing : Bool) → IsStocked count i → after ≡ (if nothing then count else nothing_counted)
+    → (nothing ≡ false → heads_in count.left (take count.mark i.unread) ≡ 0) → (nothing ≡ true → j.unread ≡ i.unread)
+    → (heads_in after.left (take after.mark j.unread) ≡ heads_in count.left (take count.mark i.unread)) × IsStocked after j
+body_counted count after i j true stocked is none same =
+    let at = same_counted count i j stocked (same refl) in (
+      ap (λ (c : Count). heads_in c.left (take c.mark j.unread)) is ∙ at.0,
+      subst (λ (c : Count). IsStocked c j) (sym is) at.1,
+    )
+body_counted count after i j false stocked is none same = (nothing_count after j.unread is ∙ sym (none refl), (nothing_stocked after j is).1)
 
-pub bare_rest : (turn : Turn) (heads : List Slot) (i : Incoming) (rest : Rest) → IsStocked heads turn i → piece_by turn heads i ≡ None
-    → (is_nothing rest ≡ false → ahead_by turn heads ≡ 0) → IsBare rest heads
-bare_rest turn heads i rest stocked none behind =
-    elim (cases_Bool (is_nothing rest)) [
-      | inl nothing ↦ inl nothing
-      | inr left ↦ inr (no_heads turn heads i stocked none (behind left))
+-- it is passed
+pub pass_nothing : (ended : Bool) (rest : Rest) (bytes : List ℕ) → is_nothing rest ≡ true → (pass_rest ended rest bytes).unread ≡ bytes
+pass_nothing ended no_rest bytes nothing = refl
+pass_nothing ended raw_rest bytes nothing = absurd (cc nothing)
+pass_nothing ended (fixed_rest n) bytes nothing = absurd (cc nothing)
+pass_nothing ended (chunks_rest place section) bytes nothing = absurd (cc nothing)
+pass_nothing ended (frames_rest under_way limit) bytes nothing = absurd (cc nothing)
+
+pub passes_counted : (ended : Bool) (rest : Rest) (count after : Count) (i j : Incoming) (t : Stock) (nothing : Bool) → stock_of count i ≡ t → IsStocked count i → nothing ≡ is_nothing rest
+    → after ≡ (if nothing then count else nothing_counted) → t.piece ≡ None → (is_nothing rest ≡ false → t.ahead ≡ 0)
+    → j ≡ record { unread = (pass_rest ended rest i.unread).unread; piece = None }
+    → (stock_of after j ≡ record t { unread = (pass_rest ended rest t.unread).unread }) × IsStocked after j
+passes_counted ended rest count after i j t nothing view stocked nothing_is is off none j_is =
+    let unread : j.unread ≡ (pass_rest ended rest i.unread).unread = ap (λ (k : Incoming). k.unread) j_is in
+    let at = body_counted count after i j nothing stocked is (λ left. ap (λ (u : Stock). u.ahead) view ∙ none (sym nothing_is ∙ left))
+    (λ empty. unread ∙ pass_nothing ended rest i.unread (sym nothing_is ∙ empty)) in
+    let piece : j.piece ≡ t.piece = ap (λ (k : Incoming). k.piece) j_is ∙ sym off in (
+      (λ k. record {
+        unread = (unread ∙ ap (λ (u : Stock). (pass_rest ended rest u.unread).unread) view) k;
+        piece = piece k;
+        ahead = (at.0 ∙ ap (λ (u : Stock). u.ahead) view) k;
+      }),
+      at.1,
+    )
+
+-- and pulled
+pull_nothing : (ended : Bool) (rest later : Rest) (answer : Answer) (bytes behind : List ℕ) → is_nothing rest ≡ true
+    → ((p : Pulled) → IsPull ended rest bytes p → IsPulled p answer later behind) → behind ≡ bytes
+pull_nothing ended no_rest later answer bytes behind nothing says = (says (finishes on.body_ended no_rest bytes) refl).unread_is
+pull_nothing ended raw_rest later answer bytes behind nothing says = absurd (cc nothing)
+pull_nothing ended (fixed_rest n) later answer bytes behind nothing says = absurd (cc nothing)
+pull_nothing ended (chunks_rest place section) later answer bytes behind nothing says = absurd (cc nothing)
+pull_nothing ended (frames_rest under_way limit) later answer bytes behind nothing says = absurd (cc nothing)
+
+pub pulls_counted : (ended : Bool) (rest later : Rest) (answer : Answer) (count after : Count) (i j : Incoming) (t : Stock) (nothing : Bool) → stock_of count i ≡ t → IsStocked count i
+    → nothing ≡ is_nothing rest → after ≡ (if nothing then count else nothing_counted) → (is_nothing rest ≡ false → t.ahead ≡ 0)
+    → ((p : Pulled) → IsPull ended rest i.unread p → IsPulled p answer later j.unread)
+    → (heads_in after.left (take after.mark j.unread) ≡ t.ahead) × IsStocked after j
+pulls_counted ended rest later answer count after i j t nothing view stocked nothing_is is none says =
+    let at = body_counted count after i j nothing stocked is (λ left. ap (λ (u : Stock). u.ahead) view ∙ none (sym nothing_is ∙ left))
+    (λ empty. pull_nothing ended rest later answer i.unread j.unread (sym nothing_is ∙ empty) says) in
+    (at.0 ∙ ap (λ (u : Stock). u.ahead) view, at.1)
+
+-- where nothing was
+pub stays_counted : (rest : Rest) (count after : Count) (i j : Incoming) (t : Stock) (nothing : Bool) → stock_of count i ≡ t → IsStocked count i → nothing ≡ is_nothing rest
+    → after ≡ (if nothing then count else nothing_counted) → (is_nothing rest ≡ false → t.ahead ≡ 0) → j ≡ i → (stock_of after j ≡ t) × IsStocked after j
+stays_counted rest count after i j t nothing view stocked nothing_is is none same =
+    let at = body_counted count after i j nothing stocked is (λ left. ap (λ (u : Stock). u.ahead) view ∙ none (sym nothing_is ∙ left))
+    (λ _. ap (λ (k : Incoming). k.unread) same) in (
+      (λ k. record { unread = (same k).unread; piece = (same k).piece; ahead = at.0 k }) ∙ view,
+      at.1,
+    )
+
+-- ---- where no head is there
+
+none_there : (i : Incoming) (piece : Option HeadScan) → IsFoundIn i.unread piece → IsHeadIn i piece None → is_some piece ≡ true → HasNoHeadPiece i.unread
+none_there i None found none searched = absurd (true≢false (sym searched))
+none_there i (Some Open) found none searched = found
+none_there i (Some (Piece start end)) found none searched = absurd (cc none.1)
+
+pub none_counted : (count : Count) (i : Incoming) → IsFound i → IsHeadOf i None → is_some i.piece ≡ true → heads_in count.left (take count.mark i.unread) ≡ 0
+none_counted count i found none searched = heads_none count.left (take count.mark i.unread) (none_in_none count.mark i.unread (none_there i i.piece found none searched))
+
+-- ---- the head in front
+
+-- whether it was counted
+counted_or_not : (count : Count) (end : ℕ) → ((0 < count.left) × (end ≤ count.mark)) ⊎ ((count.left ≡ 0) ⊎ (count.mark < end))
+counted_or_not count end = by_left count.left
+  where
+    by_left : (left : ℕ) → ((0 < left) × (end ≤ count.mark)) ⊎ ((left ≡ 0) ⊎ (count.mark < end))
+    by_left zero = inr (inl refl)
+    by_left (suc left) = elim (cases_lt count.mark end) [
+      | inl far ↦ inr (inr far)
+      | inr near ↦ inl (omega arith, near)
     ]
 
--- a pull of it is one of the bytes behind the heads
-pull_inner : (ended : Bool) (rest : Rest) (heads : List Slot) (bytes : List ℕ) (p : Pulled) → IsBare rest heads → IsPull ended rest (joined heads ++ bytes) p
-    → (q : Pulled) × IsPull ended rest bytes q × (p.outcome ≡ q.outcome) × (p.rest ≡ q.rest) × (p.unread ≡ joined heads ++ q.unread)
-pull_inner ended rest heads bytes p (inr none) is =
-    (p, subst (λ (l : List Slot). IsPull ended rest (joined l ++ bytes) p) none is, refl, refl, sym (ap (λ (l : List Slot). joined l ++ p.unread) none))
-pull_inner ended no_rest heads bytes p (inl nothing) is =
-    (finishes on.body_ended no_rest bytes, refl, ap (λ (q : Pulled). q.outcome) is, ap (λ (q : Pulled). q.rest) is, ap (λ (q : Pulled). q.unread) is)
-pull_inner ended raw_rest heads bytes p (inl nothing) is = absurd (cc nothing)
-pull_inner ended (fixed_rest n) heads bytes p (inl nothing) is = absurd (cc nothing)
-pull_inner ended (chunks_rest place section) heads bytes p (inl nothing) is = absurd (cc nothing)
-pull_inner ended (frames_rest under_way limit) heads bytes p (inl nothing) is = absurd (cc nothing)
+-- where it wasn't, none is
+uncounted : (count : Count) (bytes : List ℕ) (start end : ℕ) → IsHeadPiece bytes start end → (count.left ≡ 0) ⊎ (count.mark < end)
+    → heads_in count.left (take count.mark bytes) ≡ 0
+uncounted count bytes start end here (inl none) = ap (λ (n : ℕ). heads_in n (take count.mark bytes)) none ∙ heads_zero (take count.mark bytes)
+uncounted count bytes start end here (inr far) = heads_none count.left (take count.mark bytes) (none_in_first count.mark bytes start end here far)
 
-pub pulls_waiting : (ended : Bool) (rest later : Rest) (turn : Turn) (heads : List Slot) (i : Incoming) (t : Stock) (answer : Answer) (behind : List ℕ) → stock_of heads turn i ≡ t → IsStocked heads turn i
-    → t.piece ≡ None → (is_nothing rest ≡ false → t.ahead ≡ 0) → ((q : Pulled) → IsPull ended rest i.unread q → IsPulled q answer later behind)
-    → (p : Pulled) → IsPull ended rest t.unread p → IsPulled p answer later (joined heads ++ behind)
-pulls_waiting ended rest later turn heads i t answer behind view stocked none left pulled p is =
-    let off : piece_by turn heads i ≡ None = ap (λ (u : Stock). u.piece) view ∙ none in
-    let bare = bare_rest turn heads i rest stocked off (λ l. ap (λ (u : Stock). u.ahead) view ∙ left l) in
-    let at = pull_inner ended rest heads i.unread p bare (subst (λ (u : Stock). IsPull ended rest u.unread p) (sym view) is) in
-    let got = pulled at.0 at.1 in
+-- where it was, those behind it are
+counted : (count : Count) (bytes : List ℕ) (start end : ℕ) (what : Reading) → IsHeadPiece bytes start end → IsReading (slice_range bytes start end) what → 0 < count.left → end ≤ count.mark
+    → heads_in count.left (take count.mark bytes) ≡ with_behind (count.left - 1) (is_bodiless what) (take (count.mark - end) (drop end bytes))
+counted count bytes start end what here reads some near =
+    let first = take count.mark bytes in
+    let there = head_in_first count.mark bytes start end here near in
+    let read = subst (λ (l : List ℕ). IsReading l what) (sym (slice_in_first count.mark bytes start end here near)) reads in
+    let left : count.left ≡ suc (count.left - 1) = omega (arith, some) in
+    ap (λ (n : ℕ). heads_in n first) left ∙ heads_one (count.left - 1) first start end what there read
+    ∙ ap (λ (l : List ℕ). with_behind (count.left - 1) (is_bodiless what) l) (drop-take_less bytes end count.mark near)
+
+-- ---- it is handed out
+
+-- what its body tells
+bodiless_is : (item : HeadItem) (h : Head) → SaysHead item h → is_bare item ≡ is_bodiless (head_is h)
+bodiless_is item h says = ap (λ k. not (has_body k)) says.body
+
+-- What becomes of the number: of bytes in front of which a head stands, and of those behind it.
+pub record Goes (was now : ℕ) (bodiless : Bool) (rest : List ℕ) : Type 0 where
+  pub fewer : (n : ℕ) → was ≡ suc n → now ≡ n
+  pub anew : was ≡ 0 → AreCounted 16 bodiless rest now
+  pub behind : 0 < now → bodiless ≡ true
+
+behind_body : (count after : Count) (bytes : List ℕ) (start end : ℕ) (h : Head) → IsHeadPiece bytes start end → IsReading (slice_range bytes start end) (head_is h)
+    → has_body h.body ≡ true → after ≡ nothing_counted
+    → Goes (heads_in count.left (take count.mark bytes)) (heads_in after.left (take after.mark (drop end bytes))) (is_bodiless (head_is h)) (drop end bytes)
+behind_body count after bytes start end h here reads body is =
     record {
-      outcome = subst (λ (o : on.Outcome). SaysPulled answer o) (sym at.2) got.outcome;
-      rest_is = got.rest_is ∙ sym at.3;
-      unread_is = ap (λ (l : List ℕ). joined heads ++ l) got.unread_is ∙ sym at.4;
+      fewer = λ n was. none ∙ last n was (counted_or_not count end);
+      anew = λ _. subst (λ (b : Bool). AreCounted 16 b (drop end bytes) (heads_in after.left (take after.mark (drop end bytes)))) (sym bodied)
+          (subst (λ (n : ℕ). AreCounted 16 false (drop end bytes) n) (sym none) (none_behind 16 (drop end bytes)));
+      behind = λ some. absurd (omega (arith, some, none));
+    }
+  where
+    none : heads_in after.left (take after.mark (drop end bytes)) ≡ 0
+    none = nothing_count after (drop end bytes) is
+
+    bodied : is_bodiless (head_is h) ≡ false
+    bodied = ap not body
+
+    last : (n : ℕ) → heads_in count.left (take count.mark bytes) ≡ suc n → ((0 < count.left) × (end ≤ count.mark)) ⊎ ((count.left ≡ 0) ⊎ (count.mark < end)) → 0 ≡ n
+    last n was (inl in_count) =
+        let one = counted count bytes start end (head_is h) here reads in_count.0 in_count.1
+        ∙ ap (λ (b : Bool). with_behind (count.left - 1) b (take (count.mark - end) (drop end bytes))) bodied in
+        omega (arith, was, one)
+    last n was (inr out) = absurd (omega (arith, was, uncounted count bytes start end here out))
+
+behind_bodiless : (count after : Count) (bytes : List ℕ) (start end : ℕ) (h : Head) → IsHeadPiece bytes start end → IsReading (slice_range bytes start end) (head_is h)
+    → has_body h.body ≡ false → IsCountBehind count end (length (drop end bytes)) (has_body h.body) after
+    → ((0 < count.left) × (end ≤ count.mark)) ⊎ ((count.left ≡ 0) ⊎ (count.mark < end))
+    → Goes (heads_in count.left (take count.mark bytes)) (heads_in after.left (take after.mark (drop end bytes))) (is_bodiless (head_is h)) (drop end bytes)
+behind_bodiless count after bytes start end h here reads none goes (inl in_count) =
+    let bare : is_bodiless (head_is h) ≡ true = ap not none in
+    let is = goes.fewer none in_count.0 in_count.1 in
+    let one : heads_in count.left (take count.mark bytes) ≡ suc (heads_in (count.left - 1) (take (count.mark - end) (drop end bytes))) =
+    counted count bytes start end (head_is h) here reads in_count.0 in_count.1
+    ∙ ap (λ (b : Bool). with_behind (count.left - 1) b (take (count.mark - end) (drop end bytes))) bare in
+    let now : heads_in after.left (take after.mark (drop end bytes)) ≡ heads_in (count.left - 1) (take (count.mark - end) (drop end bytes)) =
+    ap (λ (c : Count). heads_in c.left (take c.mark (drop end bytes))) is in
+    record {
+      fewer = λ n was. omega (arith, was, one, now);
+      anew = λ was. absurd (omega (arith, was, one));
+      behind = λ _. bare;
+    }
+behind_bodiless count after bytes start end h here reads none goes (inr out) =
+    let bare : is_bodiless (head_is h) ≡ true = ap not none in
+    let rest = drop end bytes in
+    let zero_is = uncounted count bytes start end here out in
+    let now : heads_in after.left (take after.mark rest) ≡ heads_in 16 rest =
+    ap (λ (c : Count). heads_in c.left (take c.mark rest)) (goes.anew none out) ∙ ap (heads_in 16) (take_all (length rest) rest (omega arith)) in
+    record {
+      fewer = λ n was. absurd (omega (arith, was, zero_is));
+      anew = λ _. subst (λ (b : Bool). AreCounted 16 b rest (heads_in after.left (take after.mark rest))) (sym bare)
+          (subst (λ (n : ℕ). AreCounted 16 true rest n) (sym now) (heads_read 16 rest));
+      behind = λ _. bare;
     }
 
-pub light_waiting : {T E : Type 0} (ended : Bool) (rest : Rest) (turn : Turn) (heads : List Slot) (i : Incoming) (t : Stock) (r : Result T E) → stock_of heads turn i ≡ t → IsStocked heads turn i
-    → t.piece ≡ None → (is_nothing rest ≡ false → t.ahead ≡ 0) → ((q : Pulled) → IsPull ended rest i.unread q → IsLight rest q.outcome q.rest → IsOk r)
-    → (p : Pulled) → IsPull ended rest t.unread p → IsLight rest p.outcome p.rest → IsOk r
-light_waiting ended rest turn heads i t r view stocked none left needs p is light =
-    let off : piece_by turn heads i ≡ None = ap (λ (u : Stock). u.piece) view ∙ none in
-    let bare = bare_rest turn heads i rest stocked off (λ l. ap (λ (u : Stock). u.ahead) view ∙ left l) in
-    let at = pull_inner ended rest heads i.unread p bare (subst (λ (u : Stock). IsPull ended rest u.unread p) (sym view) is) in
-    needs at.0 at.1 (subst (λ (o : on.Outcome). IsLight rest o at.0.rest) at.2 (subst (λ (l : Rest). IsLight rest p.outcome l) at.3 light))
+goes_behind : (count after : Count) (bytes : List ℕ) (start end : ℕ) (h : Head) → IsHeadPiece bytes start end → IsReading (slice_range bytes start end) (head_is h)
+    → IsCountBehind count end (length (drop end bytes)) (has_body h.body) after
+    → Goes (heads_in count.left (take count.mark bytes)) (heads_in after.left (take after.mark (drop end bytes))) (is_bodiless (head_is h)) (drop end bytes)
+goes_behind count after bytes start end h here reads goes =
+    elim (cases_Bool (has_body h.body)) [
+      | inl body ↦ behind_body count after bytes start end h here reads body (goes.body body)
+      | inr none ↦ behind_bodiless count after bytes start end h here reads none goes (counted_or_not count end)
+    ]
 
--- what is held is right behind it
-pub pull_waits : (ended : Bool) (rest later : Rest) (turn : Turn) (heads : List Slot) (i j : Incoming) (t : Stock) (answer : Answer) → stock_of heads turn i ≡ t → IsStocked heads turn i → t.piece ≡ None
-    → (is_nothing rest ≡ false → t.ahead ≡ 0) → ((q : Pulled) → IsPull ended rest i.unread q → IsPulled q answer later j.unread) → j.piece ≡ None → length j.unread < 2 ^ 64
-    → IsStocked heads turn j
-pull_waits ended rest later turn heads i j t answer view stocked none left pulled still short = (still_waits turn heads i j stocked off still (fits bare)).0
-  where
-    off : piece_by turn heads i ≡ None
-    off = ap (λ (u : Stock). u.piece) view ∙ none
+-- the count lies within the bytes behind it
+within_behind : (count after : Count) (size len : ℕ) (body : Bool) → count.left ≤ 16 → (0 < count.left → size ≤ count.mark → count.mark - size ≤ len) → IsCountBehind count size len body after
+    → (after.mark ≤ len) × (after.left ≤ 16)
+within_behind count after size len true few fits goes =
+    let is = goes.body refl in (omega (arith, ap (λ (c : Count). c.mark) is), omega (arith, ap (λ (c : Count). c.left) is))
+within_behind count after size len false few fits goes =
+    elim (counted_or_not count size) [
+      | inl in_count ↦
+          let is = goes.fewer refl in_count.0 in_count.1 in
+          let less = fits in_count.0 in_count.1 in
+          (omega (arith, less, ap (λ (c : Count). c.mark) is), omega (arith, few, ap (λ (c : Count). c.left) is))
+      | inr out ↦
+          let is = goes.anew refl out in
+          (omega (arith, ap (λ (c : Count). c.mark) is), omega (arith, ap (λ (c : Count). c.left) is))
+    ]
 
-    bare : IsBare rest heads
-    bare = bare_rest turn heads i rest stocked off (λ l. ap (λ (u : Stock). u.ahead) view ∙ left l)
+-- so many bytes were passed
+size_of : (i after : Incoming) (start end size : ℕ) → IsHeadPiece i.unread start end → after ≡ record { unread = drop end i.unread; piece = None }
+    → size ≡ length i.unread - length after.unread → size ≡ end
+size_of i after start end size here is size_is =
+    omega (arith, size_is, ap (λ (j : Incoming). length j.unread) is, length-drop end i.unread, here.in_range)
 
-    same : (r : Rest) → is_nothing r ≡ true → ((q : Pulled) → IsPull ended r i.unread q → IsPulled q answer later j.unread) → j.unread ≡ i.unread
-    same no_rest nothing says = (says (finishes on.body_ended no_rest i.unread) refl).unread_is
-    same raw_rest nothing says = absurd (cc nothing)
-    same (fixed_rest n) nothing says = absurd (cc nothing)
-    same (chunks_rest place section) nothing says = absurd (cc nothing)
-    same (frames_rest under_way limit) nothing says = absurd (cc nothing)
-
-    fits : IsBare rest heads → length (joined heads ++ j.unread) < 2 ^ 64
-    fits (inl nothing) = subst (λ (l : List ℕ). length (joined heads ++ l) < 2 ^ 64) (sym (same rest nothing pulled)) stocked.fits
-    fits (inr empty) = subst (λ (l : List Slot). length (joined l ++ j.unread) < 2 ^ 64) (sym empty) short
-
--- ---- whether a head is coming
-
-pub coming_first : (heads : List Slot) (i : Incoming) → IsStocked heads Next i → is_coming_in (piece_by Next heads i) ≡ true
-coming_first [] i stocked = absurd (omega (arith, stocked.turns.0))
-coming_first (s ∷ more) i stocked = first_coming s more i.unread stocked.are
-
-pub coming_unasked : (heads : List Slot) (i : Incoming) → IsStocked heads Unasked i → 0 < length heads → is_coming_in (piece_by Unasked heads i) ≡ true
-coming_unasked [] i stocked some = absurd (omega (arith, some))
-coming_unasked (s ∷ more) i stocked some = first_coming s more i.unread stocked.are
-
--- ---- heads are read
-
--- a head may come next, or one is searched for now
-pub record IsAwaited (j k : Incoming) : Type 0 where
-  pub same : is_some j.piece ≡ true → k ≡ j
-  pub unread : k.unread ≡ j.unread
-  pub found : IsFound k
-  pub searched : is_some k.piece ≡ true
-
-taken_bytes : (i : Incoming) (piece : Option HeadScan) (bytes : List ℕ) (after : Incoming) → IsTakenIn i piece bytes after → (bytes ++ after.unread ≡ i.unread) × (after.piece ≡ None)
-taken_bytes i (Some (Piece start end)) bytes after is = (
-  ap (λ (l : List ℕ). l ++ after.unread) is.0 ∙ ap (λ (j : Incoming). take end i.unread ++ j.unread) is.1 ∙ take-append-drop end i.unread,
-  ap (λ (j : Incoming). j.piece) is.1,
-)
-taken_bytes i (Some Open) bytes after is = absurd is
-taken_bytes i None bytes after is = absurd is
-
--- what was found is what a search finds
-found_scan : (i : Incoming) (piece : Option HeadScan) → IsFoundIn i.unread piece → is_some piece ≡ true → piece ≡ Some (scan_of i.unread)
-found_scan i (Some p) found is = ap (λ (q : HeadScan). Some q) (scan_is i.unread p found)
-found_scan i None found is = absurd (cc is)
-
-module _ (was : List Slot) (i : Incoming) (searched : is_some i.piece ≡ true) (now : List Slot) (j k : Incoming) (goes : IsFillingOn was i now j) (awaited : IsAwaited j k) where
-  -- while none was read all is as before
-  same_input : now ≡ was → k ≡ i
-  same_input is =
-      let same : j ≡ i = goes.filling.none is in
-      awaited.same (ap (λ (x : Incoming). is_some x.piece) same ∙ searched) ∙ same
-
-  -- one more was
-  pub filling_more : (after : List Slot) (m : Incoming) → IsReadNext now k after m → IsFillingOn was i after m
-  filling_more after m read = record {
-    filling = record {
-      bytes =
-          ap (λ (l : List ℕ). l ++ m.unread) (ap joined read.behind ∙ joined_more now read.next) ∙ append_assoc (joined now) read.next.piece m.unread
-          ∙ ap (λ (l : List ℕ). joined now ++ l) ((taken_bytes k k.piece read.next.piece m read.taken).0 ∙ awaited.unread) ∙ goes.filling.bytes;
-      first = read.first goes.filling.first;
-      found = λ none some. first_found none goes.filling.more;
-      none = λ is. absurd (omega (arith, longer, ap length is, grown goes.filling.more));
-      more = inr (omega (arith, longer, grown goes.filling.more));
-    };
-    off = λ _. (taken_bytes k k.piece read.next.piece m read.taken).1;
-  }
-    where
-      longer : length after ≡ length now + 1
-      longer = ap length read.behind ∙ length-append now (read.next ∷ [])
-
-      grown : (now ≡ was) ⊎ (length was < length now) → length was ≤ length now
-      grown (inl same) = omega (arith, ap length same)
-      grown (inr more) = omega (arith, more)
-
-      first_found : was ≡ [] → (now ≡ was) ⊎ (length was < length now) → IsFound i
-      first_found none (inl same) = subst (λ (x : Incoming). IsFound x) (same_input same) read.found
-      first_found none (inr more) = goes.filling.found none (omega (arith, more))
-
-  -- no further one is there
-  pub none_filled : (m : Incoming) → IsHeadOf k None → 0 < length now → m ≡ record { unread = k.unread; piece = None } → IsFilled was i now m
-  none_filled m none some m_is = record {
-    bytes = ap (λ (x : Incoming). joined now ++ x.unread) m_is ∙ ap (λ (l : List ℕ). joined now ++ l) awaited.unread ∙ goes.filling.bytes;
-    first = goes.filling.first;
-    some = some;
-    found = λ empty. goes.filling.found empty some;
-    piece = ap (λ (x : Incoming). x.piece) m_is;
-    all = inr (subst (λ (x : Incoming). HasNoHeadPiece x.unread) (sym m_is) (no_piece k.piece awaited.found awaited.searched none));
-  }
-    where
-      no_piece : (piece : Option HeadScan) → IsFoundIn k.unread piece → is_some piece ≡ true → IsHeadIn k piece None → HasNoHeadPiece k.unread
-      no_piece (Some Open) found is head = found
-      no_piece (Some (Piece start end)) found is head = absurd (cc head.1)
-      no_piece None found is head = absurd (cc is)
-
-  pub ends_filled : (after : List Slot) (l m : Incoming) → IsHeadOf k None → after ≡ now → l ≡ k → 0 < length after → m ≡ record { unread = l.unread; piece = None } → IsFilled was i after m
-  ends_filled after l m none same input some m_is =
-      subst (λ (x : List Slot). IsFilled was i x m) (sym same)
-      (none_filled m none (subst (λ (x : List Slot). 0 < length x) same some) (m_is ∙ ap (λ (x : Incoming). record { unread = x.unread; piece = None }) input))
-
-  -- one was there before any was read, where one is there now or was read
-  pub whole_before : AreRead now → (now ≡ [] → IsWhole k) → was ≡ [] → IsWhole i
-  whole_before are whole none = by_more goes.filling.more
-    where
-      bytes : joined now ++ j.unread ≡ i.unread
-      bytes = goes.filling.bytes ∙ ap (λ (l : List Slot). joined l ++ i.unread) none
-
-      read_one : (heads : List Slot) → AreRead heads → 0 < length heads → joined heads ++ j.unread ≡ i.unread → IsFound i → IsWhole i
-      read_one [] read some all found = absurd (omega (arith, some))
-      read_one (s ∷ more) read some all found =
-          ap (λ (o : Option HeadScan). is_coming_in o) (found_scan i i.piece found searched ∙ ap (λ (l : List ℕ). Some (scan_of l)) (sym all))
-          ∙ first_coming s more j.unread read
-
-      by_more : (now ≡ was) ⊎ (length was < length now) → IsWhole i
-      by_more (inl same) = subst (λ (x : Incoming). IsWhole x) (same_input same) (whole (same ∙ none))
-      by_more (inr more) = read_one now are (omega (arith, more)) bytes (goes.filling.found none (omega (arith, more)))
-
--- ---- memory ran out
-
-pub same_stock : (was : List Slot) (i : Incoming) (now : List Slot) (j : Incoming) → IsStocked was Unasked i → is_some i.piece ≡ true → IsFilling was i now j → is_some j.piece ≡ true
-    → may_go_on now ≡ true → AreRead now → IsSameStock was i now j
-same_stock was i now j stocked searched filling still may are = record {
-  stocked = record {
-    fits = subst (λ (l : List ℕ). length l < 2 ^ 64) (sym filling.bytes) stocked.fits;
-    are = are;
-    turns = turns now still may filling.first;
-  };
-  same = λ k. record { unread = filling.bytes k; piece = pieces was now filling k; ahead = 0 };
-}
-  where
-    turns : (heads : List Slot) → is_some j.piece ≡ true → may_go_on heads ≡ true → FirstIsHead heads → IsTurn Unasked heads j
-    turns [] is goes first = tt
-    turns (s ∷ more) is goes first = (is, goes, first)
-
-    pieces : (old new : List Slot) → IsFilling old i new j → piece_by Unasked new j ≡ piece_by Unasked old i
-    pieces [] [] f = ap (λ (x : Incoming). x.piece) (f.none refl)
-    pieces [] (s ∷ more) f =
-        ap (λ (l : List ℕ). Some (scan_of l)) f.bytes ∙ sym (found_scan i i.piece (f.found refl (omega arith)) searched)
-    pieces (s ∷ more) [] f = absurd (shrinks f.more)
-      where
-        shrinks : ([] ≡ s ∷ more) ⊎ (length (s ∷ more) < 0) → ⊥
-        shrinks (inl is) = cc is
-        shrinks (inr less) = omega (arith, less)
-    pieces (s ∷ more) (t ∷ rest) f = ap (λ (l : List ℕ). Some (scan_of l)) f.bytes
-
--- where the first was refused, or memory wanted, one was there
-pub empty_fault : (heads : List Slot) (i : Incoming) (fault : Fault) → heads ≡ [] → IsNextFault i fault → IsFaultAhead (stock_of heads Unasked i) fault
-empty_fault heads i fault empty next = subst (λ (l : List Slot). IsFaultAhead (stock_of l Unasked i) fault) (sym empty) next
-
-pub filled_whole : (heads : List Slot) (i : Incoming) → IsStocked heads Unasked i → (heads ≡ [] → IsWhole i) → IsWholeOf (stock_of heads Unasked i)
-filled_whole [] i stocked whole = whole refl
-filled_whole (s ∷ more) i stocked whole = first_coming s more i.unread stocked.are
-
--- ---- the first is handed out
-
--- there is one first
-pub same_first : (heads : List Slot) (s t : Slot) (more rest : List Slot) → heads ≡ s ∷ more → heads ≡ t ∷ rest → s ≡ t
-same_first heads s t more rest here there = cc
-
--- what is held behind it
-stocked_behind : (s : Slot) (more : List Slot) (i : Incoming) → length (joined (s ∷ more) ++ i.unread) < 2 ^ 64 → AreRead (s ∷ more) → length more ≤ 16 → i.piece ≡ None
-    → IsStocked more (turn_behind more) i
-stocked_behind s [] i fits are few off = record {
-  fits = omega (arith, fits, length-append (joined (s ∷ [])) i.unread);
-  are = tt;
-  turns = tt;
-}
-stocked_behind s (t ∷ more) i fits are few off = record {
-  fits = omega (arith, fits, length-append (joined (s ∷ t ∷ more)) i.unread, length-append s.piece (joined (t ∷ more)), length-append (joined (t ∷ more)) i.unread);
-  are = are.1;
-  turns = (omega arith, few, off);
-}
-
-unasked_piece : (was : List Slot) (i : Incoming) → is_some i.piece ≡ true → (was ≡ [] → IsFound i) → piece_by Unasked was i ≡ Some (scan_of (joined was ++ i.unread))
-unasked_piece [] i searched found = found_scan i i.piece (found refl) searched
-unasked_piece (s ∷ more) i searched found = refl
-
--- of heads that were just read
-pub filled_hands : (was : List Slot) (i : Incoming) (now : List Slot) (j : Incoming) (s : Slot) (more : List Slot) (item : HeadItem) (turn : Turn) → IsStocked was Unasked i
-    → is_some i.piece ≡ true → IsFilled was i now j → AreRead now → length now ≤ 17 → now ≡ s ∷ more → item ≡ s.item → turn ≡ turn_behind more
-    → HandsOut (stock_of was Unasked i) item (stock_of more turn j) × IsStocked more turn j
-filled_hands was i now j s more item turn stocked searched filled are few now_is item_is turn_is =
-    subst (λ (u : Turn). HandsOut (stock_of was Unasked i) item (stock_of more u j) × IsStocked more u j) (sym turn_is)
-    (hands, stocked_behind s more j fits read short filled.piece)
-  where
-    read : AreRead (s ∷ more)
-    read = subst (λ (l : List Slot). AreRead l) now_is are
-
-    short : length more ≤ 16
-    short = omega (arith, few, ap length now_is)
-
-    bytes : joined was ++ i.unread ≡ joined (s ∷ more) ++ j.unread
-    bytes = sym filled.bytes ∙ ap (λ (l : List Slot). joined l ++ j.unread) now_is
-
-    fits : length (joined (s ∷ more) ++ j.unread) < 2 ^ 64
-    fits = subst (λ (l : List ℕ). length l < 2 ^ 64) bytes stocked.fits
-
-    first : s.refused ≡ None
-    first = subst (λ (l : List Slot). FirstIsHead l) now_is filled.first
-
-    all : (may_go_on (s ∷ more) ≡ false) ⊎ HasNoHeadPiece j.unread
-    all = subst (λ (l : List Slot). (may_go_on l ≡ false) ⊎ HasNoHeadPiece j.unread) now_is filled.all
-
-    hands : HandsOut (stock_of was Unasked i) item (stock_of more (turn_behind more) j)
-    hands =
-        hands_out (stock_of was Unasked i) s more j read bytes (unasked_piece was i searched filled.found) item first item_is filled.piece
-        (counts_all (stock_of was Unasked i) s more j item read first item_is refl short bytes all)
-
--- of heads that waited
-pub waiting_hands : (heads : List Slot) (i : Incoming) (s : Slot) (more : List Slot) (item : HeadItem) (turn : Turn) → IsStocked heads Next i → heads ≡ s ∷ more → s.refused ≡ None
-    → item ≡ s.item → turn ≡ turn_behind more → HandsOut (stock_of heads Next i) item (stock_of more turn i) × IsStocked more turn i
-waiting_hands heads i s more item turn stocked heads_is first item_is turn_is =
-    subst (λ (u : Turn). HandsOut (stock_of heads Next i) item (stock_of more u i) × IsStocked more u i) (sym turn_is) (
-      subst (λ (l : List Slot). HandsOut (stock_of l Next i) item (stock_of more (turn_behind more) i)) (sym heads_is) hands,
-      stocked_behind s more i at.fits at.are (omega (arith, at.turns.1)) at.turns.2,
-    )
-  where
-    at : IsStocked (s ∷ more) Next i
-    at = subst (λ (l : List Slot). IsStocked l Next i) heads_is stocked
-
-    left : (stock_of more (turn_behind more) i).ahead ≡ length more
-    left = by_more more
-      where
-        by_more : (l : List Slot) → ahead_by (turn_behind l) l ≡ length l
-        by_more [] = refl
-        by_more (t ∷ l) = refl
-
-    hands : HandsOut (stock_of (s ∷ more) Next i) item (stock_of more (turn_behind more) i)
-    hands =
-        hands_out (stock_of (s ∷ more) Next i) s more i at.are refl refl item first item_is at.turns.2
-        (counts_fewer (stock_of (s ∷ more) Next i) s more item (stock_of more (turn_behind more) i) refl left)
-
--- or the first of them was refused
-pub waiting_fault : (heads : List Slot) (i : Incoming) (s : Slot) (more : List Slot) (e : ParseError) → IsStocked heads Next i → heads ≡ s ∷ more → s.refused ≡ Some e
-    → IsFaultAhead (stock_of heads Next i) (fault_of e) × (length heads ≤ 1)
-waiting_fault heads i s more e stocked heads_is refused =
-    subst (λ (l : List Slot). IsFaultAhead (stock_of l Next i) (fault_of e) × (length l ≤ 1)) (sym heads_is) (
-      is_refused (stock_of (s ∷ more) Next i) s more i at.are refl refl e refused,
-      omega (arith, refused_last (stock_of (s ∷ more) Next i) s more i at.are refl refl e refused),
-    )
-  where
-    at : IsStocked (s ∷ more) Next i
-    at = subst (λ (l : List Slot). IsStocked l Next i) heads_is stocked
-
--- one behind which none is read
-passed_less : (i : Incoming) (piece : Option HeadScan) (after : Incoming) → IsPassedIn i piece after → length after.unread ≤ length i.unread
+pub passed_less : (i : Incoming) (piece : Option HeadScan) (after : Incoming) → IsPassedIn i piece after → length after.unread ≤ length i.unread
 passed_less i (Some (Piece start end)) after passed = omega (arith, ap (λ (j : Incoming). length j.unread) passed, length-drop end i.unread)
 passed_less i (Some Open) after passed = absurd passed
 passed_less i None after passed = absurd passed
 
-pub lone_hands : (heads : List Slot) (i after : Incoming) (item : HeadItem) → heads ≡ [] → IsStocked heads Unasked i → IsNextHead i item → IsAlone i item → IsPassedHead i after
-    → HandsOut (stock_of heads Unasked i) item (stock_of heads Unasked after) × IsStocked heads Unasked after
-lone_hands heads i after item empty stocked next alone passed =
-    subst (λ (l : List Slot). HandsOut (stock_of l Unasked i) item (stock_of l Unasked after) × IsStocked l Unasked after) (sym empty) (
-      lone_handed i after item next alone passed,
-      record { fits = omega (arith, passed_less i i.piece after passed, at.fits); are = tt; turns = tt },
-    )
+handed_in : (count counts : Count) (i after : Incoming) (piece : Option HeadScan) (item : HeadItem) (head : List ℕ) (h : Head) (size : ℕ) (body : Bool) → IsStocked count i → i.piece ≡ piece
+    → IsHeadIn i piece (Some head) → IsReading head (head_is h) → SaysHead item h → IsPassedIn i piece after → size ≡ length i.unread - length after.unread
+    → body ≡ has_body h.body → IsCountBehind count size (length after.unread) body counts
+    → HandsOut (stock_of count i) item (stock_of counts after) × IsStocked counts after
+handed_in count counts i after None item head h size body stocked is is_head reads says passed size_is body_is goes = absurd passed
+handed_in count counts i after (Some Open) item head h size body stocked is is_head reads says passed size_is body_is goes = absurd passed
+handed_in count counts i after (Some (Piece start end)) item head h size body stocked is is_head reads says passed size_is body_is goes = (
+  record {
+    head = head;
+    is_head = subst (λ (p : Option HeadScan). IsHeadIn i p (Some head)) (sym is) is_head;
+    h = h;
+    reads = reads;
+    says = says;
+    passed = subst (λ (p : Option HeadScan). IsPassedTo (stock_of count i) p (stock_of counts after)) (sym is) (unread, ap (λ (j : Incoming). j.piece) passed);
+    counts = record {
+      fewer = λ n was. sym same ∙ number.fewer n was;
+      decoded = λ was. decoded (number.anew was);
+    };
+    behind = λ some. bare ∙ number.behind (omega (arith, some, same));
+  },
+  record { within = within.0; few = within.1 },
+)
   where
-    at : IsStocked [] Unasked i
-    at = subst (λ (l : List Slot). IsStocked l Unasked i) empty stocked
+    rest : List ℕ
+    rest = drop end i.unread
 
--- ---- by the turn
+    unread : after.unread ≡ rest
+    unread = ap (λ (j : Incoming). j.unread) passed
 
-pub turn_view : (turn u : Turn) (heads : List Slot) (i : Incoming) (t : Stock) → stock_of heads turn i ≡ t → turn ≡ u → stock_of heads u i ≡ t
-turn_view turn u heads i t view is = ap (λ (v : Turn). stock_of heads v i) (sym is) ∙ view
+    head_at : head ≡ slice_range i.unread start end
+    head_at = cc is_head.1
 
-pub coming_heads : (turn : Turn) (heads : List Slot) (i : Incoming) (t : Stock) → stock_of heads turn i ≡ t → turn ≡ Unasked → IsStocked heads turn i → 0 < length heads
-    → true ≡ is_coming_in t.piece
-coming_heads turn heads i t view is stocked some =
-    sym (coming_unasked heads i (subst (λ (u : Turn). IsStocked heads u i) is stocked) some) ∙ sym (ap (λ (u : Turn). is_coming_in (piece_by u heads i)) is)
-    ∙ ap (λ (s : Stock). is_coming_in s.piece) view
+    at : IsReading (slice_range i.unread start end) (head_is h)
+    at = subst (λ (l : List ℕ). IsReading l (head_is h)) head_at reads
 
-pub coming_next : (turn : Turn) (heads : List Slot) (i : Incoming) (t : Stock) → stock_of heads turn i ≡ t → turn ≡ Next → IsStocked heads turn i → true ≡ is_coming_in t.piece
-coming_next turn heads i t view is stocked =
-    sym (coming_first heads i (subst (λ (u : Turn). IsStocked heads u i) is stocked)) ∙ sym (ap (λ (u : Turn). is_coming_in (piece_by u heads i)) is)
-    ∙ ap (λ (s : Stock). is_coming_in s.piece) view
+    goes_at : IsCountBehind count end (length rest) (has_body h.body) counts
+    goes_at =
+        let ended : size ≡ end = size_of i after start end size is_head.0 passed size_is in
+        subst (λ (b : Bool). IsCountBehind count end (length rest) b counts) body_is
+        (subst (λ (l : List ℕ). IsCountBehind count end (length l) body counts) unread
+        (subst (λ (n : ℕ). IsCountBehind count n (length after.unread) body counts) ended goes))
 
--- ---- the next head is searched for
+    number : Goes (heads_in count.left (take count.mark i.unread)) (heads_in counts.left (take counts.mark rest)) (is_bodiless (head_is h)) rest
+    number = goes_behind count counts i.unread start end h is_head.0 at goes_at
 
--- the first of heads that were read is found without one
-unasked_some : (heads : List Slot) (i : Incoming) → 0 < length heads
-    → IsFoundIn (joined heads ++ i.unread) (piece_by Unasked heads i) × (is_some (piece_by Unasked heads i) ≡ true)
-unasked_some [] i some = absurd (omega (arith, some))
-unasked_some (s ∷ more) i some = (scan_answers (joined (s ∷ more) ++ i.unread), refl)
+    same : heads_in counts.left (take counts.mark rest) ≡ heads_in counts.left (take counts.mark after.unread)
+    same = ap (λ (l : List ℕ). heads_in counts.left (take counts.mark l)) (sym unread)
 
-pub found_heads : (turn : Turn) (heads : List Slot) (i : Incoming) (t : Stock) → stock_of heads turn i ≡ t → turn ≡ Unasked → 0 < length heads
-    → IsFoundIn t.unread t.piece × (is_some t.piece ≡ true)
-found_heads turn heads i t view is some =
-    subst (λ (s : Stock). IsFoundIn s.unread s.piece × (is_some s.piece ≡ true)) view
-    (subst (λ (u : Turn). IsFoundIn (joined heads ++ i.unread) (piece_by u heads i) × (is_some (piece_by u heads i) ≡ true)) (sym is) (unasked_some heads i some))
+    bare : is_bare item ≡ is_bodiless (head_is h)
+    bare = bodiless_is item h says
 
--- their turn comes
-pub turned : (turn : Turn) (heads : List Slot) (i : Incoming) (t : Stock) → stock_of heads turn i ≡ t → IsStocked heads turn i → ¬ (turn ≡ Unasked)
-    → IsStocked heads Next i × (joined heads ++ i.unread ≡ t.unread) × (length heads ≡ t.ahead)
-turned Unasked heads i t view stocked other = absurd (other refl)
-turned Later heads i t view stocked other =
-    (record { fits = stocked.fits; are = stocked.are; turns = stocked.turns }, ap (λ (s : Stock). s.unread) view, ap (λ (s : Stock). s.ahead) view)
-turned Next heads i t view stocked other = (stocked, ap (λ (s : Stock). s.unread) view, ap (λ (s : Stock). s.ahead) view)
+    decoded : AreCounted 16 (is_bodiless (head_is h)) rest (heads_in counts.left (take counts.mark rest))
+        → (readings : List Reading) × (heads_in counts.left (take counts.mark after.unread) ≡ length readings)
+        × ((hold_size : ℕ) → length i.unread ≤ hold_size → AreAhead hold_size 16 (is_bare item) after.unread readings)
+    decoded are = (
+      are.readings,
+      sym same ∙ are.count,
+      λ hold fits.
+          subst (λ (b : Bool). AreAhead hold 16 b after.unread are.readings) (sym bare)
+          (subst (λ (l : List ℕ). AreAhead hold 16 (is_bodiless (head_is h)) l are.readings) (sym unread) (are.are hold (omega (arith, length-drop end i.unread, fits)))),
+    )
 
-pub turned_found : (heads : List Slot) (i : Incoming) → IsFoundIn (joined heads ++ i.unread) (piece_by Next heads i)
-turned_found heads i = scan_answers (joined heads ++ i.unread)
+    within : (counts.mark ≤ length after.unread) × (counts.left ≤ 16)
+    within =
+        let long : length rest ≡ length i.unread - end = length-drop end i.unread in
+        let both = within_behind count counts end (length rest) (has_body h.body) stocked.few (λ some near. omega (arith, stocked.within, long)) goes_at in
+        (omega (arith, both.0, ap (λ (l : List ℕ). length l) unread), both.1)
+
+pub handed : (count counts : Count) (i after : Incoming) (item : HeadItem) (size : ℕ) (body : Bool) → IsStocked count i → (next : IsNextHead i item) → IsPassedHead i after
+    → size ≡ length i.unread - length after.unread → body ≡ has_body next.2.0.body → IsCountBehind count size (length after.unread) body counts
+    → HandsOut (stock_of count i) item (stock_of counts after) × IsStocked counts after
+handed count counts i after item size body stocked next passed size_is body_is goes =
+    handed_in count counts i after i.piece item next.0 next.2.0 size body stocked refl next.1 next.2.1 next.2.2 passed size_is body_is goes
+
+-- ---- it is refused
+
+-- one that is refused is the last
+fault_in : (count : Count) (i : Incoming) (piece : Option HeadScan) (head : List ℕ) (f : Fault) → IsHeadIn i piece (Some head) → IsReading head (faulty f)
+    → heads_in count.left (take count.mark i.unread) ≤ 1
+fault_in count i None head f is_head reads = absurd (cc is_head)
+fault_in count i (Some Open) head f is_head reads = absurd (cc is_head)
+fault_in count i (Some (Piece start end)) head f is_head reads =
+    let same : head ≡ slice_range i.unread start end = cc is_head.1 in
+    let at : IsReading (slice_range i.unread start end) (faulty f) = subst (λ (l : List ℕ). IsReading l (faulty f)) same reads in
+    elim (counted_or_not count end) [
+      | inl in_count ↦ omega (arith, counted count i.unread start end (faulty f) is_head.0 at in_count.0 in_count.1)
+      | inr out ↦ omega (arith, uncounted count i.unread start end is_head.0 out)
+    ]
+
+pub fault_last : (count : Count) (i : Incoming) (f : Fault) → IsNextFault i f → heads_in count.left (take count.mark i.unread) ≤ 1
+fault_last count i f next = fault_in count i i.piece next.0 f next.1 next.2

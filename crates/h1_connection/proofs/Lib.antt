@@ -19,8 +19,6 @@ pub mod DeadlineLemmas
 pub mod ScanLemmas
 pub mod InputLemmas
 pub mod AheadLemmas
-pub mod StockLemmas
-pub mod RingLemmas
 pub mod IntakeLemmas
 pub mod ClosingLemmas
 pub mod CutLemmas

@@ -39,6 +39,10 @@ pub err_map : {A E : Type 0} (r : Result A E) (P Q : Type 0) → (P → Q) → O
 err_map (Ok a) P Q f x = tt
 err_map (Err e) P Q f x = f x
 
+pub err_any : {A E : Type 0} (r : Result A E) (P : Type 0) → P → OnErr r P
+err_any (Ok a) P x = tt
+err_any (Err e) P x = x
+
 pub ok_three : {A E : Type 0} (r : Result A E) (P : A → Type 0) (Q S : Type 0) (R : A → Type 0) → ((a : A) → P a → Q → S → R a) → IfOk r P → OnOk r Q → OnOk r S
     → IfOk r R
 ok_three (Ok a) P Q S R f x y z = f a x y z

@@ -146,7 +146,7 @@ searched_may p m may searched =
     may_of m (λ found. ap (λ (r : Parts). is_free (kept_of r)) searched.parts ∙ sym searched.searched ∙ found)
     (λ left. searched.ahead ∙ may.behind (sym (ap (λ (r : Parts). leaves_body (kept_of r)) searched.parts) ∙ left))
 
--- no head is read ahead behind a body of which something is left
+-- no head is counted behind a body of which something is left
 left_leaves : (raw nothing : Bool) → nothing ≡ false → (raw || not nothing) ≡ true
 left_leaves true nothing is = refl
 left_leaves false true is = absurd (cc is)

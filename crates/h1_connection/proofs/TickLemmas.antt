@@ -53,7 +53,7 @@ at_tick ms p = record p { clock = record p.clock { first = option_or p.clock.fir
 tick_free : (m p : Parts) (ms : ℕ) → m.exchange ≡ p.exchange → is_free (kept_of (at_tick ms m)) ≡ is_free (kept_of p)
 tick_free m p ms same = ap (λ (e : Option Exchange). is_free (kept_of (record p { exchange = e }))) same
 
--- none is read ahead behind a body then either
+-- none is counted behind a body then either
 tick_behind : (s : Settings) (p m : Parts) → IsSound s p → m.exchange ≡ p.exchange → m.input ≡ p.input → HasNoneBehind (kept_of m) m.input.ahead
 tick_behind s p m sound exchange input = λ left.
     ap (λ (i : Stock). i.ahead) input ∙ sound.behind (sym (ap (λ (e : Option Exchange). leaves_body (kept_of (record p { exchange = e }))) exchange) ∙ left)

@@ -67,7 +67,7 @@ IsNexted settings p (next.Closed end) q = Steps settings p on.next (on.closed (e
 abbrev pub MayAsk : Setting → Kept → Type 0
 MayAsk setting k = (is_some (closing_by setting k) || not (is_open k)) ≡ true
 
--- What becomes of the number of heads that were read ahead: behind a head there is one fewer, or where there was none, as
+-- What becomes of the number of heads that stand ahead: behind a head there is one fewer, or where there was none, as
 -- many as may be; behind a fault, which is the last of them, there is none; and else it stays.
 abbrev pub NumberGoes : Settings → Parts → NextHead → Parts → Type 0
 NumberGoes settings p (next.Head item) q = CountsOn p.input item q.input

@@ -1,19 +1,18 @@
 -- What a connection holds of its input: the bytes that were taken and not passed, and what was found of a head.
-use Rattle.std.specs.Prelude.{◌≡◌, ℕ, Bool, true, false, ◌⊎◌, List, [], ◌++◌, length, take, drop, slice_range, IsTrue, Option, Some, None, ⊤}
+use Rattle.std.specs.Prelude.{◌≡◌, ℕ, Bool, true, false, ◌⊎◌, List, [], ◌++◌, length, drop, slice_range, IsTrue, Option, Some, None}
 use Rattle.model_h1.specs.HeadPiece.{IsHeadPiece, HasNoHeadPiece}
 use Rattle.h1_decoder.specs.declared.scan.HeadScan.{HeadScan}
 use Rattle.h1_decoder.specs.declared.scan.HeadScan.TheVariants.{Open, Piece}
-use Rattle.http_framing.specs.Kinds.{kind_of}
-use Rattle.model_h1.specs.Request.{Head, Fault, head_is, faulty, has_body}
+use Rattle.model_h1.specs.Request.{Head, Fault, head_is, faulty}
 use Rattle.model_h1.specs.RequestHead.{IsReading}
 use Rattle.h1_decoder.specs.HeadItem.{SaysHead}
 use Rattle.h1_decoder.specs.declared.decoder.HeadItem.{HeadItem}
 use Rattle.h1_decoder.specs.HeadPosition.{HeadPosition, HasScanned}
 use Rattle.h1_decoder.specs.HeadScan.{AnswersScan}
 use Rattle.h1_connection.specs.Scan.{scan_of}
-use Rattle.h1_connection.specs.declared.connection.input.Scan.{Scan}
-use Rattle.h1_connection.specs.declared.connection.input.Search.{Search}
-use Rattle.h1_connection.specs.declared.connection.input.Search.TheVariants.{Off, Due, Done}
+use Rattle.h1_connection.specs.declared.connection.head_search.Scan.{Scan}
+use Rattle.h1_connection.specs.declared.connection.head_search.Search.{Search}
+use Rattle.h1_connection.specs.declared.connection.head_search.Search.TheVariants.{Off, Due, Done}
 
 -- The bytes, and where the first head stands among them, where one is searched for.
 pub record Incoming : Type 0 where
@@ -62,24 +61,6 @@ IsPassedIn i None after = ⊥
 
 abbrev pub IsPassedHead : Incoming → Incoming → Type 0
 IsPassedHead i after = IsPassedIn i i.piece after
-
--- its bytes, with those before it, were taken from the others
-abbrev pub IsTakenIn : Incoming → Option HeadScan → List ℕ → Incoming → Type 0
-IsTakenIn i (Some (Piece start end)) bytes after = (bytes ≡ take end i.unread) × (after ≡ record { unread = drop end i.unread; piece = None })
-IsTakenIn i (Some Open) bytes after = ⊥
-IsTakenIn i None bytes after = ⊥
-
-abbrev pub IsTakenHead : Incoming → List ℕ → Incoming → Type 0
-IsTakenHead i bytes after = IsTakenIn i i.piece bytes after
-
--- it has a body, or no byte stands behind it
-abbrev pub IsAloneIn : Incoming → Option HeadScan → HeadItem → Type 0
-IsAloneIn i (Some (Piece start end)) item = (has_body (kind_of item.body) ≡ true) ⊎ (drop end i.unread ≡ [])
-IsAloneIn i (Some Open) item = ⊤
-IsAloneIn i None item = ⊤
-
-abbrev pub IsAlone : Incoming → HeadItem → Type 0
-IsAlone i item = IsAloneIn i i.piece item
 
 -- ---- the fields
 

@@ -131,11 +131,11 @@ completed connection p = record p { exchange = replied (Answered connection) p.e
 abbrev pub leaves_body : Kept → Bool
 leaves_body k = of_exchange (λ x. x.asked.is_raw || not (is_nothing x.rest)) k
 
--- no head is read ahead behind it
+-- no head is counted behind it
 abbrev pub HasNoneBehind : Kept → ℕ → Type 0
 HasNoneBehind k ahead = leaves_body k ≡ true → ahead ≡ 0
 
--- a body isn't searched for a head, and none is read ahead behind it
+-- a body isn't searched for a head, and none is counted behind it
 pub record MayBeSearched (p : Parts) : Type 0 where
   pub searched : is_free (kept_of p) ≡ false → p.input.piece ≡ None
   pub behind : HasNoneBehind (kept_of p) p.input.ahead
@@ -145,7 +145,7 @@ abbrev pub IsNoted : Setting → Kept → Type 0
 IsNoted setting k = is_some (closing_by setting k) ≡ true → is_some k.closing_since ≡ true
 
 -- What holds of every connection between two events: the last tick is before the year 10000; a head is searched for, or
--- will be when it is asked for, where the last request is done with, and what is found is there; no head was read ahead
+-- will be when it is asked for, where the last request is done with, and what is found is there; no head is counted
 -- behind a body of which something is left; and since when it closes is noted.
 pub record IsSound (settings : Settings) (p : Parts) : Type 0 where
   pub moment : now (kept_of p) < MAX_MOMENT

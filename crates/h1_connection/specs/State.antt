@@ -52,12 +52,12 @@ Stands state trace = StandsFor (setting_of state.settings) state.kept trace
 abbrev pub IsMarked : State → List sums.Step → Type 0
 IsMarked state trace = state.marks ≡ buffered_runs (setting_of state.settings) trace
 
--- as many heads were read ahead as there are to be behind the trace
+-- as many heads stand ahead as are to be behind the trace
 abbrev pub IsCounted : State → List sums.Step → Type 0
 IsCounted state trace = IsAhead (setting_of state.settings) trace state.ahead
 
 -- Behind each trace that the connection stands for, the table's outcome is such a one, and the connection stands for
--- the longer trace, also with the places of the body bytes among those that wait, and with the heads that were read ahead.
+-- the longer trace, also with the places of the body bytes among those that wait, and with the heads that stand ahead.
 abbrev pub GoesOn : State → on.Event → (on.Outcome → Type 0) → State → Type 0
 GoesOn state event Says after =
     (trace : List sums.Step) → Stands state trace

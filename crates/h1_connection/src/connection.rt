@@ -53,6 +53,8 @@ mod deadlines;
 mod exchange;
 mod filling;
 mod frames;
+mod front_head;
+mod head_search;
 mod heads;
 mod input;
 mod intake;
@@ -75,7 +77,7 @@ pub const READ_SIZE: usize = 8192;
 /// over all that happened say. After an error all is as before: memory ran out, or a source failed or found no room.
 ///
 /// A clause sees it as its settings, what the machine keeps, the places of body bytes among those that wait, and how many
-/// heads were read ahead.
+/// heads stand ahead.
 #[derive(Drop)]
 pub struct Connection {
     alloc: Global,
@@ -142,26 +144,26 @@ impl Connection {
         self.parts.input.len()
     }
 
-    /// The bytes of the input that are held, from place `start` on, as many as lie together: who goes on behind the last of
-    /// them sees all. They lie together while something is left to do for the last request, unless heads were read ahead of
-    /// it: so what came behind a request that hands the connection over, by an upgrade or CONNECT, is one piece.
+    /// The bytes of the input that are held, from place `start` on, as many as lie together: who goes on behind them sees all.
+    /// They lie together while something is left to do for the last request, as behind an upgrade or CONNECT.
     pub fn held_bytes(&self, start: usize) -> &[u8]
         ensures first { (rest : List ℕ) × (result.now ++ rest ≡ drop start self.now.kept.unread) }
         ensures some { start < length self.now.kept.unread → 0 < length result.now }
         ensures fits { length result.now ≤ length self.now.kept.unread - start }
-        ensures whole { is_free self.now.kept ≡ false → self.now.ahead ≡ 0 → result.now ≡ drop start self.now.kept.unread }
+        ensures whole { is_free self.now.kept ≡ false → result.now ≡ drop start self.now.kept.unread }
     {
         self.parts.input.bytes_from(start)
     }
 
-    /// How many heads were read ahead of the one that was handed out last: at most 16. They are handed out by the next
-    /// calls, and count among the bytes that are held.
-    pub fn ahead(&self) -> usize
-        ensures value { result ≡ self.now.ahead }
-        ensures most { result ≤ 16 }
-        ensures traced { (trace : List sums.Step) → IsCounted self.now trace → IsAhead (setting_of self.now.settings) trace result }
+    /// How many heads stand ahead of the one that was handed out last, at most 16, among the bytes that are held. Each is read
+    /// for it, into memory of its own: so `NoMemory` may come, but not where none stands ahead.
+    pub fn ahead(&self) -> Result<usize, NoMemory>
+        ensures value { IfOk result (λ count. count ≡ self.now.ahead) }
+        ensures most { IfOk result (λ count. count ≤ 16) }
+        ensures traced { IfOk result (λ count. (trace : List sums.Step) → IsCounted self.now trace → IsAhead (setting_of self.now.settings) trace count) }
+        ensures no_memory_needed { self.now.ahead ≡ 0 → IsOk result }
     {
-        self.parts.input.ahead()
+        self.parts.input.ahead(self.alloc)
     }
 
     /// Takes bytes that were read from the peer, from the first on, and says how many there was room for.
@@ -396,12 +398,13 @@ impl Connection {
         self.parts.fail_answer(&self.config)
     }
 
-    /// The bytes that a socket may be given next: the first of those that wait to be written, and none only where none
-    /// waits. `advance` says how many of them were written.
+    /// The bytes that a socket may be given next: the first of those that wait to be written, as many as lie together, and
+    /// no fewer than `front` gives. They are none only where none waits. `advance` says how many of them were written.
     pub fn stretch(&self) -> &[u8]
         ensures first { (rest : List ℕ) × (result.now ++ rest ≡ self.now.kept.buffered) }
         ensures fits { length result.now ≤ length self.now.kept.buffered }
         ensures some { length result.now ≡ 0 → length self.now.kept.buffered ≡ 0 }
+        ensures segment { length (first_segment self.now.marks self.now.kept.buffered) ≤ length result.now }
     {
         self.parts.output.stretch()
     }
@@ -438,8 +441,7 @@ impl Connection {
         copy.freeze_to(self.buffered())
     }
 
-    /// The first `count` bytes of `stretch` were written: the write of as many, whose bytes nobody asks for. It takes no
-    /// memory.
+    /// The first `count` bytes of `stretch` were written: the write of as many, which nobody asks for. It takes no memory.
     pub fn advance(&mut self, count: usize)
         requires can_write { IsAllowed self.old (on.write count) }
         requires fits { count ≤ length self.old.kept.buffered }

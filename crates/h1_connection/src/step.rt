@@ -25,18 +25,12 @@ impl Connection {
         ensures err { OnErr result (self.new ≡ self.old) }
     {
         match event {
-            Event::Read(bytes) => {
-                let count = self.read(bytes.as_slice())?;
-                Ok(Outcome::Took(count))
-            }
+            Event::Read(bytes) => Ok(Outcome::Took(self.read(bytes.as_slice())?)),
             Event::Eof => {
                 self.eof();
                 Ok(Outcome::Done)
             }
-            Event::Next => {
-                let next = self.ask()?;
-                Ok(outcome_of_next(next))
-            }
+            Event::Next => Ok(outcome_of_next(self.ask()?)),
             Event::Pull => self.step_pull(),
             Event::DropBody => {
                 self.drop_body();
@@ -62,26 +56,14 @@ impl Connection {
                 self.fail_answer();
                 Ok(Outcome::Done)
             }
-            Event::Write(limit) => {
-                let bytes = self.write(*limit)?;
-                Ok(Outcome::Gave(bytes))
-            }
-            Event::Tick(moment) => {
-                let expiry = self.tick(*moment)?;
-                Ok(outcome_of_tick(expiry))
-            }
+            Event::Write(limit) => Ok(Outcome::Gave(self.write(*limit)?)),
+            Event::Tick(moment) => Ok(outcome_of_tick(self.tick(*moment)?)),
             Event::Drain => {
                 self.drain();
                 Ok(Outcome::Done)
             }
-            Event::Accept(limit) => {
-                let accepted = self.accept(*limit)?;
-                Ok(outcome_of_accept(accepted))
-            }
-            Event::Send(message) => {
-                let sent = self.send(message.get())?;
-                Ok(outcome_of_send(sent))
-            }
+            Event::Accept(limit) => Ok(outcome_of_accept(self.accept(*limit)?)),
+            Event::Send(message) => Ok(outcome_of_send(self.send(message.get())?)),
         }
     }
 

@@ -1,8 +1,7 @@
 -- What a piece is read as, by the parts that the spans cover.
-use Rattle.std.proofs.Common.{◌≡◌, ℕ, Bool, true, false, ◌&&◌, length, List, [], ◌∷◌, map, take, All, Some, Result, Ok, Err, inl, inr, refl, sym, ap, ◌∙◌, subst, arith}
-use Rattle.std.specs.Prelude.{IfOk, IfErr, IsTrue, ◌⊎◌, nat_lt}
+use Rattle.std.proofs.Common.{◌≡◌, ℕ, List, [], ◌∷◌, map, take, All, Some, Result, Ok, Err, inl, inr, refl, sym, ap, ◌∙◌, subst}
+use Rattle.std.specs.Prelude.{IfOk, IfErr, OnOk}
 use Rattle.std.specs.List.{AllByRecursion}
-use Rattle.std.proofs.lemmas.Bool.{ltb-false}
 use Rattle.std.proofs.lemmas.List.Elements.{All-nil, All-cons, All-head, All-tail}
 use Rattle.httparse.specs.Grammar.{is_value_byte, Field, IsField, RequestHead}
 use Rattle.httparse.proofs.TrimLemmas.{AllPass-trim_ows}
@@ -177,18 +176,17 @@ says_whole piece text all spans (Ok item) same whole parts says = (
 says_whole piece text all spans (Err e) same whole parts says = tt
 
 -- the same of a head that was read over another
-pub says_read : (piece text : List ℕ) (all : List HeaderSpan) (spans : RequestSpans) (item : HeadItem) (r : Result Bool ParseError)
+pub says_over : {T : Type 0} (piece text : List ℕ) (all : List HeaderSpan) (spans : RequestSpans) (item : HeadItem) (r : Result T ParseError)
     → text ≡ piece → IsWholeHeadAt text all spans
-    → IfOk r (λ read. IsTrue read → AreParts (parts_at piece spans (take spans.headers all)) (kind_of item.body))
-    → IfOk r (λ read. IsTrue read → SaysHead item (head_of (parts_at piece spans (take spans.headers all)) (kind_of item.body)))
-    → IfOk r (λ read. IsTrue read → (h : Head) × IsReading piece (head_is h) × SaysHead item h)
-says_read piece text all spans item (Ok read) same whole parts says =
-    λ is. (
-      head_of (parts_at piece spans (take spans.headers all)) (kind_of item.body),
-      reads_whole piece all spans (subst (λ (t : List ℕ). IsWholeHeadAt t all spans) same whole) (kind_of item.body) (parts is),
-      says is,
-    )
-says_read piece text all spans item (Err e) same whole parts says = tt
+    → OnOk r (AreParts (parts_at piece spans (take spans.headers all)) (kind_of item.body))
+    → OnOk r (SaysHead item (head_of (parts_at piece spans (take spans.headers all)) (kind_of item.body)))
+    → OnOk r ((h : Head) × IsReading piece (head_is h) × SaysHead item h)
+says_over piece text all spans item (Ok done) same whole parts says = (
+  head_of (parts_at piece spans (take spans.headers all)) (kind_of item.body),
+  reads_whole piece all spans (subst (λ (t : List ℕ). IsWholeHeadAt t all spans) same whole) (kind_of item.body) parts,
+  says,
+)
+says_over piece text all spans item (Err e) same whole parts says = tt
 
 pub causes_whole : {T : Type 0} (piece text : List ℕ) (all : List HeaderSpan) (spans : RequestSpans) (r : Result T ParseError)
     → text ≡ piece → IsWholeHeadAt text all spans
@@ -203,21 +201,3 @@ pub faults : {T : Type 0} (piece : List ℕ) (r : Result T ParseError)
     → IfErr r (λ e. UnlessNoMemory e (Refuses e piece)) → IfErr r (λ e. UnlessNoMemory e (IsReading piece (faulty (fault_of e))))
 faults piece (Ok item) cause = tt
 faults piece (Err e) cause = λ ne. reads_fault piece e (cause ne)
-
--- ---- a head that may be left
-
--- it is left only where that is asked for
-pub was_read : {P : Type 0} (read : Bool) → (read ≡ false → (false ≡ true) × P) → IsTrue read
-was_read true left = refl
-was_read false left = absurd (cc (left refl).0)
-
--- it has a body, or no byte stands behind it
-pub alone_of : (counts : Bool) (rest : List ℕ) (followed body : Bool) → followed ≡ (counts && nat_lt 0 (length rest)) → (followed ≡ true → body ≡ true) → counts ≡ true
-    → (body ≡ true) ⊎ (rest ≡ [])
-alone_of true [] followed body is alone wanted = inr refl
-alone_of true (b ∷ rest) followed body is alone wanted = by_test (nat_lt 0 (length (b ∷ rest))) refl
-  where
-    by_test : (test : Bool) → nat_lt 0 (length (b ∷ rest)) ≡ test → (body ≡ true) ⊎ (b ∷ rest ≡ [])
-    by_test true some = inl (alone (is ∙ some))
-    by_test false none = absurd (omega (arith, ltb-false 0 (length (b ∷ rest)) none))
-alone_of false rest followed body is alone wanted = absurd (cc wanted)

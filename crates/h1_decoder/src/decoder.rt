@@ -1,5 +1,5 @@
 //! What the head of a request says (RFC 7230, section 3).
-ghost use Rattle.std.specs.Prelude.{◌≡◌, ◌≢◌, ◌↔◌, ◌<◌, ◌≤◌, ◌⊎◌, ◌++◌, ◌&&◌, [], None, IsTrue, true, false, length, map, take, codes, IfSome, IfNone, nat_lt, if◌then◌else◌, OnOk, OnErr, IfOk, IfErr, All};
+ghost use Rattle.std.specs.Prelude.{◌≡◌, ◌↔◌, ◌<◌, ◌≤◌, ◌⊎◌, ◌++◌, [], None, IsTrue, false, length, map, take, codes, IfSome, IfNone, nat_lt, if◌then◌else◌, OnOk, OnErr, IfOk, IfErr, All};
 ghost use Rattle.http_header.specs.Token.{IsToken};
 ghost use Rattle.http_framing.specs.Kinds.{kind_of};
 ghost use Rattle.http.specs.declared.version.TheConstants.Version.{HTTP_11};
@@ -8,7 +8,7 @@ ghost use Rattle.http_types.specs.RequestHead.{request_flags};
 ghost use Rattle.http_uri.specs.Uri.{HasParts, Spells, SpellsNone};
 ghost use Rattle.httparse.specs.Spans.{IsHeaderWithin, IsRequestWithin, IsWithin, header_bytes, span_bytes};
 ghost use Rattle.model_h1.specs.HeadPiece.{IsHeadPiece, header_lines};
-ghost use Rattle.model_h1.specs.Request.{Head, head_is, faulty, has_body};
+ghost use Rattle.model_h1.specs.Request.{Head, head_is, faulty};
 ghost use Rattle.model_h1.specs.RequestHead.{IsReading, IsTarget};
 ghost use Rattle.h1_decoder.specs.HeadItem.{SaysHead, version_of, without_headers};
 ghost use Rattle.h1_decoder.specs.Lines.{HasValue};
@@ -100,19 +100,6 @@ impl HeadRoom {
     }
 }
 
-/// What stands at the front of a buffer, where heads may be read ahead behind one without a body.
-#[derive(Clone, Copy, Debug, PartialEq, Eq)]
-pub enum FrontHead {
-    /// An empty line, or no whole head of the grammar with at most 96 header lines.
-    Missing,
-
-    /// A head, which was read.
-    Read,
-
-    /// A head without a body, behind which more bytes stand. It was cut off and is still to be read.
-    Left,
-}
-
 /// What the head says that `piece` is, from its first line to its empty line: a head of HTTP/1.0 or
 /// HTTP/1.1 (RFC 7230, section 3). A piece that is none is refused by the first of these that holds:
 /// `ParseError::TooLarge`, it has more than 96 header lines; `Header`, `Version` or `Status`, it isn't
@@ -140,7 +127,7 @@ pub fn request_head_in(
     ensures cause { IfErr result (λ e. UnlessNoMemory e (Refuses e piece)) }
 {
     let mut item = HeadItem::new(alloc);
-    read_over(alloc, &mut item, room, &piece, false)?;
+    read_over(alloc, &mut item, room, &piece)?;
     Ok(item)
 }
 
@@ -158,96 +145,53 @@ pub fn read_head_into(
     ensures err { OnErr result (item.new ≡ without_headers item.old) }
 {
     item.head.headers.clear();
-    match read_over(alloc, item, room, piece, false) {
-        Ok(_) => Ok(()),
-        Err(error) => {
-            item.head.headers.clear();
-            Err(error)
-        }
+    let result = read_over(alloc, item, room, piece);
+    if result.is_err() {
+        item.head.headers.clear();
     }
+    result
 }
 
-/// The same for a piece behind which more bytes stand, where `is_followed` says so: a head without a body is then left,
-/// since others may be read ahead behind it. The answer is false, and `item` is what it was, but without headers.
-pub fn read_lone_head_into(
-    alloc: Global,
-    item: &mut HeadItem,
-    room: &mut HeadRoom,
-    piece: &Bytes,
-    is_followed: bool,
-) -> Result<bool, ParseError>
-    ensures head { IfOk result (λ read. IsTrue read → (h : Head) × IsReading piece.now (head_is h) × SaysHead item.new h) }
-    ensures alone { IfOk result (λ read. IsTrue read → is_followed ≡ true → has_body (kind_of item.new.body) ≡ true) }
-    ensures left { IfOk result (λ read. read ≡ false → (is_followed ≡ true) × (item.new ≡ without_headers item.old)) }
-    ensures fault { IfErr result (λ e. UnlessNoMemory e (IsReading piece.now (faulty (fault_of e)))) }
-    ensures cause { IfErr result (λ e. UnlessNoMemory e (Refuses e piece.now)) }
-    ensures err { OnErr result (item.new ≡ without_headers item.old) }
-{
-    item.head.headers.clear();
-    let result = read_over(alloc, item, room, piece, is_followed);
-    match result {
-        Ok(true) => Ok(true),
-        _ => {
-            item.head.headers.clear();
-            result
-        }
-    }
-}
-
-/// Reads a head over one without headers, part by part, so that nothing large is moved. One without a body that is
-/// followed by more bytes is left: the answer is false then. After that and after an error some headers may be there.
+/// Reads a head over one without headers, part by part, so that nothing large is moved. After an error
+/// some headers may be there.
 #[inline(always)]
 fn read_over(
     alloc: Global,
     item: &mut HeadItem,
     room: &mut HeadRoom,
     piece: &Bytes,
-    is_followed: bool,
-) -> Result<bool, ParseError>
+) -> Result<(), ParseError>
     requires { item.old.head.headers ≡ [] }
-    ensures head { IfOk result (λ read. IsTrue read → (h : Head) × IsReading piece.now (head_is h) × SaysHead item.new h) }
-    ensures alone { IfOk result (λ read. IsTrue read → is_followed ≡ true → has_body (kind_of item.new.body) ≡ true) }
-    ensures left { IfOk result (λ read. read ≡ false → (is_followed ≡ true) × (without_headers item.new ≡ without_headers item.old)) }
+    ensures head { OnOk result ((h : Head) × IsReading piece.now (head_is h) × SaysHead item.new h) }
     ensures fault { IfErr result (λ e. UnlessNoMemory e (IsReading piece.now (faulty (fault_of e)))) }
     ensures cause { IfErr result (λ e. UnlessNoMemory e (Refuses e piece.now)) }
     ensures err { OnErr result (without_headers item.new ≡ without_headers item.old) }
 {
     match parse_whole(piece.as_slice(), &mut room.fields) {
-        Ok(spans) => read_parts_over(
-            alloc,
-            item,
-            piece,
-            spans,
-            &room.fields[..spans.headers],
-            is_followed,
-        ),
+        Ok(spans) => read_parts_over(alloc, item, piece, spans, &room.fields[..spans.headers]),
         Err(error) => Err(error),
     }
 }
 
 /// Cuts off the head with which the buffer begins, and reads it over another one as `read_head_into` does: it is parsed
-/// where it stands, and not searched for. What was cut off stands in `front`, which is empty before. Where an empty line
-/// stands at the buffer's front, and where no whole head of the grammar with at most 96 header lines does, it is missing,
-/// and all is as before. A head without a body behind which more bytes stand is cut off and left where `leaves` says so,
-/// since others may be read ahead behind it: `item` is then what it was, but without headers. A head that is refused is cut
-/// off too, and one that wants memory may be. After an error `item` is what it was, but without headers.
+/// where it stands, and not searched for. What was cut off stands in `front`, which is empty before. The answer is false
+/// where an empty line stands at the buffer's front, and where no whole head of the grammar with at most 96 header lines
+/// does: all is then as before. A head that is refused is cut off too, and one that wants memory may be. After an error
+/// `item` is what it was, but without headers.
 pub fn cut_head_into(
     alloc: Global,
     item: &mut HeadItem,
     room: &mut HeadRoom,
     buffer: &mut BytesMut,
     front: &mut Bytes,
-    leaves: bool,
-) -> Result<FrontHead, ParseError>
+) -> Result<bool, ParseError>
     requires { front.old ≡ [] }
     ensures bytes { front.new ++ buffer.new.items ≡ buffer.old.items }
     ensures cut { (front.new ≡ []) ⊎ IsHeadPiece buffer.old.items 0 (length front.new) }
-    ensures piece { IfOk result (λ found. found ≢ FrontHead.Missing → IsHeadPiece buffer.old.items 0 (length front.new)) }
-    ensures head { IfOk result (λ found. found ≡ FrontHead.Read → (h : Head) × IsReading front.new (head_is h) × SaysHead item.new h) }
-    ensures alone { IfOk result (λ found. found ≡ FrontHead.Read → leaves ≡ true → (has_body (kind_of item.new.body) ≡ true) ⊎ (buffer.new.items ≡ [])) }
-    ensures left { IfOk result (λ found. found ≡ FrontHead.Left → (leaves ≡ true) × (item.new ≡ without_headers item.old)) }
-    ensures none { IfOk result (λ found. found ≡ FrontHead.Missing → (front.new ≡ []) × (item.new ≡ item.old)) }
-    ensures missing { IfOk result (λ found. found ≡ FrontHead.Missing → BeginsWithNoHead buffer.old.items) }
+    ensures head { IfOk result (λ found. IsTrue found → IsHeadPiece buffer.old.items 0 (length front.new)
+        × ((h : Head) × IsReading front.new (head_is h) × SaysHead item.new h)) }
+    ensures none { IfOk result (λ found. found ≡ false → (front.new ≡ []) × (item.new ≡ item.old)) }
+    ensures missing { IfOk result (λ found. found ≡ false → BeginsWithNoHead buffer.old.items) }
     ensures fault { IfErr result (λ e. UnlessNoMemory e (IsHeadPiece buffer.old.items 0 (length front.new)
         × IsReading front.new (faulty (fault_of e)))) }
     ensures cause { IfErr result (λ e. UnlessNoMemory e (Refuses e front.new)) }
@@ -255,34 +199,20 @@ pub fn cut_head_into(
     ensures err { OnErr result (item.new ≡ without_headers item.old) }
 {
     let Some(spans) = parse_front(buffer.as_slice(), &mut room.fields) else {
-        return Ok(FrontHead::Missing);
+        return Ok(false);
     };
     item.head.headers.clear();
     match buffer.freeze_to(spans.len) {
         Ok(head) => *front = head,
         Err(_) => return Err(ParseError::NoMemory),
     }
-    let followed = is_followed(buffer, leaves);
-    let fields = &room.fields[..spans.headers];
-    match read_parts_over(alloc, item, front, spans, fields, followed) {
-        Ok(true) => Ok(FrontHead::Read),
-        Ok(false) => {
-            item.head.headers.clear();
-            Ok(FrontHead::Left)
-        }
+    match read_parts_over(alloc, item, front, spans, &room.fields[..spans.headers]) {
+        Ok(()) => Ok(true),
         Err(error) => {
             item.head.headers.clear();
             Err(error)
         }
     }
-}
-
-/// Whether more bytes stand behind a head that was cut off, where that counts.
-#[inline(always)]
-fn is_followed(rest: &BytesMut, counts: bool) -> bool
-    ensures { result ≡ (counts && nat_lt 0 (length rest.now.items)) }
-{
-    counts && rest.len() > 0
 }
 
 /// Where the parts of the head are with which the bytes begin, if it stands there whole, with no empty line before it.
@@ -372,8 +302,7 @@ fn text_error(piece: &[u8], error: ParseError) -> ParseError
 }
 
 /// Writes the head whose parts the spans cover over one without headers. The target comes last: it is large,
-/// and is written once, where it stays. Of two errors it is told before that of the lines all the same. Where the lines
-/// frame no body and more bytes follow, the rest is left, and the answer is false.
+/// and is written once, where it stays. Of two errors it is told before that of the lines all the same.
 #[inline(always)]
 fn read_parts_over(
     alloc: Global,
@@ -381,17 +310,14 @@ fn read_parts_over(
     piece: &Bytes,
     spans: RequestSpans,
     fields: &[HeaderSpan],
-    is_followed: bool,
-) -> Result<bool, ParseError>
+) -> Result<(), ParseError>
     requires method { IsWithin (length piece.now) spans.method }
     requires path { IsWithin (length piece.now) spans.path }
     requires fields { All (IsHeaderWithin (length piece.now)) fields.now }
     requires values { All HasValue (map (header_bytes piece.now) fields.now) }
     requires empty { item.old.head.headers ≡ [] }
-    ensures parts { IfOk result (λ read. IsTrue read → AreParts (parts_at piece.now spans fields.now) (kind_of item.new.body)) }
-    ensures says { IfOk result (λ read. IsTrue read → SaysHead item.new (head_of (parts_at piece.now spans fields.now) (kind_of item.new.body))) }
-    ensures alone { IfOk result (λ read. IsTrue read → is_followed ≡ true → has_body (kind_of item.new.body) ≡ true) }
-    ensures left { IfOk result (λ read. read ≡ false → (is_followed ≡ true) × (without_headers item.new ≡ without_headers item.old)) }
+    ensures parts { OnOk result (AreParts (parts_at piece.now spans fields.now) (kind_of item.new.body)) }
+    ensures says { OnOk result (SaysHead item.new (head_of (parts_at piece.now spans fields.now) (kind_of item.new.body))) }
     ensures refused { IfErr result (λ e. UnlessNoMemory e (RefusesParts e (parts_at piece.now spans fields.now))) }
     ensures err { OnErr result (without_headers item.new ≡ without_headers item.old) }
 {
@@ -406,16 +332,13 @@ fn read_parts_over(
     );
     match lines {
         Ok((framing, body)) => {
-            if is_followed && body == BodyKind::None {
-                return Ok(false);
-            }
             let target = share(piece, spans.path)?;
             put_uri(&mut item.head.uri, &target)?;
             item.head.restart(method, read_version(spans.version));
             framing.mark(&mut item.head);
             item.target = target;
             item.body = body;
-            Ok(true)
+            Ok(())
         }
         Err(error) => Err(lines_error(piece, spans.path, error)),
     }

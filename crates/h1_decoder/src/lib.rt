@@ -30,8 +30,7 @@ mod scan;
 mod value;
 
 pub use decoder::{
-    FrontHead, HeadItem, HeadRoom, cut_head_into, read_head_into, read_lone_head_into,
-    request_head, request_head_in,
+    HeadItem, HeadRoom, cut_head_into, read_head_into, request_head, request_head_in,
 };
 pub use http_framing::BodyKind;
 pub use response::{ResponseItem, response_head};

@@ -11,6 +11,7 @@ use Rattle.http_framing.specs.declared.body.size.BodySize.{BodySize}
 use Rattle.http_framing.specs.declared.body.size.BodySize.TheVariants.{None as NoBody, Sized, Stream}
 use Rattle.http_bodies.specs.Giving.{Giving, Piece}
 use Rattle.http_services.specs.Serving.{Serving}
+use Rattle.http_transport.specs.Peer.{PeerAddress}
 use Rattle.http_transport.specs.Wiring.{Wiring}
 use Rattle.model_h1.specs.End as ends
 use Rattle.model_h1.specs.End.{End}
@@ -240,8 +241,8 @@ last_true : (a b : Bool) → (a && b) ≡ true → b ≡ true
 last_true true b is = is
 last_true false b is = absurd (cc is)
 
-pub asks_in_room : (v w : View) (head : NextHead) → IsStep v (next head) w → has_write_room v ≡ true
-asks_in_room v w head is = last_true (allows_next v) (has_write_room v) is.2
+pub asks_in_room : (v w : View) (peer : PeerAddress) (head : NextHead) → IsStep v (next peer head) w → has_write_room v ≡ true
+asks_in_room v w peer head is = last_true (allows_next v) (has_write_room v) is.2
 
 -- a request that came waits for the service
 none_asked : (request : Option Asking) → is_asked (stage_at request) ≡ false
@@ -262,7 +263,7 @@ step_holds v w drained noted is h =
 step_holds v w (written answer) noted is h = as_far v w (written answer) (wrote v w answer is.3 h.tied) (ap (λ (x : View). x.stage) is.4) h
 step_holds v w (read came answer) noted is h = as_far v w (read came answer) (took v w came answer is.3 h.tied) (ap (λ (x : View). x.stage) is.4) h
 step_holds v w (shut answer) noted is h = as_far v w (shut answer) (traced_less v w (ap (λ (x : View). x.traced) is.2)) (ap (λ (x : View). x.stage) is.2) h
-step_holds v w (next head) noted is h = none_has_it v w (next head) (asks_in_room v w head is) (ap (λ (x : View). is_asked x.stage) is.4 ∙ none_asked (request_at head))
+step_holds v w (next peer head) noted is h = none_has_it v w (next peer head) (asks_in_room v w peer head is) (ap (λ (x : View). is_asked x.stage) is.4 ∙ none_asked (request_at peer head))
 step_holds v w (closed end) noted is h =
     let set = setting_of v.traced.state.settings in
     let k = v.traced.state.kept in
@@ -309,8 +310,8 @@ run_holds v w (d ∷ steps) noted is h =
 pub run_grows : (v u w : View) (steps : List Step) (step : Step) → AllNoted steps → IsNoted step → HasRoomForAnswer v → IsRun v steps u → IsStep u step w → GrowsInRoom u step w
 run_grows v u w steps step all one h run is = (step_holds u w step one is (run_holds v u steps all run h)).grows
 
-pub begun_room : (transport : Wiring) (service : Serving Asking Answer Answer) (settings : Settings) → HasRoomForAnswer (view_begun transport service settings None)
-begun_room transport service settings = record { tied = begun_tied transport service settings; room = λ asks. absurd (cc asks) }
+pub begun_room : (transport : Wiring) (service : Serving Asking Answer Answer) (settings : Settings) (peer : PeerAddress) (listens : Bool) → HasRoomForAnswer (view_begun transport service settings peer None listens)
+begun_room transport service settings peer listens = record { tied = begun_tied transport service settings peer listens; room = λ asks. absurd (cc asks) }
 
-pub begun_room_noted : (transport : Wiring) (service : Serving Asking Answer Answer) (settings : Settings) → HasRoomForAnswer (view_begun transport service settings (Some []))
-begun_room_noted transport service settings = record { tied = begun_tied_noted transport service settings; room = λ asks. absurd (cc asks) }
+pub begun_room_noted : (transport : Wiring) (service : Serving Asking Answer Answer) (settings : Settings) (peer : PeerAddress) (listens : Bool) → HasRoomForAnswer (view_begun transport service settings peer (Some []) listens)
+begun_room_noted transport service settings peer listens = record { tied = begun_tied_noted transport service settings peer listens; room = λ asks. absurd (cc asks) }

@@ -132,7 +132,7 @@ step_ends v w drained noted is f = (tt, goes_on v w on.drain (Is on.done) is.0 (
 step_ends v w (written answer) noted is f = (tt, wrote v w answer is.3 (ap (λ (x : View). x.stage) is.4) f)
 step_ends v w (read came answer) noted is f = absurd (no_read (setting_of v.traced.state.settings) v.traced.state.kept (closes_now v f) is.1)
 step_ends v w (shut answer) noted is f = (tt, still v w (ap (λ (x : View). x.traced) is.2) (ap (λ (x : View). x.stage) is.2) f)
-step_ends v w (next head) noted is f = clash (ap is_sending (sym f.stage ∙ is.1))
+step_ends v w (next peer head) noted is f = clash (ap is_sending (sym f.stage ∙ is.1))
 step_ends v w (closed end) noted is f = (
   tt,
   goes_on v w on.next (SaysNext is.3.0) is.3.1 (ap (λ (x : View). x.stage) is.4)

@@ -29,6 +29,7 @@ use Rattle.h1_connection.specs.EventMeaning.{setting_of}
 use Rattle.h1_connection.specs.declared.connection.heads.NextHead.{NextHead}
 use Rattle.h1_connection.specs.declared.connection.heads.NextHead.TheVariants as next_head
 use Rattle.h1_traced.specs.Traced.{TracedView, TracedStands}
+use Rattle.http_transport.specs.Peer.{PeerAddress}
 use Rattle.h1_dispatcher.specs.View.{View, Asking, Answer, Stage, free, waiting, calling, replying, sending}
 use Rattle.h1_dispatcher.specs.Steps.{Step, Goes, Wrote, Took, Sent, IsStep, IsRun, error_of, fed_with, queue_at, request_at, stage_at, stage_asked, stage_answered, stage_replied, stage_sent, ticked, drained, written, read, shut, next, closed, continued, ready, called, answered, pulled, paused, dropped, replied, sent, failed, failed_write, failed_read, failed_fed, failed_sent, asked_to_drain, asked_to_hold, declined, let_on, turned_away, refused}
 use Rattle.h1_dispatcher.specs.Traces.{IsNoted, AllNoted}
@@ -104,11 +105,11 @@ stays v w body stage queue has = keeps body v.stage w.stage v.queue w.queue stag
 elsewhere : (body : CameBody) (s t : Stage) (q : Queue) → t ≡ s → ((body : CameBody) (q : Queue) → HasBody body s q) → HasBody body t q
 elsewhere body s t q now off = subst (λ x. HasBody body x q) (sym now) (off body q)
 
-head_has : (body : CameBody) (head : NextHead) (q : Queue) → HasBody (body_at head body) (stage_at (request_at head)) (queue_at head q)
-head_has body (next_head.Head item) q = fresh_fed _
-head_has body (next_head.Fault fault) q = tt
-head_has body next_head.Pending q = tt
-head_has body (next_head.Closed end) q = tt
+head_has : (peer : PeerAddress) (body : CameBody) (head : NextHead) (q : Queue) → HasBody (body_at head body) (stage_at (request_at peer head)) (queue_at head q)
+head_has peer body (next_head.Head item) q = fresh_fed _
+head_has peer body (next_head.Fault fault) q = tt
+head_has peer body next_head.Pending q = tt
+head_has peer body (next_head.Closed end) q = tt
 
 asked_has : (body : CameBody) (request : Asking) (answer : Poll (Result Unit Answer)) (q : Queue) → HasBody body (waiting request) q → HasBody body (stage_asked request answer) q
 asked_has body request (Ready (Ok x)) q has = has
@@ -172,8 +173,8 @@ step_has v w drained body is has = stays v w body (ap (λ (x : View). x.stage) i
 step_has v w (written answer) body is has = stays v w body (ap (λ (x : View). x.stage) is.4) (ap (λ (x : View). x.queue) is.4) has
 step_has v w (read came answer) body is has = stays v w body (ap (λ (x : View). x.stage) is.4) (ap (λ (x : View). x.queue) is.4) has
 step_has v w (shut answer) body is has = stays v w body (ap (λ (x : View). x.stage) is.2) (ap (λ (x : View). x.queue) is.2) has
-step_has v w (next head) body is has =
-    keeps (body_at head body) (stage_at (request_at head)) w.stage (queue_at head v.queue) w.queue (ap (λ (x : View). x.stage) is.4) (ap (λ (x : View). x.queue) is.4) (head_has body head v.queue)
+step_has v w (next peer head) body is has =
+    keeps (body_at head body) (stage_at (request_at peer head)) w.stage (queue_at head v.queue) w.queue (ap (λ (x : View). x.stage) is.4) (ap (λ (x : View). x.queue) is.4) (head_has peer body head v.queue)
 step_has v w (closed end) body is has = stays v w body (ap (λ (x : View). x.stage) is.4) (ap (λ (x : View). x.queue) is.4) has
 step_has v w continued body is has = stays v w body (ap (λ (x : View). x.stage) is.3) (ap (λ (x : View). x.queue) is.3) has
 step_has v w (ready request answer) body is has =
@@ -295,7 +296,7 @@ step_bound v w drained trace stands noted is b = to_queue v w v.queue is.0.setti
 step_bound v w (written answer) trace stands noted is b = to_queue v w v.queue (wrote_settings v w answer is.3) (ap (λ (x : View). x.queue) is.4) b
 step_bound v w (read came answer) trace stands noted is b = to_queue v w v.queue (took_settings v w came answer is.3) (ap (λ (x : View). x.queue) is.4) b
 step_bound v w (shut answer) trace stands noted is b = to_queue v w v.queue (ap (λ (x : View). x.traced.state.settings) is.2) (ap (λ (x : View). x.queue) is.2) b
-step_bound v w (next head) trace stands noted is b =
+step_bound v w (next peer head) trace stands noted is b =
     to_queue v w (queue_at head v.queue) is.3.settings (ap (λ (x : View). x.queue) is.4) (head_bound v.traced.state.settings.h1_hold_size head v.queue b)
 step_bound v w (closed end) trace stands noted is b = to_queue v w v.queue is.3.1.settings (ap (λ (x : View). x.queue) is.4) b
 step_bound v w continued trace stands noted is b = to_queue v w v.queue is.2.settings (ap (λ (x : View). x.queue) is.3) b

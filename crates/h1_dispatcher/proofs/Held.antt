@@ -152,12 +152,12 @@ refused_steps old new limit outcome error some steps = λ trace stands.
 
 -- what the upgrade does: the request stays held back where it fails a check
 pub accepts_says : (v w : View) (limit : ℕ) (outcome : Outcome) (refusal : Option HandshakeError) → may_accept v limit ≡ true → refusal ≡ refusal_of outcome
-    → TracedSteps v.traced (on.accept limit) (SaysOutcome outcome) w.traced → w.traced.state.settings ≡ v.traced.state.settings → w ≡ record v { traced = w.traced }
+    → TracedSteps v.traced (on.accept limit) (SaysOutcome outcome) w.traced → w.traced.state.settings ≡ v.traced.state.settings → w.traced.listens ≡ v.traced.listens → w ≡ record v { traced = w.traced }
     → Accepts v limit w refusal
-accepts_says v w limit outcome None may is steps settings same =
-    (record { steps = accepted_steps v.traced w.traced limit outcome is steps; settings = settings }, same)
-accepts_says v w limit outcome (Some error) may is steps settings same =
-    (may, record { steps = refused_steps v.traced w.traced limit outcome error is steps; settings = settings }, same)
+accepts_says v w limit outcome None may is steps settings listens same =
+    (record { steps = accepted_steps v.traced w.traced limit outcome is steps; settings = settings; listens = listens }, same)
+accepts_says v w limit outcome (Some error) may is steps settings listens same =
+    (may, record { steps = refused_steps v.traced w.traced limit outcome error is steps; settings = settings; listens = listens }, same)
 
 -- ---- the one that is shown
 

@@ -23,3 +23,5 @@ pub mod Causes
 pub mod Once
 pub mod NoHeads
 pub mod Stretches
+pub mod Takes
+pub mod Peers

@@ -59,18 +59,19 @@ polled v w took more answer running allowed calls says takes bound same =
     record { running = running; allowed = allowed; took = took; calls = calls; says = says; more = more; takes = takes; bound = bound; same = same }
 
 pub asked_next : (v w : View) (head : NextHead) → v.ending ≡ None → is_busy v.stage ≡ false → allows_next v ≡ true → has_write_room v ≡ true → TracedSteps v.traced on.next (SaysNext head) w.traced
-    → w.traced.state.settings ≡ v.traced.state.settings → w ≡ record v { traced = w.traced; queue = w.queue; stage = w.stage; ending = w.ending; holding = w.holding; checking = w.checking }
-    → w.queue ≡ queue_at head v.queue → w.stage ≡ stage_at (request_at head) → w.ending ≡ ending_told head → w.holding ≡ holding_at head v → w.checking ≡ checking_at head v → IsStep v (next head) w
-asked_next v w head running idle allowed some steps settings same fresh stage ends holds checks = (
+    → w.traced.state.settings ≡ v.traced.state.settings → w.traced.listens ≡ v.traced.listens → w ≡ record v { traced = w.traced; queue = w.queue; stage = w.stage; ending = w.ending; holding = w.holding; checking = w.checking }
+    → w.queue ≡ queue_at head v.queue → w.stage ≡ stage_at (request_at v.peer head) → w.ending ≡ ending_told head → w.holding ≡ holding_at head v → w.checking ≡ checking_at head v → IsStep v (next v.peer head) w
+asked_next v w head running idle allowed some steps settings listens same fresh stage ends holds checks = (
   running,
   now_free v.stage idle,
   both_true (allows_next v) (has_write_room v) allowed some,
-  record { steps = steps; settings = settings },
+  record { steps = steps; settings = settings; listens = listens },
   same ∙ ap (λ x. record v { traced = w.traced; queue = x; stage = w.stage; ending = w.ending; holding = w.holding; checking = w.checking }) fresh
       ∙ ap (λ x. record v { traced = w.traced; queue = queue_at head v.queue; stage = x; ending = w.ending; holding = w.holding; checking = w.checking }) stage
-      ∙ ap (λ x. record v { traced = w.traced; queue = queue_at head v.queue; stage = stage_at (request_at head); ending = x; holding = w.holding; checking = w.checking }) ends
-      ∙ ap (λ x. record v { traced = w.traced; queue = queue_at head v.queue; stage = stage_at (request_at head); ending = ending_told head; holding = x; checking = w.checking }) holds
-      ∙ ap (λ x. record v { traced = w.traced; queue = queue_at head v.queue; stage = stage_at (request_at head); ending = ending_told head; holding = holding_at head v; checking = x }) checks,
+      ∙ ap (λ x. record v { traced = w.traced; queue = queue_at head v.queue; stage = stage_at (request_at v.peer head); ending = x; holding = w.holding; checking = w.checking }) ends
+      ∙ ap (λ x. record v { traced = w.traced; queue = queue_at head v.queue; stage = stage_at (request_at v.peer head); ending = ending_told head; holding = x; checking = w.checking }) holds
+      ∙ ap (λ x. record v { traced = w.traced; queue = queue_at head v.queue; stage = stage_at (request_at v.peer head); ending = ending_told head; holding = holding_at head v; checking = x }) checks,
+  refl,
 )
 
 -- whether a piece is allowed doesn't depend on it, and where one is, the body may end or fail
@@ -136,25 +137,25 @@ same_response work first second is so = ap (λ x. response_in x first) (sym so �
 
 -- an answer was handed on
 pub handed_on : (v w : View) (answer : Answer) → v.ending ≡ None → allows v on.drop_body ≡ false → v.stage ≡ replying answer → TracedSteps v.traced (on.answer (answer_of answer.head) (size_of answer.body.size)) (Is on.done) w.traced
-    → w.traced.state.settings ≡ v.traced.state.settings → w ≡ record v { traced = w.traced; queue = w.queue; stage = w.stage } → w.queue ≡ new_queue true → w.stage ≡ stage_replied answer.body answer.body.size
+    → w.traced.state.settings ≡ v.traced.state.settings → w.traced.listens ≡ v.traced.listens → w ≡ record v { traced = w.traced; queue = w.queue; stage = w.stage } → w.queue ≡ new_queue true → w.stage ≡ stage_replied answer.body answer.body.size
     → IsStep v (replied answer) w
-handed_on v w answer running none is steps settings same fresh stage = (
+handed_on v w answer running none is steps settings listens same fresh stage = (
   (running, none),
   is,
-  record { steps = steps; settings = settings },
+  record { steps = steps; settings = settings; listens = listens },
   same ∙ ap (λ x. record v { traced = w.traced; queue = x; stage = w.stage }) fresh ∙ ap (λ x. record v { traced = w.traced; queue = new_queue true; stage = x }) stage,
 )
 
 -- what came of a request's body was fed
 pub fed_step : (v w : View) (piece : Pulled) → Wants v → TracedSteps v.traced on.pull (SaysPulled piece) w.traced → w.traced.state.settings ≡ v.traced.state.settings
-    → w ≡ record v { traced = w.traced; queue = w.queue } → w.queue ≡ fed_with piece v.queue → IsStep v (pulled piece) w
-fed_step v w piece wants steps settings same fed =
-    (wants, record { steps = steps; settings = settings }, same ∙ ap (λ q. record v { traced = w.traced; queue = q }) fed)
+    → w.traced.listens ≡ v.traced.listens → w ≡ record v { traced = w.traced; queue = w.queue } → w.queue ≡ fed_with piece v.queue → IsStep v (pulled piece) w
+fed_step v w piece wants steps settings listens same fed =
+    (wants, record { steps = steps; settings = settings; listens = listens }, same ∙ ap (λ q. record v { traced = w.traced; queue = q }) fed)
 
 pub fed_fails : (v w : View) (bytes : List ℕ) → Wants v → TracedSteps v.traced on.pull (SaysPulled (pieces.Bytes bytes)) w.traced → w.traced.state.settings ≡ v.traced.state.settings
-    → w ≡ record v { traced = w.traced; queue = w.queue; ending = Some Broken } → w.queue ≡ v.queue → IsStep v (failed_fed bytes) w
-fed_fails v w bytes wants steps settings same kept =
-    (wants, record { steps = steps; settings = settings }, same ∙ ap (λ q. record v { traced = w.traced; queue = q; ending = Some Broken }) kept)
+    → w.traced.listens ≡ v.traced.listens → w ≡ record v { traced = w.traced; queue = w.queue; ending = Some Broken } → w.queue ≡ v.queue → IsStep v (failed_fed bytes) w
+fed_fails v w bytes wants steps settings listens same kept =
+    (wants, record { steps = steps; settings = settings; listens = listens }, same ∙ ap (λ q. record v { traced = w.traced; queue = q; ending = Some Broken }) kept)
 
 -- a queue that wants nothing for now
 pub paused_step : (v w : View) (asked : PayloadStatus) → v.ending ≡ None → awaits_body v ≡ true → asked ≡ status_of v.queue → asked ≡ status.Pause → Asked v.queue w.queue asked

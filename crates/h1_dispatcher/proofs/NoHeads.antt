@@ -16,6 +16,7 @@ use Rattle.h1_connection.specs.EventMeaning.{setting_of}
 use Rattle.h1_connection.specs.declared.connection.heads.NextHead.{NextHead}
 use Rattle.h1_connection.specs.declared.connection.heads.NextHead.TheVariants as next_head
 use Rattle.h1_traced.specs.Traced.{TracedStands}
+use Rattle.http_transport.specs.Peer.{PeerAddress}
 use Rattle.h1_dispatcher.specs.View.{View, closes, HasNoByte}
 use Rattle.h1_dispatcher.specs.Steps.{IsStep, next}
 use Rattle.h1_dispatcher.proofs.Turns.{none_of}
@@ -47,8 +48,8 @@ only_pending (next_head.Closed end) out says is =
     let never = sym says ∙ is in
     absurd (cc never)
 
-pub no_head : (v w : View) (head : NextHead) (trace : List sums.Step) → TracedStands v.traced trace → closes v ≡ false → HasNoByte v → IsStep v (next head) w → head ≡ next_head.Pending
-no_head v w head trace stands runs none is =
+pub no_head : (v w : View) (peer : PeerAddress) (head : NextHead) (trace : List sums.Step) → TracedStands v.traced trace → closes v ≡ false → HasNoByte v → IsStep v (next peer head) w → head ≡ next_head.Pending
+no_head v w peer head trace stands runs none is =
     let set = setting_of v.traced.state.settings in
     let k = v.traced.state.kept in
     let x = is.3.steps trace stands in

@@ -374,7 +374,7 @@ step_once v w drained body noted is o = same v w body.faults on.drain (Is on.don
 step_once v w (written answer) body noted is o = wrote v w body.faults answer is.3 o
 step_once v w (read came answer) body noted is o = took v w body.faults came answer is.3 o
 step_once v w (shut answer) body noted is o = still v w body.faults (ap (λ (x : View). x.traced) is.2) o
-step_once v w (next head) body noted is o = asked v w body head is.3 o
+step_once v w (next peer head) body noted is o = asked v w body head is.3 o
 step_once v w (closed end) body noted is o =
     same v w body.faults on.next (SaysNext is.3.0) is.3.1
     (λ out m. ends_so (setting_of v.traced.state.settings) v.traced.state.kept (closing_by (setting_of v.traced.state.settings) v.traced.state.kept) (end_of end) m.change is.1 m.changes) o

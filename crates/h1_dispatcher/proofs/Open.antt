@@ -12,6 +12,7 @@ use Rattle.http_bodies.specs.Giving.{Giving, Piece}
 use Rattle.http_bodies.specs.declared.body.fault.BodyFault.TheVariants.{Body, NoMemory}
 use Rattle.http_services.specs.Lent as lent
 use Rattle.http_services.specs.Serving.{Serving}
+use Rattle.http_transport.specs.Peer.{PeerAddress}
 use Rattle.http_transport.specs.Wiring.{Wiring}
 use Rattle.model_h1.specs.Answer.{AnswerHead, shape_of, type_of}
 use Rattle.model_h1.specs.Answer as answers
@@ -169,11 +170,11 @@ ends_so : (set : Setting) (k : Kept) (closing : Option End) (end : End) (c : Cha
 ends_so set k (Some other) end c closes is = by_change k.exchange c _ is refl
 ends_so set k None end c closes is = absurd (cc closes)
 
-pub busy_at : (head : NextHead) (out : on.Outcome) → SaysNext head out → hands_out out ≡ asks_at (stage_at (request_at head))
-busy_at (next_head.Head item) out says = ap hands_out says.2
-busy_at (next_head.Fault fault) out says = ap hands_out says
-busy_at next_head.Pending out says = ap hands_out says
-busy_at (next_head.Closed end) out says = ap hands_out says
+pub busy_at : (peer : PeerAddress) (head : NextHead) (out : on.Outcome) → SaysNext head out → hands_out out ≡ asks_at (stage_at (request_at peer head))
+busy_at peer (next_head.Head item) out says = ap hands_out says.2
+busy_at peer (next_head.Fault fault) out says = ap hands_out says
+busy_at peer next_head.Pending out says = ap hands_out says
+busy_at peer (next_head.Closed end) out says = ap hands_out says
 
 -- ---- an answer, and its body
 
@@ -330,10 +331,10 @@ step_ties v w drained noted is t = same v w on.drain (Is on.done) is.0 (ap (λ (
 step_ties v w (written answer) noted is t = wrote v w answer is.3 (ap (λ (x : View). x.stage) is.4) t
 step_ties v w (read came answer) noted is t = took v w came answer is.3 (ap (λ (x : View). x.stage) is.4) t
 step_ties v w (shut answer) noted is t = still v w (ap (λ (x : View). x.traced) is.2) (ap (λ (x : View). asks_at x.stage) is.2) t
-step_ties v w (next head) noted is t =
+step_ties v w (next peer head) noted is t =
     went v w on.next (SaysNext head) is.3
     (λ out says m was. nexts (setting_of v.traced.state.settings) v.traced.state.kept (closing_by (setting_of v.traced.state.settings) v.traced.state.kept) m.change (was ∙ ap asks_at is.1) m.changes
-    ∙ ap hands_out (sym m.answers) ∙ busy_at head out says ∙ ap (λ (x : View). asks_at x.stage) (sym is.4)) t
+    ∙ ap hands_out (sym m.answers) ∙ busy_at peer head out says ∙ ap (λ (x : View). asks_at x.stage) (sym is.4)) t
 step_ties v w (closed end) noted is t =
     same v w on.next (SaysNext is.3.0) is.3.1 (ap (λ (x : View). x.stage) is.4)
     (λ out m. ends_so (setting_of v.traced.state.settings) v.traced.state.kept (closing_by (setting_of v.traced.state.settings) v.traced.state.kept) (end_of end) m.change is.1 m.changes) t
@@ -411,8 +412,8 @@ run_stays v w steps noted is t =
 
 -- ---- a new dispatcher
 
-pub begun_tied : (transport : Wiring) (service : Serving Asking Answer Answer) (settings : Settings) → IsTied (view_begun transport service settings None)
-begun_tied transport service settings = record { trace = []; stands = fresh_traced settings None (says_none None [] refl); tied = refl; sends = refl }
+pub begun_tied : (transport : Wiring) (service : Serving Asking Answer Answer) (settings : Settings) (peer : PeerAddress) (listens : Bool) → IsTied (view_begun transport service settings peer None listens)
+begun_tied transport service settings peer listens = record { trace = []; stands = fresh_traced settings None listens (says_none None [] refl); tied = refl; sends = refl }
 
-pub begun_tied_noted : (transport : Wiring) (service : Serving Asking Answer Answer) (settings : Settings) → IsTied (view_begun transport service settings (Some []))
-begun_tied_noted transport service settings = record { trace = []; stands = fresh_traced settings (Some []) (says_empty (Some []) refl); tied = refl; sends = refl }
+pub begun_tied_noted : (transport : Wiring) (service : Serving Asking Answer Answer) (settings : Settings) (peer : PeerAddress) (listens : Bool) → IsTied (view_begun transport service settings peer (Some []) listens)
+begun_tied_noted transport service settings peer listens = record { trace = []; stands = fresh_traced settings (Some []) listens (says_empty (Some []) refl); tied = refl; sends = refl }

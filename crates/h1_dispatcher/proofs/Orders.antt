@@ -11,6 +11,7 @@ use Rattle.http_bodies.proofs.Histories.{grown, grown-none}
 use Rattle.http_services.specs.Lent.{Took}
 use Rattle.http_services.specs.Serving.{Serving}
 use Rattle.h1_connection.specs.declared.connection.heads.NextHead.{NextHead}
+use Rattle.http_transport.specs.Peer.{PeerAddress}
 use Rattle.h1_dispatcher.specs.View.{View, Asking, Answer, Stage, free, waiting, calling, replying, sending}
 use Rattle.h1_dispatcher.specs.Steps.{Step, IsStep, IsRun, request_at, stage_at, stage_asked, stage_answered, stage_replied, stage_sent, ticked, drained, written, read, shut, next, closed, continued, ready, called, answered, pulled, paused, dropped, replied, sent, failed, failed_write, failed_read, failed_fed, failed_sent, asked_to_drain, asked_to_hold, declined, let_on, turned_away, refused}
 use Rattle.h1_dispatcher.specs.Order.{waits_in, reply_in, calls_in, step_requests, step_calls, step_left, step_answers, step_results, step_replies, requests, calls, left, answers, results, replies, KeepsOrder}
@@ -68,9 +69,9 @@ reply_none : (request : Option Asking) → [] ≡ reply_in (stage_at request)
 reply_none None = refl
 reply_none (Some request) = refl
 
-handed : (v w : View) (head : NextHead) → v.stage ≡ free → w.stage ≡ stage_at (request_at head) → w.service ≡ v.service → Keeps v (next head) w
-handed v w head was now service =
-    by_stage v w (next head) free (stage_at (request_at head)) was now (waits_now (request_at head)) (calls_none (request_at head)) (reply_none (request_at head)) (same_calls v w service)
+handed : (v w : View) (peer : PeerAddress) (head : NextHead) → v.stage ≡ free → w.stage ≡ stage_at (request_at peer head) → w.service ≡ v.service → Keeps v (next peer head) w
+handed v w peer head was now service =
+    by_stage v w (next peer head) free (stage_at (request_at peer head)) was now (waits_now (request_at peer head)) (calls_none (request_at peer head)) (reply_none (request_at peer head)) (same_calls v w service)
 
 asked : (v w : View) (request : Asking) (answer : Poll (Result Unit Answer)) → v.stage ≡ waiting request → w.stage ≡ stage_asked request answer
     → Grows v.service.called w.service.called [] → Keeps v (ready request answer) w
@@ -103,7 +104,7 @@ step_keeps v w drained is = apart v w _ refl refl refl refl refl (ap (λ (x : Vi
 step_keeps v w (written answer) is = apart v w _ refl refl refl refl refl (ap (λ (x : View). x.stage) is.4) (ap (λ (x : View). x.service) is.4)
 step_keeps v w (read came answer) is = apart v w _ refl refl refl refl refl (ap (λ (x : View). x.stage) is.4) (ap (λ (x : View). x.service) is.4)
 step_keeps v w (shut answer) is = apart v w _ refl refl refl refl refl (ap (λ (x : View). x.stage) is.2) (ap (λ (x : View). x.service) is.2)
-step_keeps v w (next head) is = handed v w head is.1 (ap (λ (x : View). x.stage) is.4) (ap (λ (x : View). x.service) is.4)
+step_keeps v w (next peer head) is = handed v w peer head is.1 (ap (λ (x : View). x.stage) is.4) (ap (λ (x : View). x.service) is.4)
 step_keeps v w (closed end) is = apart v w _ refl refl refl refl refl (ap (λ (x : View). x.stage) is.4) (ap (λ (x : View). x.service) is.4)
 step_keeps v w continued is = apart v w _ refl refl refl refl refl (ap (λ (x : View). x.stage) is.3) (ap (λ (x : View). x.service) is.3)
 step_keeps v w (ready request answer) is = asked v w request answer is.0.1 (ap (λ (x : View). x.stage) is.3) (told v w is.2.called)

@@ -1,5 +1,5 @@
 -- A run is a trace of the connection.
-use Rattle.std.proofs.Common.{◌≡◌, ◌≤◌, ℕ, ◌-◌, List, [], ◌∷◌, ◌++◌, length, take, Option, Some, None, Result, Ok, Err, inl, inr, refl, sym, ap, ◌∙◌, subst, append_assoc, append-nil, arith}
+use Rattle.std.proofs.Common.{◌≡◌, ◌≤◌, ℕ, Bool, ◌-◌, List, [], ◌∷◌, ◌++◌, length, take, Option, Some, None, Result, Ok, Err, inl, inr, refl, sym, ap, ◌∙◌, subst, append_assoc, append-nil, arith}
 use Rattle.std.proofs.lemmas.List.{length-take, take_all}
 use Rattle.futures.specs.declared.task.Poll.{Poll}
 use Rattle.futures.specs.declared.task.Poll.TheVariants.{Ready, Pending}
@@ -8,6 +8,9 @@ use Rattle.http_bodies.specs.Giving.{Piece}
 use Rattle.http_bodies.specs.Told.{Grows}
 use Rattle.http_bodies.specs.declared.body.fault.BodyFault.TheVariants.{Body, NoMemory}
 use Rattle.http_bodies.proofs.Histories.{grown, grown-none}
+use Rattle.http_config.specs.Config.{Settings}
+use Rattle.http_services.specs.Serving.{Serving}
+use Rattle.http_transport.specs.Peer.{PeerAddress}
 use Rattle.http_transport.specs.Wiring.{Wiring, ReadSays, WriteSays, moved}
 use Rattle.h1_payload.specs.Rests.{SaysPulled}
 use Rattle.h1_payload.specs.declared.pulled.Pulled.{Pulled}
@@ -24,14 +27,16 @@ use Rattle.model_state.specs.Change.{IsNext}
 use Rattle.model_state.specs.Change.{IsStep as Machine}
 use Rattle.h1_connection.specs.Heads.{SaysNext}
 use Rattle.h1_connection.specs.EventMeaning.{setting_of, end_of}
-use Rattle.h1_connection.specs.State.{Is}
+use Rattle.h1_connection.specs.State.{IsMarked, IsCounted, Is}
+use Rattle.h1_connection.specs.Steps.{Pair}
 use Rattle.h1_connection.specs.Ticks.{expiry_of}
 use Rattle.h1_connection.specs.declared.connection.heads.NextHead.{NextHead}
 use Rattle.h1_connection.specs.declared.connection.heads.NextHead.TheVariants as next_head
 use Rattle.h1_connection.specs.declared.connection.ticks.Expiry.{Expiry}
 use Rattle.h1_connection.specs.declared.connection.ticks.Expiry.TheVariants as expiries
 use Rattle.h1_traced.specs.Traced.{TracedView, TracedStands}
-use Rattle.h1_dispatcher.specs.View.{View, buffered, room}
+use Rattle.h1_traced.proofs.TracedLaws.{fresh_marked, fresh_counted}
+use Rattle.h1_dispatcher.specs.View.{View, Asking, Answer, buffered, room, view_begun}
 use Rattle.h1_dispatcher.specs.Steps.{Step, Goes, Wrote, Took, Sent, IsStep, IsRun, request_at, ticked, drained, written as wrote, read, shut, next, closed, continued, ready, called, answered, pulled, paused, dropped, replied, sent, failed, failed_write, failed_read, failed_fed, failed_sent, asked_to_drain, asked_to_hold, declined, let_on, turned_away, refused}
 use Rattle.h1_dispatcher.specs.Traces.{IsNoted, AllNoted, of_answer, answers_in, piece_hands, step_hands, hands, of_request, requests_in, Came, heads_of, pieces_of, step_came, came, AreCame, Follows, AreTraces}
 
@@ -98,6 +103,8 @@ still v w traced received sent_so = λ trace stands. record {
   sent = subst (λ l. Grows v.transport.sent w.transport.sent l) (sym none_written) sent_so;
   answers = refl;
   requests = tt;
+  marks = λ marked. subst (λ (l : TracedView). IsMarked l.state trace) (sym traced) marked;
+  ahead = λ counted. subst (λ (l : TracedView). IsCounted l.state trace) (sym traced) counted;
 }
 
 -- what an outcome has to fit
@@ -121,6 +128,8 @@ went v w event asks Says goes fits = λ trace stands.
       sent = subst (λ l. Grows v.transport.sent w.transport.sent l) (sym (one_written s)) f.sent;
       answers = refl;
       requests = f.requests;
+      marks = x.2.marks;
+      ahead = x.2.ahead;
     }
 
 -- by which the transport moved nothing
@@ -148,18 +157,18 @@ no_request_then (expiries.Expired end) = refl
 no_request_then expiries.Abandoned = refl
 
 -- the request that waits is that of the head
-waits_by : (head : NextHead) (out : on.Outcome) → SaysNext head out → AreCame (heads_of (request_at head)) (of_request out)
-waits_by (next_head.Head item) out says = subst (λ o. AreCame (heads_of (request_at (next_head.Head item))) (of_request o)) (sym says.2) ((says.0, refl, (item, says.1, refl)), tt)
-waits_by (next_head.Fault fault) out says = no_request out (ap of_request says)
-waits_by next_head.Pending out says = no_request out (ap of_request says)
-waits_by (next_head.Closed end) out says = no_request out (ap of_request says)
+waits_by : (peer : PeerAddress) (head : NextHead) (out : on.Outcome) → SaysNext head out → AreCame (heads_of (request_at peer head)) (of_request out)
+waits_by peer (next_head.Head item) out says = subst (λ o. AreCame (heads_of (request_at peer (next_head.Head item))) (of_request o)) (sym says.2) ((says.0, refl, (item, says.1, refl)), tt)
+waits_by peer (next_head.Fault fault) out says = no_request out (ap of_request says)
+waits_by peer next_head.Pending out says = no_request out (ap of_request says)
+waits_by peer (next_head.Closed end) out says = no_request out (ap of_request says)
 
-asked : (v w : View) (head : NextHead) → w.transport ≡ v.transport → Goes v.traced on.next (SaysNext head) w.traced → By v [] (heads_of (request_at head)) w
-asked v w head transport goes =
-    went v w on.next (heads_of (request_at head)) (SaysNext head) goes (λ out says machine. record {
+asked : (v w : View) (peer : PeerAddress) (head : NextHead) → w.transport ≡ v.transport → Goes v.traced on.next (SaysNext head) w.traced → By v [] (heads_of (request_at peer head)) w
+asked v w peer head transport goes =
+    went v w on.next (heads_of (request_at peer head)) (SaysNext head) goes (λ out says machine. record {
       received = same_grows _ _ (ap (λ (t : Wiring). t.received) transport);
       sent = subst (λ l. Grows v.transport.sent w.transport.sent l) (sym (no_text head out says)) (same_grows _ _ (ap (λ (t : Wiring). t.sent) transport));
-      requests = waits_by head out says;
+      requests = waits_by peer head out says;
     })
 
 -- what came of a body
@@ -264,7 +273,7 @@ step_follows v w drained noted is = done v w on.drain (ap (λ (x : View). x.tran
 step_follows v w (wrote answer) noted is = gave v w answer is.2 is.3
 step_follows v w (read came answer) noted is = took v w came is.2.0 answer is.2.2 is.2.3 is.2.4 is.3
 step_follows v w (shut answer) noted is = still v w (ap (λ (x : View). x.traced) is.2) (same_grows _ _ is.1.received) (same_grows _ _ is.1.sent)
-step_follows v w (next head) noted is = asked v w head (ap (λ (x : View). x.transport) is.4) is.3
+step_follows v w (next peer head) noted is = asked v w peer head (ap (λ (x : View). x.transport) is.4) is.3
 step_follows v w (closed end) noted is = told_end v w (end_of end) is.3.0 (ap (λ (x : View). x.transport) is.4) is.1 is.3.1
 step_follows v w continued noted is = done v w on.send_continue (ap (λ (x : View). x.transport) is.3) refl is.2
 step_follows v w (ready request answer) noted is = transport_same v w (ap (λ (x : View). x.traced) is.3) (ap (λ (x : View). x.transport) is.3)
@@ -300,9 +309,19 @@ follows_on v u w first then asks later a b = λ trace stands.
       sent = subst (λ l. Grows v.transport.sent w.transport.sent l) (sym (written_more y.more x.more)) (grown (written x.more) (written y.more) _ _ _ x.sent y.sent);
       answers = answers_more y.more x.more ∙ ap (λ l. l ++ answers_in y.more) x.answers ∙ ap (λ l. first ++ l) y.answers;
       requests = subst (λ l. AreCame (asks ++ later) l) (sym (requests_more y.more x.more)) (have_on asks later (requests_in x.more) (requests_in y.more) x.requests y.requests);
+      marks = λ marked. subst (λ (l : List sums.Step). IsMarked w.traced.state l) (sym (append_assoc y.more x.more trace)) (y.marks (x.marks marked));
+      ahead = λ counted. subst (λ (l : List sums.Step). IsCounted w.traced.state l) (sym (append_assoc y.more x.more trace)) (y.ahead (x.ahead counted));
     }
 
 pub run_follows : (v w : View) (steps : List Step) → AllNoted steps → IsRun v steps w → AreTraces v steps w
 run_follows v w [] noted is = transport_same v w (ap (λ (x : View). x.traced) is) (ap (λ (x : View). x.transport) is)
 run_follows v w (d ∷ steps) noted is =
     follows_on v is.0 w (step_hands d) (hands steps) (step_came d) (came steps) (step_follows v is.0 d noted.0 is.1) (run_follows is.0 w steps noted.1 is.2)
+
+-- ---- before the first step
+
+pub begun_marked : (transport : Wiring) (service : Serving Asking Answer Answer) (settings : Settings) (peer : PeerAddress) (noted : Option (List Pair)) (listens : Bool) → IsMarked (view_begun transport service settings peer noted listens).traced.state []
+begun_marked transport service settings peer noted listens = fresh_marked settings
+
+pub begun_counted : (transport : Wiring) (service : Serving Asking Answer Answer) (settings : Settings) (peer : PeerAddress) (noted : Option (List Pair)) (listens : Bool) → IsCounted (view_begun transport service settings peer noted listens).traced.state []
+begun_counted transport service settings peer noted listens = fresh_counted settings

@@ -323,9 +323,9 @@ done_body v is = last_false (is_awaiting v.stage) _ (last_false (allows_answer v
 pub coming_body : (v : View) → is_awaiting v.stage ≡ true → allows_answer v ≡ true → allows v on.drop_body ≡ true → awaits_body v ≡ true
 coming_body v is may comes = both_true (is_awaiting v.stage) (allows_answer v && allows v on.drop_body) is (both_true (allows_answer v) (allows v on.drop_body) may comes)
 
-pub waits_head : (v : View) → allows_answer v ≡ false → asks_next v ≡ true → v.stage ≡ free → Serves v (is_sending v.stage) (allows_answer v) (next next_head.Pending ∷ [])
+pub waits_head : (v : View) → allows_answer v ≡ false → asks_next v ≡ true → v.stage ≡ free → Serves v (is_sending v.stage) (allows_answer v) (next v.peer next_head.Pending ∷ [])
 waits_head v off may is =
-    looks_by v (is_sending v.stage) (allows_answer v) _ (ap is_sending is) off (subst (λ m. Looks v m v.stage (next next_head.Pending ∷ [])) (sym may) (subst (λ s. Looks v true s (next next_head.Pending ∷ [])) (sym is) (inl refl)))
+    looks_by v (is_sending v.stage) (allows_answer v) _ (ap is_sending is) off (subst (λ m. Looks v m v.stage (next v.peer next_head.Pending ∷ [])) (sym may) (subst (λ s. Looks v true s (next v.peer next_head.Pending ∷ [])) (sym is) (inl refl)))
 
 -- and where no byte of one is there
 pub waits_unread : (v : View) → allows_answer v ≡ false → asks_next v ≡ true → v.stage ≡ free → HasNoByte v → Serves v (is_sending v.stage) (allows_answer v) []

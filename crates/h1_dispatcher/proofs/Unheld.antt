@@ -53,7 +53,7 @@ step_none v w (failed_read came event) asks is none = alike v w (ap (λ (x : Vie
 step_none v w (failed_fed bytes) asks is none = alike v w (ap (λ (x : View). x.upgrades) is.2) (ap (λ (x : View). x.expects) is.2) (ap (λ (x : View). x.holding) is.2) (ap (λ (x : View). x.checking) is.2) none
 step_none v w (failed_sent piece) asks is none = alike v w (ap (λ (x : View). x.upgrades) is.3) (ap (λ (x : View). x.expects) is.3) (ap (λ (x : View). x.holding) is.3) (ap (λ (x : View). x.checking) is.3) none
 step_none v w asked_to_drain asks is none = alike v w (ap (λ (x : View). x.upgrades) is) (ap (λ (x : View). x.expects) is) (ap (λ (x : View). x.holding) is) (ap (λ (x : View). x.checking) is) none
-step_none v w (next head) asks is none =
+step_none v w (next peer head) asks is none =
     freed v w (ap (λ (x : View). x.upgrades) is.4) (ap (λ (x : View). x.expects) is.4) (ap (λ (x : View). x.holding) is.4 ∙ held_of_head head v none)
     (ap (λ (x : View). x.checking) is.4 ∙ checked_of_head head v none) none
 step_none v w (asked_to_hold upgrades expects) asks is none = absurd asks
@@ -92,7 +92,7 @@ undecided_asks drained none = tt
 undecided_asks (written answer) none = tt
 undecided_asks (read came answer) none = tt
 undecided_asks (shut answer) none = tt
-undecided_asks (next head) none = tt
+undecided_asks (next peer head) none = tt
 undecided_asks (closed end) none = tt
 undecided_asks continued none = tt
 undecided_asks (ready request answer) none = tt

@@ -38,7 +38,7 @@ body_at (next_head.Closed end) x = x
 
 -- what came of the last request's body, after this came of it, and then these steps
 abbrev pub step_body : CameBody → Step → CameBody
-step_body x (next head) = body_at head x
+step_body x (next peer head) = body_at head x
 step_body x (pulled piece) = with_piece x piece
 step_body x step = x
 

@@ -11,3 +11,5 @@ pub mod Bodies
 pub mod Feeds
 pub mod Bounds
 pub mod Causes
+pub mod Memory
+pub mod Peers

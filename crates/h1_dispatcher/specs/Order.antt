@@ -31,7 +31,7 @@ calls_in (sending body) = 0
 
 -- the requests of the heads that were handed out
 abbrev pub step_requests : Step → List Asking
-step_requests (next head) = option_to_list (request_at head)
+step_requests (next peer head) = option_to_list (request_at peer head)
 step_requests step = []
 
 -- the requests that the service was called with

@@ -48,7 +48,7 @@ Continues drained = ⊥
 Continues (written answer) = HasNotFailed answer
 Continues (read came answer) = HasNotFailed answer
 Continues (shut answer) = IsPending answer
-Continues (next head) = ⊤
+Continues (next peer head) = ⊤
 Continues (closed end) = ⊤
 Continues continued = ⊤
 Continues (ready request answer) = ⊤
@@ -105,7 +105,7 @@ brings pieces.Pending = 0
 abbrev pub counts : Step → ℕ
 counts (written answer) = moves answer
 counts (read came answer) = moves answer
-counts (next head) = comes head
+counts (next peer head) = comes head
 counts (closed end) = 1
 counts continued = 1
 counts (pulled piece) = brings piece
@@ -195,7 +195,7 @@ Awaits (sending body) held room served = ⊥
 -- no request may be answered: no head was there, or no byte of one is, or none may be asked for, or there is no room for its
 -- answer until more is written
 abbrev pub Looks : View → Bool → Stage → List Step → Type 0
-Looks v true free served = (served ≡ next next_head.Pending ∷ []) ⊎ ((served ≡ []) × HasNoByte v)
+Looks v true free served = (served ≡ next v.peer next_head.Pending ∷ []) ⊎ ((served ≡ []) × HasNoByte v)
 Looks v true (waiting request) served = served ≡ []
 Looks v true (calling took) served = served ≡ []
 Looks v true (replying answer) served = served ≡ []

@@ -10,6 +10,7 @@ use Rattle.http_bodies.specs.declared.body.fault.BodyFault.TheVariants.{Body, No
 use Rattle.http_framing.specs.declared.body.kind.BodyKind.{BodyKind}
 use Rattle.http_framing.specs.declared.body.kind.BodyKind.TheVariants.{None as Bodyless, Length, Chunked, Raw}
 use Rattle.http_types.specs.declared.error.PayloadError.{PayloadError}
+use Rattle.http_types.specs.declared.requests.head.RequestHead.{RequestHead}
 use Rattle.http_types.specs.declared.error.PayloadError.TheVariants as error
 use Rattle.http_services.specs.Lent as lent
 use Rattle.http_services.specs.Lent.{LentBound, lent_of}
@@ -23,6 +24,7 @@ use Rattle.h1_payload.specs.declared.pulled.BodyFault.{BodyFault}
 use Rattle.h1_payload.specs.declared.pulled.BodyFault.TheVariants.{Corrupted, Incomplete}
 use Rattle.h1_payload.specs.declared.pulled.Pulled.{Pulled}
 use Rattle.h1_payload.specs.declared.pulled.Pulled.TheVariants as pieces
+use Rattle.http_transport.specs.Peer.{PeerAddress}
 use Rattle.http_transport.specs.Wiring.{ReadSays, WriteSays, ShutSays, moved}
 use Rattle.h1_encoder.specs.Meaning.{answer_of, size_of}
 use Rattle.model_h1.specs.Event as on
@@ -43,7 +45,7 @@ use Rattle.h1_dispatcher.specs.declared.dispatcher.Ending.TheVariants.{Closed, A
 use Rattle.h1_dispatcher.specs.View.{View, Asking, Answer, Stage, free, waiting, calling, replying, sending, is_waiting, is_replying, awaits_body, with_drain, with_holds, with_release, with_leave, closes, allows, allows_next, has_write_room, asks_next, allows_answer, is_held, is_checked, may_refuse, may_accept, allows_chunk, buffered, room}
 
 -- A step. A moment came; the drain came; the transport was given what waits to be written; it was asked for bytes, and these
--- came; it was shut down; the next head was asked for; the connection closes, and told its end; the client of the request
+-- came; it was shut down; the next head was asked for, for a request from this address; the connection closes, and told its end; the client of the request
 -- that waits was told to go on; the service was asked whether it takes a call with a request, and takes none; it takes one,
 -- and the call was begun; a call was polled; more of a request's body was asked for, and what came was fed to its queue; the
 -- queue wants no more for now; the rest of a body was dropped; the answer was handed on; its body was polled, and what came
@@ -58,7 +60,7 @@ pub data Step : Type 0 where
   written : (answer : Poll (Result ℕ Failed)) → Step
   read : (came : List ℕ) → (answer : Poll (Result ℕ Failed)) → Step
   shut : (answer : Poll (Result Unit Failed)) → Step
-  next : (head : NextHead) → Step
+  next : (peer : PeerAddress) → (head : NextHead) → Step
   closed : (end : End) → Step
   continued : Step
   ready : (request : Asking) → (answer : Poll (Result Unit Answer)) → Step
@@ -81,10 +83,11 @@ pub data Step : Type 0 where
   turned_away : (request : Asking) → (answer : Answer) → Step
   refused : (limit : ℕ) → (error : HandshakeError) → Step
 
--- the event came to the connection, was noted, and had such an outcome; its settings stay
+-- the event came to the connection, was noted, and had such an outcome; its settings stay, and so does whether somebody listens
 pub record Goes (old : TracedView) (event : on.Event) (Says : on.Outcome → Type 0) (new : TracedView) : Type 0 where
   pub steps : TracedSteps old event Says new
   pub settings : new.state.settings ≡ old.state.settings
+  pub listens : new.listens ≡ old.listens
 
 -- how it has ended after a tick
 abbrev pub ending_at : Expiry → Option Ending → Option Ending
@@ -106,12 +109,16 @@ Took old new came (Ready (Ok n)) =
 Took old new came (Ready (Err e)) = new ≡ old
 Took old new came Pending = new ≡ old
 
+-- the request of this head, from this address
+abbrev pub asking_of : PeerAddress → RequestHead → Asking
+asking_of peer head = record { head = record head { peer_addr = peer }; payload = None; own = tt }
+
 -- the request that waits after the next head was asked for
-abbrev pub request_at : NextHead → Option Asking
-request_at (next_head.Head item) = Some (record { head = item.head; payload = None; own = tt })
-request_at (next_head.Fault fault) = None
-request_at next_head.Pending = None
-request_at (next_head.Closed end) = None
+abbrev pub request_at : PeerAddress → NextHead → Option Asking
+request_at peer (next_head.Head item) = Some (asking_of peer item.head)
+request_at peer (next_head.Fault fault) = None
+request_at peer next_head.Pending = None
+request_at peer (next_head.Closed end) = None
 
 abbrev pub stage_at : Option Asking → Stage
 stage_at None = free
@@ -295,9 +302,10 @@ IsStep v (read came answer) w =
     × Took v.traced w.traced came answer × (w ≡ record v { traced = w.traced; transport = w.transport })
 IsStep v (shut answer) w =
     ((end : End) × (v.ending ≡ Some (Closed end))) × ShutSays v.transport w.transport answer × (w ≡ record v { transport = w.transport })
-IsStep v (next head) w =
+IsStep v (next peer head) w =
     (v.ending ≡ None) × (v.stage ≡ free) × (asks_next v ≡ true) × Goes v.traced on.next (SaysNext head) w.traced
-    × (w ≡ record v { traced = w.traced; queue = queue_at head v.queue; stage = stage_at (request_at head); ending = ending_told head; holding = holding_at head v; checking = checking_at head v })
+    × (w ≡ record v { traced = w.traced; queue = queue_at head v.queue; stage = stage_at (request_at peer head); ending = ending_told head; holding = holding_at head v; checking = checking_at head v })
+    × (peer ≡ v.peer)
 IsStep v (closed end) w =
     (v.ending ≡ None) × (closing_by (setting_of v.traced.state.settings) v.traced.state.kept ≡ Some (end_of end))
     × (allows_next v ≡ true) × ((head : NextHead) × Goes v.traced on.next (SaysNext head) w.traced)
@@ -329,6 +337,7 @@ IsStep v (failed_write count) w =
     (v.ending ≡ None) × (0 < length (buffered v)) × WriteSays {E = Failed} v.transport w.transport (Ready (Ok count)) (buffered v)
     × TracedFails v.traced (on.write count) w.traced
     × (w ≡ record v { traced = w.traced; transport = w.transport; ending = Some Broken })
+    × ¬ (v.traced.listens ≡ false)
 IsStep v (failed_read came event) w =
     (v.ending ≡ None) × (allows v on.eof ≡ true)
     × ((buf : List ℕ) × (count : ℕ) × (0 < length buf) × (length buf ≤ room v) × (came ≡ take count buf)

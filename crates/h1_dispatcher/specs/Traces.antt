@@ -16,12 +16,13 @@ use Rattle.model_h1.specs.Request.{Head}
 use Rattle.http_bodies.specs.Told.{Grows}
 use Rattle.model_h1.specs.Setting.{Setting}
 use Rattle.model_h1.specs.Trace.{IsTrace}
+use Rattle.h1_connection.specs.State.{IsMarked, IsCounted}
 use Rattle.h1_connection.specs.Steps.{Pair}
 use Rattle.model_h1.specs.Sums as sums
 use Rattle.model_h1.specs.Sums.{taken, written}
 use Rattle.h1_traced.specs.Traced.{SaysNoted, TracedStands}
 use Rattle.h1_dispatcher.specs.View.{View, Asking}
-use Rattle.h1_dispatcher.specs.Steps.{Step, request_at, next, pulled, replied, sent, failed, failed_write, failed_read, failed_fed, failed_sent}
+use Rattle.h1_dispatcher.specs.Steps.{Step, asking_of, request_at, next, pulled, replied, sent, failed, failed_write, failed_read, failed_fed, failed_sent}
 
 -- memory didn't run out in this step
 abbrev pub IsNoted : Step → Type 0
@@ -96,7 +97,7 @@ pieces_of (pieces.Broken fault) = came_piece (pieces.Broken fault) ∷ []
 pieces_of pieces.Pending = []
 
 abbrev pub step_came : Step → List Came
-step_came (next head) = heads_of (request_at head)
+step_came (next peer head) = heads_of (request_at peer head)
 step_came (pulled given) = pieces_of given
 step_came step = []
 
@@ -104,9 +105,9 @@ abbrev pub came : List Step → List Came
 came [] = []
 came (d ∷ steps) = step_came d ++ came steps
 
--- the request is that of this head, the piece is this one
+-- the request is that of this head, beside the address that it has; the piece is this one
 abbrev pub HasHead : Asking → Head → Type 0
-HasHead asking h = (item : HeadItem) × SaysHead item h × (asking ≡ record { head = item.head; payload = None; own = tt })
+HasHead asking h = (item : HeadItem) × SaysHead item h × (asking ≡ asking_of asking.head.peer_addr item.head)
 
 abbrev pub IsCame : Came → on.Outcome → Type 0
 IsCame (came_request asking) out = (h : Head) × (out ≡ on.head h) × HasHead asking h
@@ -121,7 +122,8 @@ AreCame (c ∷ more) (out ∷ outs) = IsCame c out × AreCame more outs
 
 -- After this trace these steps of the connection came, the newest first, and the connection and what was noted stand for
 -- all of them. What the transport received is the bytes that their reads took, and what it sent is those that were written. What
--- they hand on of answers is this, and what they hand out of requests is that.
+-- they hand on of answers is this, and what they hand out of requests is that. The places of the body bytes among those that
+-- wait, and the number of heads that were read ahead, stay those of the trace.
 pub record Follows (v w : View) (trace : List sums.Step) (handed : List on.Event) (asked : List Came) : Type 0 where
   pub more : List sums.Step
   pub stands : TracedStands w.traced (more ++ trace)
@@ -129,6 +131,8 @@ pub record Follows (v w : View) (trace : List sums.Step) (handed : List on.Event
   pub sent : Grows v.transport.sent w.transport.sent (written more)
   pub answers : answers_in more ≡ handed
   pub requests : AreCame asked (requests_in more)
+  pub marks : IsMarked v.traced.state trace → IsMarked w.traced.state (more ++ trace)
+  pub ahead : IsCounted v.traced.state trace → IsCounted w.traced.state (more ++ trace)
 
 -- this holds after each trace that the connection stood for
 abbrev pub AreTraces : View → List Step → View → Type 0

@@ -1,5 +1,5 @@
 -- Requests that are held back for who polls: they ask for an upgrade, or their clients wait to be told to go on.
-use Rattle.std.specs.Prelude.{◌≡◌, ℕ, false, Option, Some, None, List, if◌then◌else◌, ⊤}
+use Rattle.std.specs.Prelude.{◌≡◌, ℕ, Bool, false, Option, Some, None, List, if◌then◌else◌, ⊤}
 use Rattle.http_types.specs.Response.{FullResponse}
 use Rattle.http_bodies.specs.Giving.{Giving}
 use Rattle.http_services.specs.Serving.{Serving, Calling}
@@ -48,17 +48,17 @@ Accepts v limit w (Some error) = IsStep v (refused limit error) w
 
 -- What was handed over: the request that waited; the connection, to which the upgrade came, with the step that was noted; the
 -- transport and the service, as they were.
-pub record HandsOver {T S L B : Type 0} (wiring : T → Wiring) (served : S → Serving Asking (FullResponse B) (FullResponse B)) (gives : B → Giving) (noted : L → Option (List Pair)) (v : View) (limit : ℕ) (handed : Upgraded T S L) : Type 0 where
+pub record HandsOver {T S L B : Type 0} (wiring : T → Wiring) (served : S → Serving Asking (FullResponse B) (FullResponse B)) (gives : B → Giving) (noted : L → Option (List Pair)) (listening : L → Bool) (v : View) (limit : ℕ) (handed : Upgraded T S L) : Type 0 where
   pub request : v.stage ≡ waiting handed.request
-  pub traced : Goes v.traced (on.accept limit) (Is on.done) (traced_of noted handed.traced)
+  pub traced : Goes v.traced (on.accept limit) (Is on.done) (traced_of noted listening handed.traced)
   pub transport : wiring handed.transport ≡ v.transport
   pub service : told_service gives (served handed.service) ≡ v.service
 
 -- what becomes of an upgrade with this limit
-abbrev pub AcceptSays : {T S C L B : Type 0} → (T → Wiring) → (S → Serving Asking (FullResponse B) (FullResponse B)) → (C → Calling Asking) → (B → Giving) → (L → Option (List Pair)) → View → ℕ → Accepting T S C L B → Type 0
-AcceptSays wiring served calls gives noted v limit (Done handed) = HandsOver wiring served gives noted v limit handed
-AcceptSays wiring served calls gives noted v limit (Refused d error) =
-    IsStep v (refused limit (failing_of error)) (view_of wiring served calls gives noted d) × MayBePolled calls d
+abbrev pub AcceptSays : {T S C L B : Type 0} → (T → Wiring) → (S → Serving Asking (FullResponse B) (FullResponse B)) → (C → Calling Asking) → (B → Giving) → (L → Option (List Pair)) → (L → Bool) → View → ℕ → Accepting T S C L B → Type 0
+AcceptSays wiring served calls gives noted listening v limit (Done handed) = HandsOver wiring served gives noted listening v limit handed
+AcceptSays wiring served calls gives noted listening v limit (Refused d error) =
+    IsStep v (refused limit (failing_of error)) (view_of wiring served calls gives noted listening d) × MayBePolled calls d
 
 -- ---- where nobody asks that requests are held back
 

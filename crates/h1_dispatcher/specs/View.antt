@@ -7,6 +7,7 @@ use Rattle.http_bodies.specs.Giving.{Giving}
 use Rattle.http_services.specs.Lent.{Took}
 use Rattle.http_services.specs.Queue.{Queue, new_queue}
 use Rattle.http_services.specs.Serving.{Serving, Calling}
+use Rattle.http_transport.specs.Peer.{PeerAddress}
 use Rattle.http_transport.specs.Wiring.{Wiring}
 use Rattle.model_state.specs.Local.{closing_by, allowed_by, has_room}
 use Rattle.model_h1.specs.Answer.{size_none}
@@ -112,13 +113,14 @@ stage_of calls gives (Called call) = calling (calls call).took
 stage_of calls gives (Replying response) = replying (told_response gives response)
 stage_of calls gives (Sending body) = sending (gives body)
 
--- The connection with the steps that were noted; the transport; the service; the queue of the last request's body; how far that
--- request is; how the connection has ended; that it is to be drained; that requests which ask for an upgrade are to be held
+-- The connection with the steps that were noted; the transport; who is on its other side; the service; the queue of the last
+-- request's body; how far that request is; how the connection has ended; that it is to be drained; that requests which ask for an upgrade are to be held
 -- back, and those whose clients wait to be told to go on; and that the last request is, if it asks for the one or waits for the
 -- other.
 pub record View : Type 0 where
   pub traced : TracedView
   pub transport : Wiring
+  pub peer : PeerAddress
   pub service : Serving Asking Answer Answer
   pub queue : Queue
   pub stage : Stage
@@ -129,11 +131,12 @@ pub record View : Type 0 where
   pub holding : Bool
   pub checking : Bool
 
-abbrev pub view_of : {T S C L B : Type 0} → (T → Wiring) → (S → Serving Asking (FullResponse B) (FullResponse B)) → (C → Calling Asking) → (B → Giving) → (L → Option (List Pair)) → Dispatcher T S C L B → View
-view_of wiring served calls gives noted d =
+abbrev pub view_of : {T S C L B : Type 0} → (T → Wiring) → (S → Serving Asking (FullResponse B) (FullResponse B)) → (C → Calling Asking) → (B → Giving) → (L → Option (List Pair)) → (L → Bool) → Dispatcher T S C L B → View
+view_of wiring served calls gives noted listening d =
     record {
-      traced = traced_of noted d.traced;
+      traced = traced_of noted listening d.traced;
       transport = wiring d.transport;
+      peer = d.peer;
       service = told_service gives (served d.service);
       queue = d.queue;
       stage = stage_of calls gives d.work;
@@ -145,12 +148,13 @@ view_of wiring served calls gives noted d =
       checking = d.is_checking;
     }
 
--- a new dispatcher over this transport and this service
-abbrev pub view_begun : Wiring → Serving Asking Answer Answer → Settings → Option (List Pair) → View
-view_begun transport service settings noted =
+-- a new dispatcher over this transport and this service, with this peer, whose recorder has noted this, and listens or doesn't
+abbrev pub view_begun : Wiring → Serving Asking Answer Answer → Settings → PeerAddress → Option (List Pair) → Bool → View
+view_begun transport service settings peer noted listens =
     record {
-      traced = record { state = fresh_state settings; noted = noted };
+      traced = record { state = fresh_state settings; noted = noted; listens = listens };
       transport = transport;
+      peer = peer;
       service = service;
       queue = new_queue true;
       stage = free;

@@ -1,7 +1,10 @@
 //! A dispatcher, and what it keeps.
-ghost use Rattle.std.specs.Prelude.{◌≡◌, ◌≤◌, ◌⊎◌, None, Some, []};
+ghost use Rattle.std.specs.Prelude.{◌≡◌, ◌≤◌, ◌⊎◌, None, Some, List, [], IfOk, IsOk};
+ghost use Rattle.model_h1.specs.Sums as sums;
+ghost use Rattle.model_state.specs.Ahead.{IsAhead};
 ghost use Rattle.model_state.specs.Deadline.{deadline_by};
 ghost use Rattle.h1_connection.specs.EventMeaning.{setting_of};
+ghost use Rattle.h1_connection.specs.State.{IsCounted};
 ghost use Rattle.h1_traced.specs.Traced.{TracedStands};
 ghost use Rattle.http_services.specs.Serving.{Calling};
 ghost use Rattle.h1_dispatcher.specs.View.{Asking, view_of, view_begun, with_drain, parts_of, told_service, stage_of, is_busy, is_waiting, is_sending, MayBePolled};
@@ -12,8 +15,9 @@ use http_bodies::MessageBody;
 use http_services::Service;
 use http_services::h1::Payload;
 use http_transport::Transport;
-use http_types::{Request, Response, ServiceConfig};
+use http_types::{NoMemory, Request, Response, ServiceConfig};
 use std::alloc::Global;
+use std::net::SocketAddr;
 
 mod answer;
 mod begin;
@@ -105,7 +109,7 @@ impl<C, B: MessageBody> Work<C, B> {
 /// A service over a transport, by one connection of HTTP/1: each request goes to the service, and its answer is written.
 ///
 /// The parameters are the transport, the service and its call, the body of its answers, and who notes the steps of the
-/// connection. A piece of an answer's body is asked for once there is room for it. What comes of a request's body is fed to
+/// connection. Each request has the address of the peer. A piece of an answer's body is asked for once there is room for it. What comes of a request's body is fed to
 /// a queue that is lent to the service's call, as long as that wants more; what is left of the body is dropped when the
 /// request is answered.
 #[derive(Drop)]
@@ -113,6 +117,7 @@ pub struct Dispatcher<T, S, C, L, B = ()> {
     alloc: Global,
     traced: Traced<L>,
     transport: T,
+    peer: Option<SocketAddr>,
     service: S,
     queue: Payload,
     work: Work<C, B>,
@@ -132,22 +137,26 @@ where
     B: MessageBody,
     L: Recorder,
 {
-    /// A dispatcher of a connection to which nothing has come. It takes no memory.
+    /// A dispatcher of a connection to which nothing has come. Each request that the service is given has the address of this
+    /// peer, or none where it isn't known. It takes no memory.
     pub fn new(
         alloc: Global,
         transport: T,
         service: S,
         config: ServiceConfig,
+        peer: Option<SocketAddr>,
         recorder: L,
     ) -> Dispatcher<T, S, S::Call, L, B>
-        ensures view { view_of T.wiring S.served S.calling B.gives L.noted result ≡ view_begun (T.wiring transport) (told_service B.gives (S.served service)) config (L.noted recorder) }
-        ensures stands { (L.noted recorder ≡ None) ⊎ (L.noted recorder ≡ Some []) → TracedStands (view_of T.wiring S.served S.calling B.gives L.noted result).traced [] }
+        ensures view { view_of T.wiring S.served S.calling B.gives L.noted L.is_listening result ≡ view_begun (T.wiring transport) (told_service B.gives (S.served service)) config peer (L.noted recorder) (L.is_listening recorder) }
+        ensures transport { (parts_of result).0 ≡ transport }
+        ensures stands { (L.noted recorder ≡ None) ⊎ (L.noted recorder ≡ Some []) → TracedStands (view_of T.wiring S.served S.calling B.gives L.noted L.is_listening result).traced [] }
         ensures open { MayBePolled S.calling result }
     {
         Dispatcher {
             alloc,
             traced: Traced::new(alloc, config, recorder),
             transport,
+            peer,
             service,
             queue: Payload::create(alloc, true),
             work: Work::Free,
@@ -163,7 +172,7 @@ where
 
     /// Has the connection end once no request is open. The next poll tells it so, where it doesn't close yet.
     pub fn drain(&mut self)
-        ensures view { view_of T.wiring S.served S.calling B.gives L.noted self.new ≡ with_drain (view_of T.wiring S.served S.calling B.gives L.noted self.old) }
+        ensures view { view_of T.wiring S.served S.calling B.gives L.noted L.is_listening self.new ≡ with_drain (view_of T.wiring S.served S.calling B.gives L.noted L.is_listening self.old) }
         ensures open { MayBePolled S.calling self.old → MayBePolled S.calling self.new }
     {
         self.is_draining = true;
@@ -172,23 +181,33 @@ where
     /// The least moment at which a poll would tell that a time has run out, in milliseconds after the start of 1970, where
     /// one would. Who drives the dispatcher polls it then, if it isn't woken before.
     pub fn deadline(&self) -> Option<u64>
-        ensures { result ≡ deadline_by (setting_of (view_of T.wiring S.served S.calling B.gives L.noted self.now).traced.state.settings) (view_of T.wiring S.served S.calling B.gives L.noted self.now).traced.state.kept }
+        ensures { result ≡ deadline_by (setting_of (view_of T.wiring S.served S.calling B.gives L.noted L.is_listening self.now).traced.state.settings) (view_of T.wiring S.served S.calling B.gives L.noted L.is_listening self.now).traced.state.kept }
     {
         self.traced.connection().deadline()
     }
 
-    /// How many heads were read ahead of the request that was handed out last: at most 16. They count among the bytes that
-    /// are held.
-    pub fn ahead(&self) -> usize
-        ensures value { result ≡ (view_of T.wiring S.served S.calling B.gives L.noted self.now).traced.state.ahead }
-        ensures most { result ≤ 16 }
+    /// How many heads stand ahead of the request that was handed out last: at most 16. They count among the bytes that are
+    /// held. None of them was read yet, so that it takes memory where there is one.
+    pub fn ahead(&self) -> Result<usize, NoMemory>
+        ensures value { IfOk result (λ count. count ≡ (view_of T.wiring S.served S.calling B.gives L.noted L.is_listening self.now).traced.state.ahead) }
+        ensures most { IfOk result (λ count. count ≤ 16) }
+        ensures traced { IfOk result (λ count. (trace : List sums.Step) → IsCounted (view_of T.wiring S.served S.calling B.gives L.noted L.is_listening self.now).traced.state trace
+            → IsAhead (setting_of (view_of T.wiring S.served S.calling B.gives L.noted L.is_listening self.now).traced.state.settings) trace count) }
+        ensures no_memory_needed { (view_of T.wiring S.served S.calling B.gives L.noted L.is_listening self.now).traced.state.ahead ≡ 0 → IsOk result }
     {
         self.traced.connection().ahead()
     }
 
+    /// The address of the peer, where it is known.
+    pub fn peer_addr(&self) -> Option<SocketAddr>
+        ensures { result ≡ (view_of T.wiring S.served S.calling B.gives L.noted L.is_listening self.now).peer }
+    {
+        self.peer
+    }
+
     /// The service.
     pub fn service(&self) -> &S
-        ensures { told_service B.gives (S.served result.now) ≡ (view_of T.wiring S.served S.calling B.gives L.noted self.now).service }
+        ensures { told_service B.gives (S.served result.now) ≡ (view_of T.wiring S.served S.calling B.gives L.noted L.is_listening self.now).service }
     {
         &self.service
     }

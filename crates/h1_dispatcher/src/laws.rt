@@ -1,5 +1,5 @@
 //! What the steps of every run are together.
-ghost use Rattle.std.specs.Prelude.{◌≡◌, ◌≤◌, ℕ, true, false, List, Option, Some, None, [], ◌∷◌, length, Result, Err};
+ghost use Rattle.std.specs.Prelude.{◌≡◌, ◌≤◌, ℕ, Bool, true, false, List, Option, Some, None, [], ◌∷◌, length, Result, Err};
 ghost use Rattle.std.specs.List.{AllByRecursion};
 ghost use Rattle.futures.specs.declared.task.Poll.TheVariants.{Ready};
 ghost use Rattle.futures.specs.declared.task.context.Context.{Context};
@@ -8,10 +8,12 @@ ghost use Rattle.http_types.specs.declared.error.DispatchError.{DispatchError};
 ghost use Rattle.http_bodies.specs.Giving.{Giving, Piece};
 ghost use Rattle.http_bodies.specs.declared.body.fault.BodyFault.TheVariants.{Body};
 ghost use Rattle.http_services.specs.Serving.{Serving};
+ghost use Rattle.http_transport.specs.Peer.{PeerAddress};
 ghost use Rattle.http_transport.specs.Wiring.{Wiring};
 ghost use Rattle.model_h1.specs.Sums as sums;
 ghost use Rattle.model_state.specs.Local.{has_room};
 ghost use Rattle.h1_connection.specs.EventMeaning.{setting_of};
+ghost use Rattle.h1_connection.specs.State.{IsMarked, IsCounted};
 ghost use Rattle.h1_traced.specs.Traced.{TracedStands};
 ghost use Rattle.h1_connection.specs.declared.connection.heads.NextHead.{NextHead};
 ghost use Rattle.h1_connection.specs.declared.connection.heads.NextHead.TheVariants.{Pending};
@@ -22,7 +24,9 @@ ghost use Rattle.h1_dispatcher.specs.Bodies.{SendsBody, OnlyEnds};
 ghost use Rattle.h1_payload.specs.declared.pulled.Pulled.{Pulled};
 ghost use Rattle.h1_connection.specs.Steps.{Pair};
 ghost use Rattle.h1_dispatcher.specs.Feeds.{CameBody, body_after, HasBody, HasQueueBound};
-ghost use Rattle.h1_dispatcher.specs.Order.{KeepsOrder};
+ghost use Rattle.h1_dispatcher.specs.Memory.{TakesMemory};
+ghost use Rattle.h1_dispatcher.specs.Order.{KeepsOrder, waits_in};
+ghost use Rattle.h1_dispatcher.specs.Peers.{AreFrom, TellsPeer};
 ghost use Rattle.h1_dispatcher.specs.Open.{IsTied, StaysTied};
 ghost use Rattle.h1_dispatcher.specs.Traces.{IsNoted, AllNoted, AreTraces, NotesTrace};
 ghost use Rattle.h1_dispatcher.specs.Acts.{Act, ActsSay, AreOneRun};
@@ -40,7 +44,7 @@ pub fn polls_are_one_run()
 /// Where no byte is held, and some may be, no head is there: it would be pending if it were asked for, while the connection
 /// doesn't close. So a poll that is pending needn't have asked.
 pub fn no_head_comes_of_no_byte()
-    ensures { (v w : View) (head : NextHead) (trace : List sums.Step) → TracedStands v.traced trace → closes v ≡ false → HasNoByte v → IsStep v (next head) w → head ≡ Pending }
+    ensures { (v w : View) (peer : PeerAddress) (head : NextHead) (trace : List sums.Step) → TracedStands v.traced trace → closes v ≡ false → HasNoByte v → IsStep v (next peer head) w → head ≡ Pending }
 {}
 
 /// Each result of a poll has its cause. Ok, `Parse`, `SlowRequestTimeout` and `Body` come only where the connection told such
@@ -56,9 +60,12 @@ pub fn polls_end_by_their_cause()
 /// heads that it hands out are those of the requests that came to the dispatcher, each its own, and behind each what it hands
 /// out of its body is what came of that, all of it and in order.
 /// Each answer that was handed on stands in that trace with its head and the size of its body, and behind it all that came
-/// of the body, in order.
+/// of the body, in order. Where the body bytes among those that wait, and the number of heads that were read ahead, are those
+/// of the trace before, they are those of the longer trace; for a new dispatcher they are those of the empty one.
 pub fn runs_are_traces()
-    ensures { (v w : View) (steps : List Step) → AllNoted steps → IsRun v steps w → AreTraces v steps w }
+    ensures runs { (v w : View) (steps : List Step) → AllNoted steps → IsRun v steps w → AreTraces v steps w }
+    ensures marks { (transport : Wiring) (service : Serving Asking Answer Answer) (settings : Settings) (peer : PeerAddress) (noted : Option (List Pair)) (listens : Bool) → IsMarked (view_begun transport service settings peer noted listens).traced.state [] }
+    ensures ahead { (transport : Wiring) (service : Serving Asking Answer Answer) (settings : Settings) (peer : PeerAddress) (noted : Option (List Pair)) (listens : Bool) → IsCounted (view_begun transport service settings peer noted listens).traced.state [] }
 {}
 
 /// After the first step of a run in which memory runs out, what was noted is a trace of the connection still, whatever came
@@ -67,11 +74,26 @@ pub fn runs_note_traces()
     ensures { (v u w : View) (steps : List Step) (step : Step) (trace : List sums.Step) → TracedStands v.traced trace → AllNoted steps → IsRun v steps u → ¬ IsNoted step → IsStep u step w → NotesTrace (setting_of u.traced.state.settings) w.traced.noted trace }
 {}
 
+/// Where nobody listens, memory runs out only where it is taken: over every run, the first step in which it runs out is one of
+/// an event that takes some, or bytes that came of a request's body were fed, or an answer's body was itself out of memory. It
+/// doesn't run out for the input's end, the rest of a body that is dropped, a drain, or bytes that were written.
+pub fn runs_lack_what_they_take()
+    ensures { (v u w : View) (steps : List Step) (step : Step) → v.traced.listens ≡ false → AllNoted steps → IsRun v steps u → IsStep u step w → TakesMemory u step }
+{}
+
 /// Over every run requests are called, or refused, in the order in which their heads were handed out; the last one may
 /// wait. Each has one answer, but for the one whose call is in progress. Answers are handed on in the order in which they
 /// came, all of them; the last one may wait.
 pub fn runs_keep_order()
     ensures { (v w : View) (steps : List Step) → IsRun v steps w → KeepsOrder v steps w }
+{}
+
+/// Over every run each request that comes, each that the service is called with, and the one that waits, also where it is held
+/// back, has the address of the dispatcher's peer, which stays; where the one that waited before has it, and none waits for a
+/// new dispatcher.
+pub fn runs_tell_the_peer()
+    ensures new { (transport : Wiring) (service : Serving Asking Answer Answer) (settings : Settings) (peer : PeerAddress) (noted : Option (List Pair)) (listens : Bool) → AreFrom peer (waits_in (view_begun transport service settings peer noted listens).stage) }
+    ensures runs { (v w : View) (steps : List Step) → IsRun v steps w → AreFrom v.peer (waits_in v.stage) → TellsPeer v steps w }
 {}
 
 /// Over every run the body that goes out gives its chunks once and in order, up to the next answer; where its end was handed
@@ -96,7 +118,7 @@ pub fn runs_send_bodies()
 pub fn runs_feed_bodies()
     ensures runs { (v w : View) (steps : List Step) (body : CameBody) → IsRun v steps w → HasBody body v.stage v.queue → HasBody (body_after body steps) w.stage w.queue }
     ensures wanted { (v w : View) (piece : Pulled) → IsStep v (pulled piece) w → Wants v }
-    ensures new { (transport : Wiring) (service : Serving Asking Answer Answer) (settings : Settings) (noted : Option (List Pair)) (body : CameBody) → HasBody body (view_begun transport service settings noted).stage (view_begun transport service settings noted).queue × HasQueueBound (view_begun transport service settings noted) }
+    ensures new { (transport : Wiring) (service : Serving Asking Answer Answer) (settings : Settings) (peer : PeerAddress) (noted : Option (List Pair)) (listens : Bool) (body : CameBody) → HasBody body (view_begun transport service settings peer noted listens).stage (view_begun transport service settings peer noted listens).queue × HasQueueBound (view_begun transport service settings peer noted listens) }
     ensures bound { (v w : View) (steps : List Step) (trace : List sums.Step) → TracedStands v.traced trace → AllNoted steps → IsRun v steps w → HasQueueBound v → HasQueueBound w }
     ensures once { (v w : View) (steps : List Step) (body : CameBody) (trace : List sums.Step) → TracedStands v.traced trace → AllNoted steps → IsRun v steps w → body.faults ≡ [] → length (body_after body steps).faults ≤ 1 }
     ensures held { (v : View) (trace : List sums.Step) → TracedStands v.traced trace → length v.traced.state.kept.unread ≤ v.traced.state.settings.h1_hold_size }
@@ -107,7 +129,7 @@ pub fn runs_feed_bodies()
 /// body of an answer that isn't whole is at hand, and may be polled while the connection goes on, wherever there is room for
 /// a piece of it. So it is for a new dispatcher whose recorder knows of no step.
 pub fn runs_lose_no_request()
-    ensures new { (transport : Wiring) (service : Serving Asking Answer Answer) (settings : Settings) → IsTied (view_begun transport service settings None) × IsTied (view_begun transport service settings (Some [])) }
+    ensures new { (transport : Wiring) (service : Serving Asking Answer Answer) (settings : Settings) (peer : PeerAddress) (listens : Bool) → IsTied (view_begun transport service settings peer None listens) × IsTied (view_begun transport service settings peer (Some []) listens) }
     ensures runs { (v w : View) (steps : List Step) → AllNoted steps → IsRun v steps w → IsTied v → StaysTied w }
 {}
 
@@ -116,15 +138,15 @@ pub fn runs_lose_no_request()
 /// that: so at most as many wait, and the text that one step adds, which is that of one answer's head, or of one piece of a
 /// body, or of its end, or tells a client to go on. A moment may add the text of one answer of the connection's own, and then it closes.
 pub fn runs_bound_output()
-    ensures asked { (v w : View) (head : NextHead) → IsStep v (next head) w → has_write_room v ≡ true }
-    ensures new { (transport : Wiring) (service : Serving Asking Answer Answer) (settings : Settings) → HasRoomForAnswer (view_begun transport service settings None) × HasRoomForAnswer (view_begun transport service settings (Some [])) }
+    ensures asked { (v w : View) (peer : PeerAddress) (head : NextHead) → IsStep v (next peer head) w → has_write_room v ≡ true }
+    ensures new { (transport : Wiring) (service : Serving Asking Answer Answer) (settings : Settings) (peer : PeerAddress) (listens : Bool) → HasRoomForAnswer (view_begun transport service settings peer None listens) × HasRoomForAnswer (view_begun transport service settings peer (Some []) listens) }
     ensures runs { (v u w : View) (steps : List Step) (step : Step) → AllNoted steps → IsNoted step → HasRoomForAnswer v → IsRun v steps u → IsStep u step w → GrowsInRoom u step w }
 {}
 
 /// Over every run in which nobody asks that requests be held back, none is: so all that is said of requests that aren't held
 /// back holds of each. So it is over polls and drains alone. A new dispatcher holds none back.
 pub fn runs_hold_none_unasked()
-    ensures new { (transport : Wiring) (service : Serving Asking Answer Answer) (settings : Settings) (noted : Option (List Pair)) → HoldsNone (view_begun transport service settings noted) }
+    ensures new { (transport : Wiring) (service : Serving Asking Answer Answer) (settings : Settings) (peer : PeerAddress) (noted : Option (List Pair)) (listens : Bool) → HoldsNone (view_begun transport service settings peer noted listens) }
     ensures runs { (v w : View) (steps : List Step) → AllByRecursion AsksNoHold steps → IsRun v steps w → HoldsNone v → StaysUnheld w }
     ensures polls { (v w : View) (acts : List Act) → ActsSay v acts w → HoldsNone v → StaysUnheld w }
 {}

@@ -3,7 +3,8 @@
 //! # Example
 //!
 //! ```ignore
-//! let mut dispatcher = Dispatcher::new(alloc, transport, service, config, NoRecord);
+//! let peer = transport.peer_addr();
+//! let mut dispatcher = Dispatcher::new(alloc, transport, service, config, peer, NoRecord);
 //! match dispatcher.poll(now_ms, cx) {
 //!     Poll::Ready(Ok(())) => {}        // the connection has ended
 //!     Poll::Ready(Err(error)) => {}    // why it broke off
@@ -34,5 +35,6 @@ pub use dispatcher::{Accepting, Dispatcher, Ending, Upgraded};
 pub use laws::{
     no_head_comes_of_no_byte, polls_are_one_run, polls_end_by_their_cause, runs_are_traces,
     runs_bound_output, runs_feed_bodies, runs_hold_none_unasked, runs_keep_order,
-    runs_lose_no_request, runs_note_traces, runs_send_bodies,
+    runs_lack_what_they_take, runs_lose_no_request, runs_note_traces, runs_send_bodies,
+    runs_tell_the_peer,
 };

@@ -423,6 +423,15 @@ own_stretch ps own m k all q is none view same =
     let bytes : all ≡ q.bytes = same ∙ all_own ps own m k q is none view in
     subst (λ l. IsStretch q.bytes l) (sym bytes) (record { begins = take-length q.bytes; fits = omega arith; some = λ has. has })
 
+-- the first bytes are no more than all
+taken_within : (n : ℕ) (all : List ℕ) → length (take n all) ≤ length all
+taken_within n all = omega (arith, length-take n all)
+
+pub own_segment : (ps : List Piece) (own : List ℕ) (m k : ℕ) (all : List ℕ) (q : Queued) → IsLaid ps own m k → k ≡ 0 → queued ps own ≡ q → all ≡ own → length (front_of q) ≤ length all
+own_segment ps own m k all q is none view same =
+    let bytes : all ≡ q.bytes = same ∙ all_own ps own m k q is none view in
+    subst (λ (l : List ℕ). length (front_of q) ≤ length l) (sym bytes) (taken_within (front_len q.marks (length q.bytes)) q.bytes)
+
 -- ---- all goes
 
 marks_gone : (n place : ℕ) (ps : List Piece) → place + used ps + shared ps ≤ n → runs_behind n (marks_from place ps) ≡ []

@@ -241,7 +241,8 @@ impl Segments {
 
     /// The first bytes that lie together, for one write: all of them where no piece is shared, and else the first segment.
     pub fn stretch(&self) -> &[u8]
-        ensures { IsStretch self.now.bytes result.now }
+        ensures stretch { IsStretch self.now.bytes result.now }
+        ensures segment { length (front_of self.now) ≤ length result.now }
     {
         if self.shared == 0 {
             return self.own.as_slice();

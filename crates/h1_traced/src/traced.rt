@@ -1,5 +1,5 @@
 //! A connection whose steps are noted.
-ghost use Rattle.std.specs.Prelude.{◌≡◌, ◌≤◌, ◌++◌, ℕ, List, [], ◌∷◌, Option, None, false, length, take, IfOk, OnOk, OnErr, IsOk};
+ghost use Rattle.std.specs.Prelude.{◌≡◌, ◌≤◌, ◌++◌, ℕ, List, [], ◌∷◌, Option, None, true, false, length, take, IfOk, OnOk, OnErr, IsOk};
 ghost use Rattle.h1_encoder.specs.Meaning.{answer_of, size_of};
 ghost use Rattle.model_h1.specs.Event as on;
 ghost use Rattle.h1_payload.specs.Rests.{SaysPulled};
@@ -79,8 +79,8 @@ impl<L: Recorder> Traced<L> {
     /// stands for the empty trace.
     pub fn new(alloc: Global, config: ServiceConfig, recorder: L) -> Traced<L>
         ensures fresh { result ≡ record { connection = fresh_state config; recorder = recorder } }
-        ensures stands { L.noted recorder ≡ None → TracedStands (traced_of L.noted result) [] }
-        ensures starts { L.noted recorder ≡ Some [] → TracedStands (traced_of L.noted result) [] }
+        ensures stands { L.noted recorder ≡ None → TracedStands (traced_of L.noted L.is_listening result) [] }
+        ensures starts { L.noted recorder ≡ Some [] → TracedStands (traced_of L.noted L.is_listening result) [] }
     {
         Traced {
             alloc,
@@ -92,9 +92,9 @@ impl<L: Recorder> Traced<L> {
     /// Takes an event in that is allowed, and answers it.
     pub fn step(&mut self, event: &Event) -> Result<Outcome, NoMemory>
         requires allowed { IsAllowed self.old.connection (event_of event.now) }
-        ensures stands { IfOk result (λ outcome. TracedSteps (traced_of L.noted self.old) (event_of event.now) (SaysOutcome outcome) (traced_of L.noted self.new)) }
+        ensures stands { IfOk result (λ outcome. TracedSteps (traced_of L.noted L.is_listening self.old) (event_of event.now) (SaysOutcome outcome) (traced_of L.noted L.is_listening self.new)) }
         ensures settings { self.new.connection.settings ≡ self.old.connection.settings }
-        ensures err { OnErr result (TracedFails (traced_of L.noted self.old) (event_of event.now) (traced_of L.noted self.new)) }
+        ensures err { OnErr result (TracedFails (traced_of L.noted L.is_listening self.old) (event_of event.now) (traced_of L.noted L.is_listening self.new)) }
         ensures listening { L.is_listening self.new.recorder ≡ L.is_listening self.old.recorder }
         ensures no_memory_needed { L.is_listening self.old.recorder ≡ false → TakesNoMemory self.old.connection (event_of event.now) → IsOk result }
     {
@@ -106,9 +106,9 @@ impl<L: Recorder> Traced<L> {
     /// once more for a recorder that listens.
     pub fn read(&mut self, bytes: &[u8]) -> Result<usize, NoMemory>
         requires can_read { IsAllowed self.old.connection (on.read bytes.now) }
-        ensures stands { IfOk result (λ count. TracedSteps (traced_of L.noted self.old) (on.read bytes.now) (Is (on.took count)) (traced_of L.noted self.new)) }
+        ensures stands { IfOk result (λ count. TracedSteps (traced_of L.noted L.is_listening self.old) (on.read bytes.now) (Is (on.took count)) (traced_of L.noted L.is_listening self.new)) }
         ensures settings { self.new.connection.settings ≡ self.old.connection.settings }
-        ensures err { OnErr result (TracedFails (traced_of L.noted self.old) (on.read bytes.now) (traced_of L.noted self.new)) }
+        ensures err { OnErr result (TracedFails (traced_of L.noted L.is_listening self.old) (on.read bytes.now) (traced_of L.noted L.is_listening self.new)) }
         ensures listening { L.is_listening self.new.recorder ≡ L.is_listening self.old.recorder }
     {
         let count = self.connection.read(bytes)?;
@@ -119,9 +119,9 @@ impl<L: Recorder> Traced<L> {
     /// The peer sends no more bytes.
     pub fn eof(&mut self) -> Result<(), NoMemory>
         requires can_read { IsAllowed self.old.connection on.eof }
-        ensures stands { OnOk result (TracedSteps (traced_of L.noted self.old) on.eof (Is on.done) (traced_of L.noted self.new)) }
+        ensures stands { OnOk result (TracedSteps (traced_of L.noted L.is_listening self.old) on.eof (Is on.done) (traced_of L.noted L.is_listening self.new)) }
         ensures settings { self.new.connection.settings ≡ self.old.connection.settings }
-        ensures err { OnErr result (TracedFails (traced_of L.noted self.old) on.eof (traced_of L.noted self.new)) }
+        ensures err { OnErr result (TracedFails (traced_of L.noted L.is_listening self.old) on.eof (traced_of L.noted L.is_listening self.new)) }
         ensures listening { L.is_listening self.new.recorder ≡ L.is_listening self.old.recorder }
         ensures no_memory_needed { L.is_listening self.old.recorder ≡ false → IsOk result }
     {
@@ -132,9 +132,9 @@ impl<L: Recorder> Traced<L> {
     /// Hands out the next request's head, or that the connection has ended. A head is copied for a recorder that listens.
     pub fn next(&mut self) -> Result<NextHead, NoMemory>
         requires can_next { IsNextAllowed self.old.connection }
-        ensures stands { IfOk result (λ next. TracedSteps (traced_of L.noted self.old) on.next (SaysNext next) (traced_of L.noted self.new)) }
+        ensures stands { IfOk result (λ next. TracedSteps (traced_of L.noted L.is_listening self.old) on.next (SaysNext next) (traced_of L.noted L.is_listening self.new)) }
         ensures settings { self.new.connection.settings ≡ self.old.connection.settings }
-        ensures err { OnErr result (TracedFails (traced_of L.noted self.old) on.next (traced_of L.noted self.new)) }
+        ensures err { OnErr result (TracedFails (traced_of L.noted L.is_listening self.old) on.next (traced_of L.noted L.is_listening self.new)) }
         ensures listening { L.is_listening self.new.recorder ≡ L.is_listening self.old.recorder }
         ensures no_memory_needed { L.is_listening self.old.recorder ≡ false → NeedsNoMemory (setting_of self.old.connection.settings) self.old.connection.kept → IsOk result }
     {
@@ -146,9 +146,9 @@ impl<L: Recorder> Traced<L> {
     pub fn advance(&mut self, count: usize) -> Result<(), NoMemory>
         requires can_write { IsAllowed self.old.connection (on.write count) }
         requires fits { count ≤ length self.old.connection.kept.buffered }
-        ensures stands { OnOk result (TracedSteps (traced_of L.noted self.old) (on.write count) (Is (on.gave (take count self.old.connection.kept.buffered))) (traced_of L.noted self.new)) }
+        ensures stands { OnOk result (TracedSteps (traced_of L.noted L.is_listening self.old) (on.write count) (Is (on.gave (take count self.old.connection.kept.buffered))) (traced_of L.noted L.is_listening self.new)) }
         ensures settings { self.new.connection.settings ≡ self.old.connection.settings }
-        ensures err { OnErr result (TracedFails (traced_of L.noted self.old) (on.write count) (traced_of L.noted self.new)) }
+        ensures err { OnErr result (TracedFails (traced_of L.noted L.is_listening self.old) (on.write count) (traced_of L.noted L.is_listening self.new)) }
         ensures listening { L.is_listening self.new.recorder ≡ L.is_listening self.old.recorder }
         ensures no_memory_needed { L.is_listening self.old.recorder ≡ false → IsOk result }
     {
@@ -159,11 +159,13 @@ impl<L: Recorder> Traced<L> {
         Ok(())
     }
 
+    // The write of a recorder that listens, which is given the bytes.
     fn give(&mut self, count: usize) -> Result<(), NoMemory>
         requires can_write { IsAllowed self.old.connection (on.write count) }
-        ensures stands { OnOk result (TracedSteps (traced_of L.noted self.old) (on.write count) (Is (on.gave (take count self.old.connection.kept.buffered))) (traced_of L.noted self.new)) }
+        requires heard { L.is_listening self.old.recorder ≡ true }
+        ensures stands { OnOk result (TracedSteps (traced_of L.noted L.is_listening self.old) (on.write count) (Is (on.gave (take count self.old.connection.kept.buffered))) (traced_of L.noted L.is_listening self.new)) }
         ensures settings { self.new.connection.settings ≡ self.old.connection.settings }
-        ensures err { OnErr result (TracedFails (traced_of L.noted self.old) (on.write count) (traced_of L.noted self.new)) }
+        ensures err { OnErr result (TracedFails (traced_of L.noted L.is_listening self.old) (on.write count) (traced_of L.noted L.is_listening self.new)) }
         ensures listening { L.is_listening self.new.recorder ≡ L.is_listening self.old.recorder }
     {
         let bytes = self.connection.write(count)?;
@@ -177,9 +179,9 @@ impl<L: Recorder> Traced<L> {
     /// A moment has come, in milliseconds after the start of 1970.
     pub fn tick(&mut self, moment: u64) -> Result<Expiry, NoMemory>
         requires can_tick { IsAllowed self.old.connection (on.tick moment) }
-        ensures stands { IfOk result (λ expiry. TracedSteps (traced_of L.noted self.old) (on.tick moment) (Is (expiry_of expiry)) (traced_of L.noted self.new)) }
+        ensures stands { IfOk result (λ expiry. TracedSteps (traced_of L.noted L.is_listening self.old) (on.tick moment) (Is (expiry_of expiry)) (traced_of L.noted L.is_listening self.new)) }
         ensures settings { self.new.connection.settings ≡ self.old.connection.settings }
-        ensures err { OnErr result (TracedFails (traced_of L.noted self.old) (on.tick moment) (traced_of L.noted self.new)) }
+        ensures err { OnErr result (TracedFails (traced_of L.noted L.is_listening self.old) (on.tick moment) (traced_of L.noted L.is_listening self.new)) }
         ensures listening { L.is_listening self.new.recorder ≡ L.is_listening self.old.recorder }
         ensures no_memory_needed { L.is_listening self.old.recorder ≡ false → IsQuietTick (setting_of self.old.connection.settings) self.old.connection.kept moment → IsOk result }
     {
@@ -191,9 +193,9 @@ impl<L: Recorder> Traced<L> {
     /// The connection is to end once no request is open.
     pub fn drain(&mut self) -> Result<(), NoMemory>
         requires can_drain { IsAllowed self.old.connection on.drain }
-        ensures stands { OnOk result (TracedSteps (traced_of L.noted self.old) on.drain (Is on.done) (traced_of L.noted self.new)) }
+        ensures stands { OnOk result (TracedSteps (traced_of L.noted L.is_listening self.old) on.drain (Is on.done) (traced_of L.noted L.is_listening self.new)) }
         ensures settings { self.new.connection.settings ≡ self.old.connection.settings }
-        ensures err { OnErr result (TracedFails (traced_of L.noted self.old) on.drain (traced_of L.noted self.new)) }
+        ensures err { OnErr result (TracedFails (traced_of L.noted L.is_listening self.old) on.drain (traced_of L.noted L.is_listening self.new)) }
         ensures listening { L.is_listening self.new.recorder ≡ L.is_listening self.old.recorder }
         ensures no_memory_needed { L.is_listening self.old.recorder ≡ false → IsOk result }
     {

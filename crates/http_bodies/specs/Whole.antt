@@ -30,3 +30,7 @@ abbrev pub AreAll : Whole → List ℕ → Type 0
 AreAll unknown bytes = ⊤
 AreAll (ends all) bytes = bytes ≡ all
 AreAll (fails all n) bytes = ⊥
+
+-- a body that doesn't say which bytes it has at hand
+abbrev pub none_at_hand : {B : Type 0} → B → Option (List ℕ)
+none_at_hand body = None

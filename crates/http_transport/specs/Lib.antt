@@ -8,3 +8,4 @@ pub mod Parts
 pub mod Items
 pub mod Flushes
 pub mod Lends
+pub mod Peer

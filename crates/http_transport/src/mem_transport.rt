@@ -19,13 +19,14 @@ use pieces::{Front, Pieces};
 use std::alloc::{AllocError, Global};
 use std::collections::VecDeque;
 use std::marker::Model;
+use std::net::SocketAddr;
 
 /// A transport in memory: it gives pieces of bytes, and keeps what it received and what was sent.
 ///
 /// A read gives bytes of one piece. An empty piece makes one read pending, and after the last piece the input ends.
 /// Each write takes as many bytes as its room says, and after the last room all. A room of 0 makes one write pending.
 /// The calls are counted from 0, and those listed fail. A read or a write for which there is no memory fails too: none is
-/// needed where `reserve` made room for its bytes.
+/// needed where `reserve` made room for its bytes. Nobody's address is known.
 ///
 /// A clause sees it as the record of what it keeps.
 #[derive(Drop)]
@@ -118,7 +119,15 @@ impl MemTransport {
 }
 
 impl Transport for MemTransport {
+    ghost use Rattle.std.specs.Prelude.{None};
+
     ghost wiring = { known };
+
+    ghost peer = { λ _. None };
+
+    fn peer_addr(&self) -> Option<SocketAddr> {
+        None
+    }
 
     fn poll_read(&mut self, buf: &mut [u8], cx: &mut Context<'_>) -> Poll<Result<usize, Failed>>
         ensures says { ReadSays (known self.old) (known self.new) result buf.new }

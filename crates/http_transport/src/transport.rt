@@ -1,10 +1,13 @@
 //! Where the bytes of a connection come from and go to.
+ghost use Rattle.std.specs.Prelude.{◌≡◌};
 ghost use Rattle.futures.specs.Task.{IsArmed, Keeps};
 ghost use Rattle.futures.specs.Poll.{OnPending};
+ghost use Rattle.http_transport.specs.Peer.{PeerAddress};
 ghost use Rattle.http_transport.specs.Wiring.{Wiring, ReadSays, WriteSays, FlushSays, ShutSays};
 
 use futures::task::{Context, Poll};
 use http_config::Failed;
+use std::net::SocketAddr;
 
 /// A stream of bytes in both directions. A call that finds it not ready is pending, and wakes the task once it is worth
 /// another try.
@@ -14,6 +17,13 @@ pub trait Transport: Drop {
     /// The bytes that it received and sent, if they are known, that its input ended, that it was shut down, how often it
     /// failed, and how often each call was pending.
     ghost wiring: { Self → Wiring };
+
+    /// Who is on the other side, if that is known.
+    ghost peer: { Self → PeerAddress };
+
+    /// Who is on the other side, where that is known: the address that came with the connection when it was accepted.
+    fn peer_addr(&self) -> Option<SocketAddr>
+        ensures { result ≡ peer self.now };
 
     /// Moves the next bytes to the front of `buf`, and answers how many. What `buf` holds behind them is open. For a
     /// `buf` that isn't empty, 0 is the end of the input.

@@ -2,4 +2,3 @@ pub mod Acceptor
 pub mod Gate
 pub mod Moments
 pub mod Socket
-pub mod Transports

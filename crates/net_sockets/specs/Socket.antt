@@ -1,5 +1,6 @@
 -- What is known of a socket as a transport: no bytes, but its end, its shutdown and the counts.
 use Rattle.std.specs.Prelude.{None}
+use Rattle.http_transport.specs.Peer.{PeerAddress}
 use Rattle.http_transport.specs.Wiring.{Wiring}
 use Rattle.net_sockets.specs.declared.transport.TcpTransport.{TcpTransport}
 
@@ -16,3 +17,7 @@ socket_wiring w =
       flush_waits = 0;
       shut_waits = w.shuts;
     }
+
+-- who is on the other side, as it was told when the socket was accepted
+abbrev pub socket_peer : {R : Type 0} → TcpTransport R → PeerAddress
+socket_peer w = w.peer

@@ -4,7 +4,7 @@ ghost use Rattle.net_sockets.specs.Acceptor.{acceptor_opening, unused};
 
 use crate::close::Linger;
 use crate::error::AcceptError;
-use crate::listener::Listener;
+use crate::listener::{Accepted, Listener};
 use crate::transport::TcpTransport;
 use http_config::Failed;
 use http_transport::Acceptor;
@@ -67,9 +67,9 @@ where
 
     fn accept(&mut self) -> Result<Option<TcpTransport<R>>, Failed> {
         match next_stream(&self.listener) {
-            Some(stream) => {
+            Some(Accepted { stream, peer }) => {
                 self.given = self.given.saturating_add(1);
-                let transport = TcpTransport::new(self.rt, stream, self.linger);
+                let transport = TcpTransport::new(self.rt, stream, Some(peer), self.linger);
                 // A socket that refuses to be set is lost, and its first read says so.
                 let _ = transport.set_wait(self.wait);
                 Ok(Some(transport))
@@ -83,11 +83,11 @@ where
 }
 
 /// The next connection of those whose peer didn't take it back.
-fn next_stream(listener: &Option<Listener>) -> Option<TcpStream> {
+fn next_stream(listener: &Option<Listener>) -> Option<Accepted> {
     let listener = listener.as_ref()?;
     for _ in 0..u32::MAX {
         match listener.accept() {
-            Ok(accepted) => return Some(accepted.stream),
+            Ok(accepted) => return Some(accepted),
             Err(AcceptError::Gone) => {}
             Err(_) => return None,
         }

@@ -9,6 +9,7 @@ use futures::task::{Context, Poll, Source, Waker};
 use http_config::Failed;
 use http_transport::Transport;
 use std::marker::Model;
+use std::net::SocketAddr;
 
 /// A transport over another one that reads nothing while its write waits: so a peer that doesn't read what it is sent can't
 /// make us hold more of what it sends.
@@ -59,6 +60,12 @@ impl<W> Gated<W> {
 
 impl<W: Transport> Transport for Gated<W> {
     ghost wiring = { gate_wiring W.wiring };
+
+    ghost peer = { λ g. W.peer g.transport };
+
+    fn peer_addr(&self) -> Option<SocketAddr> {
+        self.transport.peer_addr()
+    }
 
     fn poll_read(&mut self, buf: &mut [u8], cx: &mut Context<'_>) -> Poll<Result<usize, Failed>>
         ensures says { ReadSays (gate_wiring W.wiring self.old) (gate_wiring W.wiring self.new) result buf.new }

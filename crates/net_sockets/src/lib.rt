@@ -4,8 +4,7 @@
 //!   [`close_orderly`] ends it so that no answer is lost. [`TcpTransport`] and [`TcpAcceptor`] are the same as a transport and an
 //!   acceptor; [`Gated`] reads nothing while its write waits. [`prepare`], [`TimedSource`] and [`TimedSink`]
 //!   bound how long a call waits.
-//! - Non-blocking, over `mio`: [`MioWatch`] tells which sockets are ready, [`MioTransport`] is a socket as a transport, and
-//!   [`Incoming`] and [`Outgoing`] are its two directions.
+//! - Non-blocking, over `mio`: [`Incoming`] and [`Outgoing`] are both directions of a socket.
 //! - [`moment`], [`uptime`] and [`SystemClock`] tell the time in milliseconds.
 //!
 //! # Example
@@ -27,13 +26,9 @@
 mod acceptor;
 mod clock;
 mod close;
-mod drain;
 mod error;
 mod gated;
-mod input;
 mod listener;
-mod mio_transport;
-mod mio_watch;
 mod polled_socket;
 mod socket;
 mod system_clock;
@@ -46,8 +41,6 @@ pub use close::{Linger, close_orderly};
 pub use error::{AcceptError, BindError};
 pub use gated::Gated;
 pub use listener::{Accepted, Listener};
-pub use mio_transport::{ENOUGH, MioTransport};
-pub use mio_watch::MioWatch;
 pub use polled_socket::{Incoming, Outgoing, Polled};
 pub use socket::{SocketSink, SocketSource, Stall, prepare};
 pub use system_clock::SystemClock;

@@ -1,5 +1,6 @@
 //! A socket as a transport.
-ghost use Rattle.net_sockets.specs.Socket.{socket_wiring};
+ghost use Rattle.std.specs.Prelude.{◌≡◌};
+ghost use Rattle.net_sockets.specs.Socket.{socket_wiring, socket_peer};
 ghost use Rattle.http_transport.specs.Opening.{IsFresh};
 
 use crate::clock::uptime;
@@ -8,7 +9,7 @@ use futures::task::{Context, Poll};
 use http_config::Failed;
 use http_transport::Transport;
 use std::io::{ErrorKind, Read, Write};
-use std::net::{Shutdown, TcpStream};
+use std::net::{Shutdown, SocketAddr, TcpStream};
 use std::time::Duration;
 use std::{io, time};
 
@@ -24,6 +25,7 @@ use std::{io, time};
 pub struct TcpTransport<R> {
     rt: R,
     stream: TcpStream,
+    peer: Option<SocketAddr>,
     linger: Linger,
     drain: Option<Drain>,
     ended: bool,
@@ -42,13 +44,20 @@ struct Drain {
 }
 
 impl<R: time::Clock> TcpTransport<R> {
-    /// A transport over an accepted socket, whose shutdown has these bounds.
-    pub fn new(rt: R, stream: TcpStream, linger: Linger) -> TcpTransport<R>
+    /// A transport over an accepted socket, with the address of its peer, where that is known. Its shutdown has these bounds.
+    pub fn new(
+        rt: R,
+        stream: TcpStream,
+        peer: Option<SocketAddr>,
+        linger: Linger,
+    ) -> TcpTransport<R>
         ensures fresh { IsFresh (socket_wiring result) }
+        ensures peer { socket_peer result ≡ peer }
     {
         TcpTransport {
             rt,
             stream,
+            peer,
             linger,
             drain: None,
             ended: false,
@@ -129,6 +138,12 @@ fn is_unready(kind: ErrorKind) -> bool {
 
 impl<R: time::Clock + Drop> Transport for TcpTransport<R> {
     ghost wiring = { socket_wiring };
+
+    ghost peer = { socket_peer };
+
+    fn peer_addr(&self) -> Option<SocketAddr> {
+        self.peer
+    }
 
     fn poll_read(&mut self, buf: &mut [u8], cx: &mut Context<'_>) -> Poll<Result<usize, Failed>> {
         match self.stream.read(buf) {

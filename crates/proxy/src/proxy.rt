@@ -10,6 +10,7 @@ ghost use Rattle.h1_connection.specs.EventMeaning.{setting_of, end_of};
 ghost use Rattle.h1_connection.specs.State.{fresh_state};
 ghost use Rattle.model_state.specs.Deadline.{deadline_by};
 ghost use Rattle.model_state.specs.Local.{closing_by};
+ghost use Rattle.model_state.specs.Runs.{first_segment};
 ghost use Rattle.model_proxy.specs.Happenings.{nothing_happened};
 ghost use Rattle.proxy.specs.Served.{IsServed};
 ghost use Rattle.proxy.specs.Kept.{client_of, server_of, Forwards, IsUnsent, is_closing, wants_server, server_text, server_allows, client_takes, client_room, server_room, is_reusable, is_answering};
@@ -174,11 +175,13 @@ impl Proxy {
         self.client.deadline()
     }
 
-    /// What is to be written towards the client next, oldest first: nothing only where nothing waits.
+    /// What is to be written towards the client next, oldest first: the first segment at least, and nothing only where
+    /// nothing waits.
     pub fn client_front(&self) -> &[u8]
         ensures first { (rest : List ℕ) × (result.now ++ rest ≡ (client_of self.now).kept.buffered) }
         ensures fits { length result.now ≤ length (client_of self.now).kept.buffered }
         ensures some { length result.now ≡ 0 → length (client_of self.now).kept.buffered ≡ 0 }
+        ensures segment { length (first_segment (client_of self.now).marks (client_of self.now).kept.buffered) ≤ length result.now }
     {
         self.client.stretch()
     }

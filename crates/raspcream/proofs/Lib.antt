@@ -1,3 +1,7 @@
+mod ShownLemmas
+mod PackedLemmas
+mod NamedLemmas
 mod ServedLemmas
 mod AskedLemmas
 mod CalledLemmas
+mod OpenLemmas

@@ -1,4 +1,10 @@
 pub mod Numbers
+pub mod Bits
+pub mod Packed
+pub mod Named
+pub mod Refused
+pub mod Shown
+pub mod Settings
 pub mod Served
 pub mod Asked
 pub mod Calls

@@ -1,8 +1,10 @@
 //! One call on a machine, by its number.
-ghost use Rattle.std.specs.Prelude.{◌≡◌, ◌≢◌, OnOk, OnErr};
-ghost use Rattle.raspcream.specs.Calls.{Did, IsCalled};
+ghost use Rattle.std.specs.Prelude.{◌≡◌, ◌≢◌, ◌≤◌, IfErr, OnOk, OnErr};
+ghost use Rattle.raspcream.specs.Calls.{Did, MayFail, IsCalled};
+ghost use Rattle.raspcream.specs.Refused.{MayRefuse, MayDecline, IsCode};
 ghost use Rattle.raspcream.specs.Served.{HasServed};
 ghost use Rattle.raspcream.specs.Asked.{HasAsked};
+ghost use Rattle.raspcream.specs.declared.reply.TheConstants.{MAX_FIELDS};
 
 use crate::client::Client;
 use crate::machine::Machine;
@@ -19,6 +21,9 @@ fn on_server(
     out: &mut Reply,
 ) -> Result<(), Failure>
     ensures kept { OnErr result (it.new ≡ it.old) }
+    ensures refused { IfErr result (MayRefuse op arg number input.now it.old) }
+    ensures quiet { OnErr result (out.new ≡ out.old) }
+    ensures few { out.old.count ≤ MAX_FIELDS → out.new.count ≤ MAX_FIELDS }
     ensures done { OnOk result (HasServed op arg number input.now out.new it.old it.new) }
 {
     match op {
@@ -41,6 +46,7 @@ fn on_server(
         Op::Send => it.send(arg, number, input, out),
         Op::State => it.state(out),
         Op::Held => it.held(number, out),
+        Op::Ahead => it.ahead(out),
     }
 }
 
@@ -53,6 +59,9 @@ fn on_client(
     out: &mut Reply,
 ) -> Result<(), Failure>
     ensures kept { OnErr result (it.new ≡ it.old) }
+    ensures refused { IfErr result (MayDecline op arg number input.now it.old) }
+    ensures quiet { OnErr result (out.new ≡ out.old) }
+    ensures few { out.old.count ≤ MAX_FIELDS → out.new.count ≤ MAX_FIELDS }
     ensures done { OnOk result (HasAsked op arg number input.now out.new it.old it.new) }
 {
     match op {
@@ -70,12 +79,17 @@ fn on_client(
         Op::Tick => it.tick(number, out),
         Op::State => it.state(out),
         Op::Held => it.held(number, out),
-        Op::Continue | Op::Drain | Op::Accept | Op::Frame | Op::Send => Err(Failure::Invalid),
+        Op::Continue | Op::Drain | Op::Accept | Op::Frame | Op::Send | Op::Ahead => {
+            Err(Failure::Invalid)
+        }
     }
 }
 
 fn serve(it: &mut Server, op: Op, arg: u32, number: u64, input: &[u8], out: &mut Reply) -> u32
     ensures kept { result ≢ 0 → it.new ≡ it.old }
+    ensures reason { IsCode (MayRefuse op arg number input.now it.old) result }
+    ensures quiet { result ≢ 0 → out.new ≡ out.old }
+    ensures few { out.old.count ≤ MAX_FIELDS → out.new.count ≤ MAX_FIELDS }
     ensures done { result ≡ 0 → HasServed op arg number input.now out.new it.old it.new }
 {
     code_of(on_server(it, op, arg, number, input, out))
@@ -83,6 +97,9 @@ fn serve(it: &mut Server, op: Op, arg: u32, number: u64, input: &[u8], out: &mut
 
 fn request(it: &mut Client, op: Op, arg: u32, number: u64, input: &[u8], out: &mut Reply) -> u32
     ensures kept { result ≢ 0 → it.new ≡ it.old }
+    ensures reason { IsCode (MayDecline op arg number input.now it.old) result }
+    ensures quiet { result ≢ 0 → out.new ≡ out.old }
+    ensures few { out.old.count ≤ MAX_FIELDS → out.new.count ≤ MAX_FIELDS }
     ensures done { result ≡ 0 → HasAsked op arg number input.now out.new it.old it.new }
 {
     code_of(on_client(it, op, arg, number, input, out))
@@ -90,6 +107,9 @@ fn request(it: &mut Client, op: Op, arg: u32, number: u64, input: &[u8], out: &m
 
 fn step(machine: &mut Machine, op: Op, arg: u32, number: u64, input: &[u8], out: &mut Reply) -> u32
     ensures kept { result ≢ 0 → machine.new ≡ machine.old }
+    ensures reason { IsCode (MayFail op arg number input.now machine.old) result }
+    ensures quiet { result ≢ 0 → out.new ≡ out.old }
+    ensures few { out.old.count ≤ MAX_FIELDS → out.new.count ≤ MAX_FIELDS }
     ensures done { result ≡ 0 → Did op arg number input.now out.new machine.old machine.new }
 {
     match machine {

@@ -1,5 +1,7 @@
 //! The functions that C calls.
+ghost use Rattle.std.specs.Prelude.{◌≡◌, ◌≢◌, ◌⊎◌, ◌↔◌, IsOk, IfOk, IfErr};
 ghost use Rattle.raspcream.specs.Calls.{IsCalled};
+ghost use Rattle.raspcream.specs.Settings.{fresh_machine, StandsForNothing, CannotBe};
 ghost use Rattle.std.specs.Borrow.{sem};
 ghost use Rattle.std.specs.Ptr.{points_to, room_at};
 ghost use Rattle.raspcream.specs.contracts.machine.Machine.{the_row as machine_row};
@@ -17,22 +19,41 @@ fn hide(machine: Box<Machine>) -> *mut u8 {
 
 /// The number that goes with the header.
 #[unsafe(no_mangle)]
-pub extern "C" fn raspcream_abi() -> u32 {
+pub extern "C" fn raspcream_abi() -> u32
+    ensures { result ≡ 1 }
+{
     1
+}
+
+// A machine to which nothing has come, or the code why there is none.
+fn made(alloc: Global, config: &Config) -> Result<Box<Machine>, u32>
+    ensures fresh { IfOk result (λ machine. machine.value ≡ fresh_machine config.now) }
+    ensures stands { IfOk result (λ machine. StandsForNothing machine.value) }
+    ensures can_be { IsOk result → CannotBe config.now → ⊥ }
+    ensures code { IfErr result (λ code. ((code ≡ 1) × (CannotBe config.now → ⊥)) ⊎ ((code ≡ 3) × CannotBe config.now)) }
+{
+    let Some(machine) = fresh(alloc, config) else {
+        return Err(3);
+    };
+    match Box::new(alloc, machine) {
+        Ok(machine) => Ok(machine),
+        Err(_) => Err(1),
+    }
 }
 
 /// A connection. 1: memory is wanting, 3: no connection has such settings.
 #[unsafe(no_mangle)]
-pub extern "C" fn raspcream_open(alloc: Global, config: &Config, out: &mut *mut u8) -> u32 {
-    let Some(machine) = fresh(alloc, config) else {
-        return 3;
-    };
-    match Box::new(alloc, machine) {
+pub extern "C" fn raspcream_open(alloc: Global, config: &Config, out: &mut *mut u8) -> u32
+    ensures known { (result ≡ 0) ⊎ ((result ≡ 1) ⊎ (result ≡ 3)) }
+    ensures invalid { result ≡ 3 ↔ CannotBe config.now }
+    ensures same { result ≢ 0 → out.new ≡ out.old }
+{
+    match made(alloc, config) {
         Ok(machine) => {
             *out = hide(machine);
             0
         }
-        Err(_) => 1,
+        Err(code) => code,
     }
 }
 

@@ -1,6 +1,9 @@
 //! What was handed out of a body.
-ghost use Rattle.std.specs.Prelude.{◌≡◌};
+ghost use Rattle.std.specs.Prelude.{◌≡◌, ◌≤◌, length, min};
+ghost use Rattle.http_map.specs.HeaderMap.{value_count};
 ghost use Rattle.raspcream.specs.Numbers.{pulled_kind};
+ghost use Rattle.raspcream.specs.Shown.{ShowsPulled};
+ghost use Rattle.raspcream.specs.declared.reply.TheConstants.{MAX_FIELDS};
 
 use crate::reply::{
     BROKEN, END, PENDING, PIECE, Reply, TRAILERS, fault_number, tell, tell_bytes, tell_fields,
@@ -26,7 +29,9 @@ impl Handed {
 
     /// Keeps what came, and tells it.
     pub fn keep(&mut self, pulled: Pulled, out: &mut Reply)
-        ensures { out.new.kind ≡ pulled_kind pulled }
+        ensures kind { out.new.kind ≡ pulled_kind pulled }
+        ensures few { out.old.count ≤ MAX_FIELDS → out.new.count ≤ MAX_FIELDS }
+        ensures shown { ShowsPulled pulled out.new }
     {
         match pulled {
             Pulled::Bytes(bytes) => self.keep_piece(bytes, out),
@@ -39,22 +44,21 @@ impl Handed {
 
     // Spans are taken once what they are of lies where it stays.
     fn keep_piece(&mut self, bytes: Bytes, out: &mut Reply)
-        ensures { out.new.kind ≡ 6 }
+        ensures kind { out.new.kind ≡ 6 }
+        ensures few { out.old.count ≤ MAX_FIELDS → out.new.count ≤ MAX_FIELDS }
+        ensures shown { out.new.bytes.len ≡ length bytes }
     {
-        self.piece = Some(bytes);
-        if let Some(bytes) = &self.piece {
-            tell_bytes(out, PIECE, bytes.as_slice());
-        }
-        out.kind = PIECE;
+        let bytes = self.piece.insert(bytes);
+        tell_bytes(out, PIECE, bytes.as_slice());
     }
 
     fn keep_trailers(&mut self, trailers: HeaderMap, out: &mut Reply)
-        ensures { out.new.kind ≡ 7 }
+        ensures kind { out.new.kind ≡ 7 }
+        ensures few { out.old.count ≤ MAX_FIELDS → out.new.count ≤ MAX_FIELDS }
+        ensures shown { out.new.count ≡ min (value_count trailers) MAX_FIELDS }
     {
-        self.trailers = Some(trailers);
-        if let Some(trailers) = &self.trailers {
-            tell_fields(trailers, out);
-        }
+        let trailers = self.trailers.insert(trailers);
         out.kind = TRAILERS;
+        tell_fields(trailers, out);
     }
 }

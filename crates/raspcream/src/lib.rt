@@ -11,6 +11,7 @@
 //! comes back with the machine in it, and at the end as room that may be freed.
 #![tactic(auto)]
 
+mod answer;
 mod call;
 mod client;
 mod config;
@@ -24,3 +25,4 @@ mod reply;
 mod request;
 mod server;
 mod socket;
+mod told;

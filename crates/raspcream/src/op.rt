@@ -1,5 +1,5 @@
 //! What may be asked of a connection.
-ghost use Rattle.std.specs.Prelude.{◌≡◌, IfSome};
+ghost use Rattle.std.specs.Prelude.{◌≡◌, ◌<◌, IfSome, IsNone};
 ghost use Rattle.raspcream.specs.Numbers.{number_of};
 
 /// What is asked. The header gives each a name.
@@ -61,11 +61,15 @@ pub enum Op {
 
     /// The bytes that are held.
     Held,
+
+    /// How many heads stand ahead.
+    Ahead,
 }
 
 /// The one of this number.
 pub fn op_of(number: u32) -> Option<Op>
-    ensures { IfSome result (λ op. number_of op ≡ number) }
+    ensures some { IfSome result (λ op. number_of op ≡ number) }
+    ensures none { IsNone result → 19 < number }
 {
     match number {
         0 => Some(Op::Read),
@@ -87,6 +91,7 @@ pub fn op_of(number: u32) -> Option<Op>
         16 => Some(Op::Send),
         17 => Some(Op::State),
         18 => Some(Op::Held),
+        19 => Some(Op::Ahead),
         _ => None,
     }
 }

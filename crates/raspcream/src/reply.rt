@@ -1,7 +1,13 @@
 //! What a call tells C.
-ghost use Rattle.std.specs.Prelude.{◌≡◌, ◌↔◌, IsOk};
+ghost use Rattle.std.specs.Prelude.{◌≡◌, ◌≤◌, ◌↔◌, length, min, IsOk};
+ghost use Rattle.http_map.specs.HeaderMap.{value_count};
 ghost use Rattle.h1_encoder.specs.Meaning.{size_of};
-ghost use Rattle.raspcream.specs.Numbers.{size_said};
+ghost use Rattle.h1_payload.specs.Rests.{fault_of};
+ghost use Rattle.raspcream.specs.Bits.{bit_said};
+ghost use Rattle.raspcream.specs.Calls.{IsCleared};
+ghost use Rattle.raspcream.specs.Numbers.{size_said, code_said, body_said, length_said, body_fault_said};
+ghost use Rattle.raspcream.specs.Shown.{KeepsRest};
+ghost use Rattle.raspcream.specs.declared.reply.TheConstants.{MAX_FIELDS};
 
 use crate::pointers::{Header, Span, span_of};
 use h1_connection::BodyFault;
@@ -35,7 +41,7 @@ pub struct Numbers {
     /// What may come next, a bit for each call.
     pub can: u32,
 
-    /// How many heads were read ahead, or how many requests wait for their answers.
+    /// How many requests of a client wait for their answers; of a server 0.
     pub waiting: u32,
 
     /// How many bytes wait to be written, and how many more there is room for.
@@ -65,7 +71,8 @@ pub enum Failure {
 
 /// The code that C gets.
 pub fn code_of(answer: Result<(), Failure>) -> u32
-    ensures { result ≡ 0 ↔ IsOk answer }
+    ensures ok { result ≡ 0 ↔ IsOk answer }
+    ensures value { result ≡ code_said answer }
 {
     match answer {
         Ok(()) => 0,
@@ -111,13 +118,11 @@ pub const STATE: u32 = 16;
 
 pub const HOLDS: u32 = 17;
 
+pub const AHEAD: u32 = 18;
+
 /// Nothing: no span of an earlier call is left.
 pub fn clear(out: &mut Reply)
-    ensures kind { out.new.kind ≡ 0 }
-    ensures bytes { out.new.bytes.len ≡ 0 }
-    ensures method { out.new.method.len ≡ 0 }
-    ensures target { out.new.target.len ≡ 0 }
-    ensures fields { out.new.count ≡ 0 }
+    ensures { IsCleared out.new }
 {
     out.kind = DONE;
     out.reason = 0;
@@ -139,9 +144,11 @@ pub fn clear(out: &mut Reply)
     };
 }
 
-/// The kind alone.
+/// The kind, and the reason that goes with it.
 pub fn tell(out: &mut Reply, kind: u32, reason: u32)
-    ensures { out.new.kind ≡ kind }
+    ensures kind { out.new.kind ≡ kind }
+    ensures reason { out.new.reason ≡ reason }
+    ensures count { out.new.count ≡ out.old.count }
 {
     out.kind = kind;
     out.reason = reason;
@@ -149,33 +156,62 @@ pub fn tell(out: &mut Reply, kind: u32, reason: u32)
 
 /// A number.
 pub fn tell_number(out: &mut Reply, kind: u32, number: usize)
-    ensures { out.new.number ≡ number }
+    ensures kind { out.new.kind ≡ kind }
+    ensures number { out.new.number ≡ number }
+    ensures count { out.new.count ≡ out.old.count }
 {
     out.kind = kind;
     out.number = number as u64;
 }
 
 /// Bytes.
-pub fn tell_bytes(out: &mut Reply, kind: u32, bytes: &[u8]) {
+pub fn tell_bytes(out: &mut Reply, kind: u32, bytes: &[u8])
+    ensures kind { out.new.kind ≡ kind }
+    ensures len { out.new.bytes.len ≡ length bytes.now }
+    ensures count { out.new.count ≡ out.old.count }
+{
     out.kind = kind;
     out.bytes = span_of(bytes);
 }
 
-/// Header lines, of which those of one name stand together.
-pub fn tell_fields(map: &HeaderMap, out: &mut Reply) {
-    out.count = map.len();
-    for (index, (name, value)) in map.iter().enumerate() {
-        if index < MAX_FIELDS {
-            out.fields[index] = Header {
-                name: span_of(name.as_bytes()),
-                value: span_of(value.as_bytes()),
-            };
-        }
+/// Header lines, of which those of one name stand together: as many as there is room for.
+pub fn tell_fields(map: &HeaderMap, out: &mut Reply)
+    ensures count { out.new.count ≡ min (value_count map.now) MAX_FIELDS }
+    ensures few { out.new.count ≤ MAX_FIELDS }
+    ensures rest { KeepsRest out.old out.new }
+{
+    let mut index: usize = 0;
+    for (name, value) in map.iter() {
+        let line = Header {
+            name: span_of(name.as_bytes()),
+            value: span_of(value.as_bytes()),
+        };
+        put_field(out, index, line);
+        index = index.saturating_add(1);
+    }
+    out.count = map.len().min(MAX_FIELDS);
+}
+
+// The line at this place, where there is room for it.
+fn put_field(out: &mut Reply, index: usize, line: Header)
+    ensures { KeepsRest out.old out.new }
+{
+    if index < MAX_FIELDS {
+        out.fields[index] = line;
     }
 }
 
 /// How a body ends.
-pub fn tell_body(body: BodyKind, out: &mut Reply) {
+pub fn tell_body(body: BodyKind, out: &mut Reply)
+    ensures kind { out.new.kind ≡ out.old.kind }
+    ensures body { out.new.body ≡ body_said body }
+    ensures number { out.new.number ≡ length_said body }
+    ensures method { out.new.method ≡ out.old.method }
+    ensures target { out.new.target ≡ out.old.target }
+    ensures reason { out.new.reason ≡ out.old.reason }
+    ensures minor { out.new.minor ≡ out.old.minor }
+    ensures count { out.new.count ≡ out.old.count }
+{
     out.number = 0;
     match body {
         BodyKind::None => out.body = 0,
@@ -202,7 +238,9 @@ pub fn size_of_number(number: u64) -> BodySize
 }
 
 /// What is wrong with a body, as a number.
-pub fn fault_number(fault: BodyFault) -> u32 {
+pub fn fault_number(fault: BodyFault) -> u32
+    ensures { result ≡ body_fault_said (fault_of fault) }
+{
     match fault {
         BodyFault::Corrupted => 1,
         BodyFault::Incomplete => 2,
@@ -210,6 +248,8 @@ pub fn fault_number(fault: BodyFault) -> u32 {
 }
 
 /// A bit, where it is set.
-pub fn bit(is_set: bool, place: u32) -> u32 {
+pub fn bit(is_set: bool, place: u32) -> u32
+    ensures { result ≡ bit_said is_set place }
+{
     if is_set { place } else { 0 }
 }

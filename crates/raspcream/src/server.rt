@@ -1,22 +1,20 @@
 //! A server's side.
-ghost use Rattle.std.specs.Prelude.{◌≡◌, ◌%◌, IfOk, OnOk, OnErr};
-ghost use Rattle.h1_encoder.specs.Meaning.{answer_of};
+ghost use Rattle.std.specs.Prelude.{◌≡◌, ◌≤◌, [], IfErr, OnOk, OnErr};
 ghost use Rattle.model_h1.specs.Event as on;
-ghost use Rattle.raspcream.specs.Numbers.{kind_of, expiry_kind};
-ghost use Rattle.raspcream.specs.Served.{HasRead, HasNext, HasAnswered, HasMade, HasWritten, HasTicked, HasPulled};
+ghost use Rattle.h1_connection.specs.State.{fresh_state, Stands};
+ghost use Rattle.raspcream.specs.Refused.{MayRefuse};
+ghost use Rattle.raspcream.specs.Served.{HasRead, HasNext, HasAnswered, HasMade, HasWritten, HasTicked, HasPulled, HasGiven, HasHeld, HasStated, HasCounted};
+ghost use Rattle.raspcream.specs.declared.op.Op.TheVariants as asks;
+ghost use Rattle.raspcream.specs.declared.reply.TheConstants.{MAX_FIELDS};
 
-use crate::fields::read_fields;
+use crate::answer::answer_head_of;
 use crate::handed::Handed;
-use crate::pointers::span_of;
 use crate::reply::{
-    ABANDONED, CLOSED, DONE, EXPIRED, FAULT, Failure, GIVES, HEAD, HOLDS, Numbers, PENDING, Reply,
-    STATE, TOOK, bit, size_of_number, tell, tell_body, tell_bytes, tell_fields, tell_number,
+    AHEAD, DONE, Failure, GIVES, HOLDS, Reply, STATE, TOOK, size_of_number, tell, tell_bytes,
+    tell_number,
 };
-use h1_connection::{
-    Connection, ConnectionType, End, Expiry, Frame, HeadFault, HeadItem, HeadRoom, NextKind,
-    ResponseHead, ServiceConfig, StatusCode,
-};
-use http_types::Version;
+use crate::told::{numbers_of, reason_of, tell_expiry, tell_next};
+use h1_connection::{Connection, Frame, HeadItem, HeadRoom, ServiceConfig};
 use std::alloc::Global;
 use std::marker::Model;
 
@@ -31,86 +29,6 @@ pub struct Server {
     pub frame: Option<Frame>,
 }
 
-/// Why it ends, as a number from 1 on.
-pub fn end_number(end: End) -> u32 {
-    match end {
-        End::Malformed => 1,
-        End::TooLarge => 2,
-        End::SlowRequestTimeout => 3,
-        End::KeepAliveExpired => 4,
-        End::Protocol => 5,
-        End::Body => 6,
-        End::BodyShort => 7,
-        End::Asked => 8,
-        End::BrokenBody => 9,
-        End::UnreadBody => 10,
-        End::Drained => 11,
-        End::HalfClosed => 12,
-        End::InputEnded => 13,
-    }
-}
-
-/// What a head says.
-fn tell_head(item: &HeadItem, out: &mut Reply) {
-    out.method = span_of(item.head.method.as_str().as_bytes());
-    out.target = span_of(item.target.as_slice());
-    out.minor = if item.head.version == Version::HTTP_10 {
-        0
-    } else {
-        1
-    };
-    tell_body(item.body, out);
-    tell_fields(&item.head.headers, out);
-}
-
-/// What came.
-fn tell_next(item: &HeadItem, kind: NextKind, out: &mut Reply)
-    ensures { out.new.kind ≡ kind_of kind }
-{
-    match kind {
-        NextKind::Head => {
-            tell_head(item, out);
-            out.kind = HEAD;
-        }
-        NextKind::Fault(HeadFault::Malformed) => tell(out, FAULT, 1),
-        NextKind::Fault(HeadFault::TooLarge) => tell(out, FAULT, 2),
-        NextKind::Pending => tell(out, PENDING, 0),
-        NextKind::Closed(end) => tell(out, CLOSED, end_number(end)),
-    }
-}
-
-/// What a moment brings.
-fn tell_expiry(expiry: Expiry, out: &mut Reply)
-    ensures { out.new.kind ≡ expiry_kind expiry }
-{
-    match expiry {
-        Expiry::None => tell(out, DONE, 0),
-        Expiry::Expired(end) => tell(out, EXPIRED, end_number(end)),
-        Expiry::Abandoned => tell(out, ABANDONED, 0),
-    }
-}
-
-/// A head with these lines.
-pub fn head_of(alloc: Global, arg: u32, lines: &[u8]) -> Result<ResponseHead, Failure>
-    ensures { IfOk result (λ head. (answer_of head).status ≡ arg % 1024) }
-{
-    let Ok(code) = u16::try_from(arg % 1024) else {
-        return Err(Failure::Invalid);
-    };
-    let Ok(status) = StatusCode::from_u16(code) else {
-        return Err(Failure::Invalid);
-    };
-    let mut head = ResponseHead::new(alloc, status);
-    match (arg / 1024) % 4 {
-        1 => head.set_connection_type(ConnectionType::Close),
-        2 => head.set_connection_type(ConnectionType::KeepAlive),
-        3 => head.set_connection_type(ConnectionType::Upgrade),
-        _ => {}
-    }
-    read_fields(alloc, &mut head.headers, lines)?;
-    Ok(head)
-}
-
 impl Model for Server {
     ghost use Rattle.h1_connection.specs.State.{State};
 
@@ -121,7 +39,10 @@ impl Model for Server {
 
 impl Server {
     /// A fresh one.
-    pub fn new(alloc: Global, config: ServiceConfig) -> Server {
+    pub fn new(alloc: Global, config: ServiceConfig) -> Server
+        ensures value { result ≡ fresh_state config }
+        ensures stands { Stands result [] }
+    {
         Server {
             alloc,
             connection: Connection::new(alloc, config),
@@ -136,6 +57,9 @@ impl Server {
     pub fn read(&mut self, input: &[u8], out: &mut Reply) -> Result<(), Failure>
         ensures stands { OnOk result (HasRead input.now out.new self.old self.new) }
         ensures kept { OnErr result (self.new ≡ self.old) }
+        ensures refused { IfErr result (MayRefuse asks.Read 0 0 input.now self.old) }
+        ensures quiet { OnErr result (out.new ≡ out.old) }
+        ensures few { out.old.count ≤ MAX_FIELDS → out.new.count ≤ MAX_FIELDS }
     {
         if !self.connection.can_read() {
             return Err(Failure::Misplaced);
@@ -149,8 +73,11 @@ impl Server {
 
     /// The input's end.
     pub fn eof(&mut self, out: &mut Reply) -> Result<(), Failure>
-        ensures stands { OnOk result (HasMade on.eof self.old self.new) }
+        ensures stands { OnOk result (HasMade on.eof out.new self.old self.new) }
         ensures kept { OnErr result (self.new ≡ self.old) }
+        ensures refused { IfErr result (MayRefuse asks.Eof 0 0 [] self.old) }
+        ensures quiet { OnErr result (out.new ≡ out.old) }
+        ensures few { out.old.count ≤ MAX_FIELDS → out.new.count ≤ MAX_FIELDS }
     {
         if !self.connection.can_read() {
             return Err(Failure::Misplaced);
@@ -164,6 +91,9 @@ impl Server {
     pub fn next(&mut self, out: &mut Reply) -> Result<(), Failure>
         ensures stands { OnOk result (HasNext out.new self.old self.new) }
         ensures kept { OnErr result (self.new ≡ self.old) }
+        ensures refused { IfErr result (MayRefuse asks.Next 0 0 [] self.old) }
+        ensures quiet { OnErr result (out.new ≡ out.old) }
+        ensures few { out.old.count ≤ MAX_FIELDS → out.new.count ≤ MAX_FIELDS }
     {
         if !self.connection.can_next() {
             return Err(Failure::Misplaced);
@@ -179,6 +109,9 @@ impl Server {
     pub fn pull(&mut self, out: &mut Reply) -> Result<(), Failure>
         ensures stands { OnOk result (HasPulled out.new self.old self.new) }
         ensures kept { OnErr result (self.new ≡ self.old) }
+        ensures refused { IfErr result (MayRefuse asks.Pull 0 0 [] self.old) }
+        ensures quiet { OnErr result (out.new ≡ out.old) }
+        ensures few { out.old.count ≤ MAX_FIELDS → out.new.count ≤ MAX_FIELDS }
     {
         if !self.connection.can_pull() {
             return Err(Failure::Misplaced);
@@ -192,8 +125,11 @@ impl Server {
 
     /// The rest of the body isn't wanted.
     pub fn drop_body(&mut self, out: &mut Reply) -> Result<(), Failure>
-        ensures stands { OnOk result (HasMade on.drop_body self.old self.new) }
+        ensures stands { OnOk result (HasMade on.drop_body out.new self.old self.new) }
         ensures kept { OnErr result (self.new ≡ self.old) }
+        ensures refused { IfErr result (MayRefuse asks.DropBody 0 0 [] self.old) }
+        ensures quiet { OnErr result (out.new ≡ out.old) }
+        ensures few { out.old.count ≤ MAX_FIELDS → out.new.count ≤ MAX_FIELDS }
     {
         if !self.connection.can_pull() {
             return Err(Failure::Misplaced);
@@ -205,8 +141,11 @@ impl Server {
 
     /// The client may send its body.
     pub fn go_on(&mut self, out: &mut Reply) -> Result<(), Failure>
-        ensures stands { OnOk result (HasMade on.send_continue self.old self.new) }
+        ensures stands { OnOk result (HasMade on.send_continue out.new self.old self.new) }
         ensures kept { OnErr result (self.new ≡ self.old) }
+        ensures refused { IfErr result (MayRefuse asks.Continue 0 0 [] self.old) }
+        ensures quiet { OnErr result (out.new ≡ out.old) }
+        ensures few { out.old.count ≤ MAX_FIELDS → out.new.count ≤ MAX_FIELDS }
     {
         if !self.connection.can_continue() {
             return Err(Failure::Misplaced);
@@ -226,13 +165,16 @@ impl Server {
         lines: &[u8],
         out: &mut Reply,
     ) -> Result<(), Failure>
-        ensures stands { OnOk result (HasAnswered arg size self.old self.new) }
+        ensures stands { OnOk result (HasAnswered arg size lines.now out.new self.old self.new) }
         ensures kept { OnErr result (self.new ≡ self.old) }
+        ensures refused { IfErr result (MayRefuse asks.Head arg size lines.now self.old) }
+        ensures quiet { OnErr result (out.new ≡ out.old) }
+        ensures few { out.old.count ≤ MAX_FIELDS → out.new.count ≤ MAX_FIELDS }
     {
         if !self.connection.can_answer() {
             return Err(Failure::Misplaced);
         }
-        let head = head_of(self.alloc, arg, lines)?;
+        let head = answer_head_of(self.alloc, arg, lines)?;
         let Ok(()) = self.connection.answer(&head, size_of_number(size)) else {
             return Err(Failure::NoMemory);
         };
@@ -242,8 +184,11 @@ impl Server {
 
     /// A piece of the answer's body.
     pub fn chunk(&mut self, input: &[u8], out: &mut Reply) -> Result<(), Failure>
-        ensures stands { OnOk result (HasMade (on.chunk input.now) self.old self.new) }
+        ensures stands { OnOk result (HasMade (on.chunk input.now) out.new self.old self.new) }
         ensures kept { OnErr result (self.new ≡ self.old) }
+        ensures refused { IfErr result (MayRefuse asks.Chunk 0 0 input.now self.old) }
+        ensures quiet { OnErr result (out.new ≡ out.old) }
+        ensures few { out.old.count ≤ MAX_FIELDS → out.new.count ≤ MAX_FIELDS }
     {
         if !self.connection.can_chunk() {
             return Err(Failure::Misplaced);
@@ -257,8 +202,11 @@ impl Server {
 
     /// The answer's body is whole.
     pub fn end(&mut self, out: &mut Reply) -> Result<(), Failure>
-        ensures stands { OnOk result (HasMade on.body_end self.old self.new) }
+        ensures stands { OnOk result (HasMade on.body_end out.new self.old self.new) }
         ensures kept { OnErr result (self.new ≡ self.old) }
+        ensures refused { IfErr result (MayRefuse asks.End 0 0 [] self.old) }
+        ensures quiet { OnErr result (out.new ≡ out.old) }
+        ensures few { out.old.count ≤ MAX_FIELDS → out.new.count ≤ MAX_FIELDS }
     {
         if !self.connection.can_end_answer() {
             return Err(Failure::Misplaced);
@@ -272,8 +220,11 @@ impl Server {
 
     /// The answer's body failed.
     pub fn fail(&mut self, out: &mut Reply) -> Result<(), Failure>
-        ensures stands { OnOk result (HasMade on.body_error self.old self.new) }
+        ensures stands { OnOk result (HasMade on.body_error out.new self.old self.new) }
         ensures kept { OnErr result (self.new ≡ self.old) }
+        ensures refused { IfErr result (MayRefuse asks.Fail 0 0 [] self.old) }
+        ensures quiet { OnErr result (out.new ≡ out.old) }
+        ensures few { out.old.count ≤ MAX_FIELDS → out.new.count ≤ MAX_FIELDS }
     {
         if !self.connection.can_end_answer() {
             return Err(Failure::Misplaced);
@@ -284,15 +235,23 @@ impl Server {
     }
 
     /// What is to be written next, where it lies.
-    pub fn front(&self, out: &mut Reply) -> Result<(), Failure> {
+    pub fn front(&self, out: &mut Reply) -> Result<(), Failure>
+        ensures stands { OnOk result (HasGiven out.new self.now self.now) }
+        ensures refused { IfErr result (MayRefuse asks.Front 0 0 [] self.now) }
+        ensures quiet { OnErr result (out.new ≡ out.old) }
+        ensures few { out.old.count ≤ MAX_FIELDS → out.new.count ≤ MAX_FIELDS }
+    {
         tell_bytes(out, GIVES, self.connection.stretch());
         Ok(())
     }
 
     /// So many of these bytes were written.
     pub fn advance(&mut self, count: u64, out: &mut Reply) -> Result<(), Failure>
-        ensures stands { OnOk result (HasWritten count self.old self.new) }
+        ensures stands { OnOk result (HasWritten count out.new self.old self.new) }
         ensures kept { OnErr result (self.new ≡ self.old) }
+        ensures refused { IfErr result (MayRefuse asks.Advance 0 count [] self.old) }
+        ensures quiet { OnErr result (out.new ≡ out.old) }
+        ensures few { out.old.count ≤ MAX_FIELDS → out.new.count ≤ MAX_FIELDS }
     {
         let Ok(length) = usize::try_from(count) else {
             return Err(Failure::Invalid);
@@ -312,6 +271,9 @@ impl Server {
     pub fn tick(&mut self, moment: u64, out: &mut Reply) -> Result<(), Failure>
         ensures stands { OnOk result (HasTicked moment out.new self.old self.new) }
         ensures kept { OnErr result (self.new ≡ self.old) }
+        ensures refused { IfErr result (MayRefuse asks.Tick 0 moment [] self.old) }
+        ensures quiet { OnErr result (out.new ≡ out.old) }
+        ensures few { out.old.count ≤ MAX_FIELDS → out.new.count ≤ MAX_FIELDS }
     {
         if !self.connection.can_tick(moment) {
             return Err(Failure::Misplaced);
@@ -325,8 +287,11 @@ impl Server {
 
     /// No further request.
     pub fn drain(&mut self, out: &mut Reply) -> Result<(), Failure>
-        ensures stands { OnOk result (HasMade on.drain self.old self.new) }
+        ensures stands { OnOk result (HasMade on.drain out.new self.old self.new) }
         ensures kept { OnErr result (self.new ≡ self.old) }
+        ensures refused { IfErr result (MayRefuse asks.Drain 0 0 [] self.old) }
+        ensures quiet { OnErr result (out.new ≡ out.old) }
+        ensures few { out.old.count ≤ MAX_FIELDS → out.new.count ≤ MAX_FIELDS }
     {
         if !self.connection.can_drain() {
             return Err(Failure::Misplaced);
@@ -337,7 +302,12 @@ impl Server {
     }
 
     /// The bytes that are held, from place `start` on, as many as lie together.
-    pub fn held(&self, start: u64, out: &mut Reply) -> Result<(), Failure> {
+    pub fn held(&self, start: u64, out: &mut Reply) -> Result<(), Failure>
+        ensures stands { OnOk result (HasHeld start out.new self.now self.now) }
+        ensures refused { IfErr result (MayRefuse asks.Held 0 start [] self.now) }
+        ensures quiet { OnErr result (out.new ≡ out.old) }
+        ensures few { out.old.count ≤ MAX_FIELDS → out.new.count ≤ MAX_FIELDS }
+    {
         let Ok(start) = usize::try_from(start) else {
             return Err(Failure::Invalid);
         };
@@ -346,38 +316,29 @@ impl Server {
     }
 
     /// What may come next, why it ends, and its numbers.
-    pub fn state(&self, out: &mut Reply) -> Result<(), Failure> {
-        let it = &self.connection;
+    pub fn state(&self, out: &mut Reply) -> Result<(), Failure>
+        ensures stands { OnOk result (HasStated out.new self.now self.now) }
+        ensures refused { IfErr result (MayRefuse asks.State 0 0 [] self.now) }
+        ensures quiet { OnErr result (out.new ≡ out.old) }
+        ensures few { out.old.count ≤ MAX_FIELDS → out.new.count ≤ MAX_FIELDS }
+    {
         out.kind = STATE;
-        out.reason = match it.closing() {
-            Some(end) => end_number(end),
-            None => 0,
-        };
-        out.state = Numbers {
-            can: calls_of(it),
-            waiting: it.ahead() as u32,
-            buffered: it.buffered() as u64,
-            write_room: it.write_room() as u64,
-            held: it.held() as u64,
-            read_room: it.read_room() as u64,
-            deadline: it.deadline().unwrap_or(u64::MAX),
-        };
+        out.reason = reason_of(&self.connection);
+        out.state = numbers_of(&self.connection);
         Ok(())
     }
-}
 
-// What may come next, a bit for each call.
-fn calls_of(it: &Connection) -> u32 {
-    bit(it.can_read(), 1)
-        | bit(it.can_next(), 2)
-        | bit(it.can_pull(), 4 | 8)
-        | bit(it.can_continue(), 16)
-        | bit(it.can_answer(), 32)
-        | bit(it.can_chunk(), 64)
-        | bit(it.can_end_answer(), 128)
-        | bit(it.can_write(), 256)
-        | bit(it.can_drain(), 512)
-        | bit(it.can_accept(0), 1024)
-        | bit(it.can_pull_frame(), 2048)
-        | bit(it.can_send(), 4096)
+    /// How many heads stand ahead. Each is read for it, which may want memory.
+    pub fn ahead(&self, out: &mut Reply) -> Result<(), Failure>
+        ensures stands { OnOk result (HasCounted out.new self.now self.now) }
+        ensures refused { IfErr result (MayRefuse asks.Ahead 0 0 [] self.now) }
+        ensures quiet { OnErr result (out.new ≡ out.old) }
+        ensures few { out.old.count ≤ MAX_FIELDS → out.new.count ≤ MAX_FIELDS }
+    {
+        let Ok(count) = self.connection.ahead() else {
+            return Err(Failure::NoMemory);
+        };
+        tell_number(out, AHEAD, count);
+        Ok(())
+    }
 }

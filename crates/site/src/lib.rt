@@ -4,7 +4,7 @@
 //!
 //! ```ignore
 //! let service = CountedService::new(Site::new(rt.alloc()));
-//! let mut dispatcher = Dispatcher::new(rt.alloc(), transport, service, ServiceConfig::default(), NoRecord);
+//! let mut dispatcher = Dispatcher::new(rt.alloc(), transport, service, ServiceConfig::default(), peer, NoRecord);
 //! ```
 #![tactic(auto)]
 

@@ -65,7 +65,7 @@ pub record View : Type 0 where
 abbrev pub view_of : {T U C L : Type 0} → (T → Wiring) → (U → Upgrading) → (L → Option (List Pair)) → (L → Bool) → UpgradeDispatcher T U C L → View
 view_of wiring served noted is_listening d =
     record {
-      traced = traced_of noted d.traced;
+      traced = traced_of noted is_listening d.traced;
       listening = is_listening d.traced.recorder;
       transport = wiring d.transport;
       service = served d.service;

@@ -81,7 +81,7 @@ where
         transport: T,
         service: U,
     ) -> UpgradeDispatcher<T, U, U::Call, L>
-        ensures view { view_of T.wiring U.served L.noted L.is_listening result ≡ view_begun request (traced_of L.noted traced) (L.is_listening traced.recorder) (T.wiring transport) (U.served service) }
+        ensures view { view_of T.wiring U.served L.noted L.is_listening result ≡ view_begun request (traced_of L.noted L.is_listening traced) (L.is_listening traced.recorder) (T.wiring transport) (U.served service) }
         ensures open { MayBePolled U.calling result }
     {
         UpgradeDispatcher {

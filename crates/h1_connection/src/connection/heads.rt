@@ -1,5 +1,5 @@
 // What the next head does to the parts.
-ghost use Rattle.std.specs.Prelude.{◌≡◌, ◌≢◌, ◌≤◌, ◌==◌, ℕ, List, true, false, None, Some, length, option_map, IfOk, IsOk, OnOk, OnErr};
+ghost use Rattle.std.specs.Prelude.{◌≡◌, ◌≢◌, ◌==◌, ℕ, List, true, false, None, Some, length, option_map, IfOk, IsOk, OnOk, OnErr};
 ghost use Rattle.http_framing.specs.Kinds.{kind_of};
 ghost use Rattle.h1_decoder.specs.HeadItem.{SaysHead, without_headers};
 ghost use Rattle.model_h1.specs.Request.{Head, head_is};
@@ -10,7 +10,7 @@ ghost use Rattle.model_state.specs.Kept.{rest_in, whole_rest, refusal_of, key_an
 ghost use Rattle.model_state.specs.Local.{closing_by};
 ghost use Rattle.model_h1.specs.Closing.{fault_end};
 ghost use Rattle.h1_decoder.specs.Refusal as decode;
-ghost use Rattle.h1_connection.specs.Stock.{IsHeadAhead, IsWholeOf};
+ghost use Rattle.h1_connection.specs.Stock.{IsHeadAhead};
 ghost use Rattle.h1_connection.specs.EventMeaning.{setting_of, end_of, fault_of, failing_of};
 ghost use Rattle.h1_connection.specs.Parts.{key_bytes, kept_of, IsSettled, IsSound, Steps};
 ghost use Rattle.h1_connection.specs.Given.{is_head, is_head_kind, HasOpened};
@@ -166,9 +166,7 @@ impl Parts {
         config: &ServiceConfig,
         error: ParseError,
     ) -> Result<HeadFault, NoMemory>
-        requires sound { IsSound config.now self.old }
-        requires whole { IsWholeOf self.old.input }
-        requires last { error ≢ ParseError.NoMemory → self.old.input.ahead ≤ 1 }
+        requires { IsSound config.now self.old }
         ensures cause { IfOk result (λ fault. (error ≢ ParseError.NoMemory) × (fault_of fault ≡ decode.fault_of error)) }
         ensures ok { IfOk result (λ fault. IsSettled (setting_of config.now) (refused fault (kept_of self.old)) self.new) }
         ensures marks { OnOk result (self.new.output.marks ≡ self.old.output.marks) }

@@ -1,16 +1,11 @@
 // What a connection holds of its input: the bytes that were read and not passed, and the search for a head among them.
-ghost use Rattle.std.specs.Prelude.{◌≡◌, ◌≢◌, ◌<◌, ◌≤◌, ◌-◌, ◌^◌, ◌++◌, ◌⊎◌, ◌↔◌, ℕ, Bool, List, [], Some, None, length, take, drop, slice_range, min, true, false, is_some, IsTrue, IfOk, IfErr, IsOk, OnOk, OnErr, IsErrOf};
+ghost use Rattle.std.specs.Prelude.{◌≡◌, ◌≢◌, ◌<◌, ◌≤◌, ◌-◌, ◌^◌, ◌++◌, ◌↔◌, ℕ, Bool, List, [], Some, None, length, take, drop, min, true, false, is_some, IfOk, IfErr, IsOk, OnOk, OnErr, IsErrOf};
 ghost use Rattle.std.specs.Io.KnownBytes.{Consumes, Keeps, IsAtEnd};
 ghost use Rattle.http_config.specs.Causes.{Rose, counted, IsAsked};
-ghost use Rattle.http_framing.specs.Kinds.{kind_of};
-ghost use Rattle.h1_decoder.specs.HeadItem.{SaysHead, without_headers};
+ghost use Rattle.h1_decoder.specs.HeadItem.{without_headers};
 ghost use Rattle.h1_decoder.specs.Refusal.{UnlessNoMemory, fault_of};
-ghost use Rattle.h1_decoder.specs.HeadPosition.{HasScanned};
-ghost use Rattle.model_h1.specs.HeadPiece.{IsHeadPiece};
 ghost use Rattle.model_h1.specs.FrameText.{front_frame};
 ghost use Rattle.model_h1.specs.Parse.{connection_reader};
-ghost use Rattle.model_h1.specs.Request.{Head, head_is, faulty, has_body};
-ghost use Rattle.model_h1.specs.RequestHead.{IsReading};
 ghost use Rattle.model_state.specs.Kept.{rest_in, is_nothing};
 ghost use Rattle.model_state.specs.Local.{is_partial};
 ghost use Rattle.ws_frames.specs.Codec.{IsTakenNamed};
@@ -19,59 +14,25 @@ ghost use Rattle.model_state.specs.Body.{pass_rest};
 ghost use Rattle.model_state.specs.Pull.{IsPull};
 ghost use Rattle.model_state.specs.Pull as pulls;
 ghost use Rattle.h1_payload.specs.Rests.{IsPulled, IsLight};
-ghost use Rattle.h1_connection.specs.Scan.{scan_of};
-ghost use Rattle.h1_connection.specs.Incoming.{is_coming_in, IsFound, IsWhole, IsHeadOf, IsNextHead, IsNextFault, IsAlone, IsPassedHead, IsTakenHead, IsSearched, IsCutNoted, incoming, due_in, CanGoOn, GoesOnIn, HasSearched, IsCaughtUp};
+ghost use Rattle.h1_connection.specs.Ahead.{heads_in};
+ghost use Rattle.h1_connection.specs.Incoming.{is_coming_in, IsFound, IsWhole, IsHeadOf, IsNextHead, IsNextFault, IsPassedHead};
 
 use crate::ReadFromError;
 use crate::connection::READ_SIZE;
+use crate::connection::ahead::heads_in;
 use crate::connection::filling::{make_room, read_behind};
+use crate::connection::front_head::{pass, read_due, read_found};
+use crate::connection::head_search::{Scan, Search, caught_up, continued, has_head};
 use crate::connection::reading::Frames;
 use bytes::{Bytes, BytesMut};
-use h1_decoder::{
-    FrontHead, HeadItem, HeadRoom, HeadScan, HeadScanner, cut_head_into, read_lone_head_into,
-    scan_head,
-};
+use h1_decoder::{HeadItem, HeadRoom, HeadScan, HeadScanner};
 use h1_payload::{Pulled, Rest};
 use http_types::{NoMemory, ParseError, Source};
-use std::alloc::{AllocError, Global};
+use std::alloc::Global;
 use std::marker::Model;
-use std::mem;
 use ws_frames::{Frame, ProtocolError, take_front, waits_for_frame};
 
-/// How far the search for the next head is.
-#[derive(Clone, Copy)]
-enum Search {
-    /// None is searched for: the bytes are a body's.
-    Off,
-
-    /// A head may come next, and nothing is known of the bytes. One that is whole when it is asked for is read at once.
-    Due,
-
-    /// All bytes were searched.
-    Done(Scan),
-}
-
-/// How far a search has come, and what it has found.
-#[derive(Clone, Copy)]
-struct Scan {
-    scanner: HeadScanner,
-    piece: HeadScan,
-}
-
-/// What comes of the reading of the next head.
-#[derive(Clone, Copy, Debug, PartialEq, Eq)]
-pub enum Found {
-    /// No whole head is there.
-    Nothing,
-
-    /// It was read.
-    Head,
-
-    /// It has no body, and more bytes stand behind it: it is still to be read.
-    Followed,
-}
-
-/// The bytes of the input that were taken and not passed yet, behind the heads that were read ahead.
+/// The bytes of the input that were taken and not passed yet.
 ///
 /// A head is searched for only where one may come next, so that no byte of a body is. What was found is kept, and
 /// so is how far the search has come: a head that comes byte by byte costs what it costs in one piece. Behind the first
@@ -240,7 +201,8 @@ impl Input {
 
     /// Whether a head is searched for, or will be when it is asked for.
     pub fn is_searched(&self) -> bool
-        ensures { result ≡ is_some self.now.piece }
+        ensures value { result ≡ is_some self.now.piece }
+        ensures found { IsFound self.now }
     {
         match &self.search {
             Search::Off => false,
@@ -248,22 +210,45 @@ impl Input {
         }
     }
 
-    /// Reads the next head over another one, where it is there. It shares the memory of its bytes, which stay. One without
-    /// a body behind which more bytes stand is left where `leaves` says so. Where none is there the other one stays; where
-    /// it is left, and after an error, it is as it was, but without headers.
+    /// How many heads stand one after another in front of the first `mark` bytes, at most so many. All but the last have no
+    /// body.
+    pub fn heads_in(&self, alloc: Global, mark: usize, limit: usize) -> Result<usize, NoMemory>
+        requires { mark ≤ length self.now.unread }
+        ensures value { IfOk result (λ count. count ≡ heads_in limit (take mark self.now.unread)) }
+        ensures most { IfOk result (λ count. count ≤ limit) }
+        ensures no_memory_needed { heads_in limit (take mark self.now.unread) ≡ 0 → IsOk result }
+    {
+        let _ = &self.search;
+        let cut = self.head_bytes.len();
+        if cut == 0 {
+            return heads_in(alloc, &self.bytes.as_slice()[..mark], limit);
+        }
+        if mark < cut {
+            return Ok(0);
+        }
+        if limit == 0 {
+            return Ok(0);
+        }
+        let all = joined(
+            alloc,
+            &self.head_bytes,
+            &self.bytes.as_slice()[..mark - cut],
+        )?;
+        heads_in(alloc, all.as_slice(), limit)
+    }
+
+    /// Reads the next head over another one, and says whether it is there. It shares the memory of its bytes, which stay.
+    /// Where none is there the other one stays; after an error it is as it was, but without headers.
     pub fn read_head(
         &mut self,
         alloc: Global,
         item: &mut HeadItem,
         room: &mut HeadRoom,
-        leaves: bool,
-    ) -> Result<Found, ParseError>
+    ) -> Result<bool, ParseError>
         ensures same { self.new ≡ self.old }
         ensures found { IsFound self.old }
-        ensures head { IfOk result (λ found. found ≡ Found.Head → IsNextHead self.old item.new) }
-        ensures alone { IfOk result (λ found. found ≡ Found.Head → leaves ≡ true → IsAlone self.old item.new) }
-        ensures left { IfOk result (λ found. found ≡ Found.Followed → (leaves ≡ true) × IsWhole self.old × (item.new ≡ without_headers item.old)) }
-        ensures none { IfOk result (λ found. found ≡ Found.Nothing → IsHeadOf self.old None × (item.new ≡ item.old)) }
+        ensures head { IfOk result (λ is_there. is_there ≡ true → IsNextHead self.old item.new) }
+        ensures none { IfOk result (λ is_there. is_there ≡ false → IsHeadOf self.old None × (item.new ≡ item.old)) }
         ensures fault { IfErr result (λ e. UnlessNoMemory e (IsNextFault self.old (fault_of e))) }
         ensures whole { OnErr result (IsWhole self.old) }
         ensures err { OnErr result (item.new ≡ without_headers item.old) }
@@ -276,7 +261,6 @@ impl Input {
                 &mut self.head_bytes,
                 &mut self.bytes,
                 &mut self.search,
-                leaves,
             );
         }
         read_found(
@@ -286,49 +270,7 @@ impl Input {
             &mut self.head_bytes,
             &mut self.bytes,
             &self.search,
-            leaves,
         )
-    }
-
-    /// Takes the bytes of the head that is there, and of the empty lines before it, from the others. No other is searched
-    /// for.
-    pub fn take_head(&mut self) -> Result<Bytes, NoMemory>
-        requires { IsWhole self.old }
-        ensures taken { IfOk result (λ bytes. IsTakenHead self.old bytes self.new) }
-        ensures err { OnErr result (self.new ≡ self.old) }
-    {
-        let Search::Done(scan) = caught_up(self.search, self.bytes.as_slice()) else {
-            return Err(AllocError);
-        };
-        let HeadScan::Piece(_, end) = scan.piece else {
-            return Err(AllocError);
-        };
-        cut(&mut self.head_bytes, &mut self.bytes, end)?;
-        self.search = Search::Off;
-        let head = mem::replace(&mut self.head_bytes, Bytes::new());
-        clear_empty(&mut self.bytes);
-        Ok(head)
-    }
-
-    /// Puts the bytes of a head in front of the others again. It is the next one.
-    pub fn put_back(&mut self, head: Bytes)
-        requires unsearched { self.old.piece ≡ None }
-        requires whole { (start : ℕ) × IsHeadPiece head start (length head) }
-        ensures { self.new ≡ record { unread = head ++ self.old.unread; piece = Some (scan_of (head ++ self.old.unread)) } }
-    {
-        self.search = Search::Done(Scan {
-            scanner: HeadScanner::new(),
-            piece: scan_head(head.as_slice()),
-        });
-        self.head_bytes = head;
-    }
-
-    /// Where no whole head is there, none is searched for any more.
-    pub fn stop(&mut self)
-        requires { is_coming_in self.old.piece ≡ false }
-        ensures { self.new ≡ record { unread = self.old.unread; piece = None } }
-    {
-        self.search = Search::Off;
     }
 
     /// Passes the head that is there, which a search has found or is still to find. No other is searched for.
@@ -412,223 +354,12 @@ fn behind(bytes: &[u8], start: usize) -> &[u8]
     }
 }
 
-// Reads the head with which the bytes begin, and says whether there is one. It is parsed at once, so that none of its
-// bytes is looked at twice; where that finds none, the bytes are searched, and no further ones are parsed in vain.
-fn read_due(
-    alloc: Global,
-    item: &mut HeadItem,
-    room: &mut HeadRoom,
-    head_bytes: &mut Bytes,
-    bytes: &mut BytesMut,
-    search: &mut Search,
-    leaves: bool,
-) -> Result<Found, ParseError>
-    requires empty { head_bytes.old ≡ [] }
-    requires due { search.old ≡ Search.Due }
-    ensures same { incoming head_bytes.new bytes.new.items search.new ≡ due_in bytes.old.items }
-    ensures searched { IsSearched head_bytes.new bytes.new.items search.new }
-    ensures head { IfOk result (λ found. found ≡ Found.Head → IsNextHead (due_in bytes.old.items) item.new) }
-    ensures alone { IfOk result (λ found. found ≡ Found.Head → leaves ≡ true → IsAlone (due_in bytes.old.items) item.new) }
-    ensures left { IfOk result (λ found. found ≡ Found.Followed → (leaves ≡ true) × IsWhole (due_in bytes.old.items) × (item.new ≡ without_headers item.old)) }
-    ensures none { IfOk result (λ found. found ≡ Found.Nothing → IsHeadOf (due_in bytes.old.items) None × (item.new ≡ item.old)) }
-    ensures fault { IfErr result (λ e. UnlessNoMemory e (IsNextFault (due_in bytes.old.items) (fault_of e))) }
-    ensures whole { OnErr result (IsWhole (due_in bytes.old.items)) }
-    ensures err { OnErr result (item.new ≡ without_headers item.old) }
-{
-    match cut_head_into(alloc, item, room, bytes, head_bytes, leaves) {
-        Ok(FrontHead::Read) => {
-            note_cut(head_bytes, search);
-            Ok(Found::Head)
-        }
-        Ok(FrontHead::Left) => {
-            note_cut(head_bytes, search);
-            Ok(Found::Followed)
-        }
-        Ok(FrontHead::Missing) => {
-            *search = searched(HeadScanner::new(), bytes.as_slice());
-            read_found(alloc, item, room, head_bytes, bytes, search, leaves)
-        }
-        Err(error) => {
-            note_cut(head_bytes, search);
-            Err(error)
-        }
-    }
-}
-
-// A head that was cut off unsearched is what a search finds.
-fn note_cut(head_bytes: &Bytes, search: &mut Search)
-    requires { search.old ≡ Search.Due }
-    ensures { IsCutNoted head_bytes.now search.new }
-{
-    if head_bytes.is_empty() {
-        return;
-    }
-    *search = Search::Done(Scan {
-        scanner: HeadScanner::new(),
-        piece: HeadScan::Piece(0, head_bytes.len()),
-    });
-}
-
-// Reads the head that the search has found, and says whether there is one. It is cut off first, where that isn't done yet.
-fn read_found(
-    alloc: Global,
-    item: &mut HeadItem,
-    room: &mut HeadRoom,
-    head_bytes: &mut Bytes,
-    bytes: &mut BytesMut,
-    search: &Search,
-    leaves: bool,
-) -> Result<Found, ParseError>
-    requires searched { IsSearched head_bytes.old bytes.old.items search.now }
-    requires done { search.now ≢ Search.Due }
-    ensures all { head_bytes.new ++ bytes.new.items ≡ head_bytes.old ++ bytes.old.items }
-    ensures searched { IsSearched head_bytes.new bytes.new.items search.now }
-    ensures head { IfOk result (λ found. found ≡ Found.Head → IsNextHead (incoming head_bytes.old bytes.old.items search.now) item.new) }
-    ensures alone { IfOk result (λ found. found ≡ Found.Head → leaves ≡ true → IsAlone (incoming head_bytes.old bytes.old.items search.now) item.new) }
-    ensures left { IfOk result (λ found. found ≡ Found.Followed → (leaves ≡ true) × IsWhole (incoming head_bytes.old bytes.old.items search.now) × (item.new ≡ without_headers item.old)) }
-    ensures none { IfOk result (λ found. found ≡ Found.Nothing → IsHeadOf (incoming head_bytes.old bytes.old.items search.now) None × (item.new ≡ item.old)) }
-    ensures fault { IfErr result (λ e. UnlessNoMemory e (IsNextFault (incoming head_bytes.old bytes.old.items search.now) (fault_of e))) }
-    ensures whole { OnErr result (IsWhole (incoming head_bytes.old bytes.old.items search.now)) }
-    ensures err { OnErr result (item.new ≡ without_headers item.old) }
-{
-    let Search::Done(scan) = search else {
-        return Ok(Found::Nothing);
-    };
-    let HeadScan::Piece(start, end) = scan.piece else {
-        return Ok(Found::Nothing);
-    };
-    let Ok(()) = cut(head_bytes, bytes, end) else {
-        item.head.headers.clear();
-        return Err(ParseError::NoMemory);
-    };
-    let is_followed = leaves && !bytes.is_empty();
-    match read_piece(alloc, item, room, head_bytes, start, is_followed) {
-        Ok(true) => Ok(Found::Head),
-        Ok(false) => Ok(Found::Followed),
-        Err(error) => Err(error),
-    }
-}
-
-// Cuts the first bytes off up to the head's end, where that isn't done yet. They stay in their memory.
-fn cut(head_bytes: &mut Bytes, bytes: &mut BytesMut, end: usize) -> Result<(), NoMemory>
-    requires fits { end ≤ length (head_bytes.old ++ bytes.old.items) }
-    requires whole { (head_bytes.old ≡ []) ⊎ (length head_bytes.old ≡ end) }
-    ensures head_bytes { OnOk result (head_bytes.new ≡ take end (head_bytes.old ++ bytes.old.items)) }
-    ensures all { head_bytes.new ++ bytes.new.items ≡ head_bytes.old ++ bytes.old.items }
-    ensures err { OnErr result ((head_bytes.new ≡ head_bytes.old) × (bytes.new.items ≡ bytes.old.items)) }
-{
-    if head_bytes.is_empty() {
-        *head_bytes = bytes.freeze_to(end)?;
-    }
-    Ok(())
-}
-
-// Lets the first bytes go up to the head's end, whether they were cut off or not.
-fn pass(head_bytes: &mut Bytes, bytes: &mut BytesMut, end: usize)
-    requires fits { end ≤ length (head_bytes.old ++ bytes.old.items) }
-    requires whole { (head_bytes.old ≡ []) ⊎ (length head_bytes.old ≡ end) }
-    ensures head_bytes { head_bytes.new ≡ [] }
-    ensures bytes { bytes.new.items ≡ drop end (head_bytes.old ++ bytes.old.items) }
-{
-    if head_bytes.is_empty() {
-        bytes.advance(end);
-    }
-    *head_bytes = Bytes::new();
-    clear_empty(bytes);
-}
-
-// Where no byte is left, those that come are put to the front of the memory again.
-#[inline(always)]
-fn clear_empty(bytes: &mut BytesMut)
-    ensures { bytes.new.items ≡ bytes.old.items }
-{
-    if bytes.is_empty() {
-        bytes.clear();
-    }
-}
-
-// Reads the head that begins there, and fills the rest of the bytes, unless it has no body and is followed by more.
-fn read_piece(
-    alloc: Global,
-    item: &mut HeadItem,
-    room: &mut HeadRoom,
-    bytes: &Bytes,
-    start: usize,
-    is_followed: bool,
-) -> Result<bool, ParseError>
-    requires { start ≤ length bytes.now }
-    ensures head { IfOk result (λ read. IsTrue read → (h : Head) × IsReading (slice_range bytes.now start (length bytes.now)) (head_is h) × SaysHead item.new h) }
-    ensures alone { IfOk result (λ read. IsTrue read → is_followed ≡ true → has_body (kind_of item.new.body) ≡ true) }
-    ensures left { IfOk result (λ read. read ≡ false → (is_followed ≡ true) × (item.new ≡ without_headers item.old)) }
-    ensures fault { IfErr result (λ e. UnlessNoMemory e (IsReading (slice_range bytes.now start (length bytes.now)) (faulty (fault_of e)))) }
-    ensures err { OnErr result (item.new ≡ without_headers item.old) }
-{
-    if start > 0 {
-        return read_behind_blank_lines(alloc, item, room, bytes, start, is_followed);
-    }
-    read_lone_head_into(alloc, item, room, bytes, is_followed)
-}
-
-// The same where empty lines stand before it. It is out of the way of those that nothing stands before.
-#[inline(never)]
-fn read_behind_blank_lines(
-    alloc: Global,
-    item: &mut HeadItem,
-    room: &mut HeadRoom,
-    bytes: &Bytes,
-    start: usize,
-    is_followed: bool,
-) -> Result<bool, ParseError>
-    requires { start ≤ length bytes.now }
-    ensures head { IfOk result (λ read. IsTrue read → (h : Head) × IsReading (slice_range bytes.now start (length bytes.now)) (head_is h) × SaysHead item.new h) }
-    ensures alone { IfOk result (λ read. IsTrue read → is_followed ≡ true → has_body (kind_of item.new.body) ≡ true) }
-    ensures left { IfOk result (λ read. read ≡ false → (is_followed ≡ true) × (item.new ≡ without_headers item.old)) }
-    ensures fault { IfErr result (λ e. UnlessNoMemory e (IsReading (slice_range bytes.now start (length bytes.now)) (faulty (fault_of e)))) }
-    ensures err { OnErr result (item.new ≡ without_headers item.old) }
-{
-    let Ok(head) = bytes.slice(start..bytes.len()) else {
-        item.head.headers.clear();
-        return Err(ParseError::NoMemory);
-    };
-    read_lone_head_into(alloc, item, room, &head, is_followed)
-}
-
-// Whether the bytes have a whole head, where the search is due. It is asked of no bytes alone, since a search is due only
-// where no other call depends on the answer.
+// A copy of the bytes in front and of those behind them.
 #[cold]
-fn has_head(bytes: &[u8]) -> bool
-    ensures { result ≡ is_coming_in (Some (scan_of bytes.now)) }
+fn joined(alloc: Global, front: &Bytes, behind: &[u8]) -> Result<BytesMut, NoMemory>
+    ensures { IfOk result (λ all. all.items ≡ front.now ++ behind.now) }
 {
-    scan_head(bytes) != HeadScan::Open
-}
-
-// The search behind more bytes. A head that was found stays the next, and a search that is due stays so.
-fn continued(search: Search, bytes: &[u8]) -> Search
-    requires { CanGoOn search bytes.now }
-    ensures { GoesOnIn search bytes.now result }
-{
-    match search {
-        Search::Done(scan) if scan.piece == HeadScan::Open => searched(scan.scanner, bytes),
-        _ => search,
-    }
-}
-
-// The search, done where it was due.
-fn caught_up(search: Search, bytes: &[u8]) -> Search
-    ensures { IsCaughtUp search bytes.now result }
-{
-    match search {
-        Search::Due => searched(HeadScanner::new(), bytes),
-        _ => search,
-    }
-}
-
-// The search that has seen all the bytes.
-fn searched(scanner: HeadScanner, bytes: &[u8]) -> Search
-    requires { HasScanned scanner bytes.now }
-    ensures { HasSearched bytes.now result }
-{
-    let mut scanner = scanner;
-    let piece = scanner.scan(bytes);
-    Search::Done(Scan { scanner, piece })
+    let mut all = BytesMut::copy_from_slice(alloc, front.as_slice())?;
+    all.extend_from_slice(behind)?;
+    Ok(all)
 }

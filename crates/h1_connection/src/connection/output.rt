@@ -78,9 +78,10 @@ impl Output {
         self.queue.front()
     }
 
-    /// The first bytes that lie together.
+    /// The first bytes that lie together: the first segment at least.
     pub fn stretch(&self) -> &[u8]
-        ensures { IsStretch self.now.bytes result.now }
+        ensures stretch { IsStretch self.now.bytes result.now }
+        ensures segment { length (front_of self.now) ≤ length result.now }
     {
         self.queue.stretch()
     }

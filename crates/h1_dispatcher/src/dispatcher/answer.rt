@@ -28,9 +28,9 @@ where
     pub(super) fn answer(&mut self, cx: &mut Context<'_>) -> DispatcherTurn
         requires open { MayBePolled S.calling self.old }
         requires running { self.old.ending ≡ None }
-        requires allowed { allows_answer (view_of T.wiring S.served S.calling B.gives L.noted self.old) ≡ true }
+        requires allowed { allows_answer (view_of T.wiring S.served S.calling B.gives L.noted L.is_listening self.old) ≡ true }
         requires calls { is_calling (stage_of S.calling B.gives self.old.work) ≡ true }
-        ensures says { ServeSays 3 (view_of T.wiring S.served S.calling B.gives L.noted self.old) (view_of T.wiring S.served S.calling B.gives L.noted self.new) result }
+        ensures says { ServeSays 3 (view_of T.wiring S.served S.calling B.gives L.noted L.is_listening self.old) (view_of T.wiring S.served S.calling B.gives L.noted L.is_listening self.new) result }
         ensures open { MayBePolled S.calling self.new }
         ensures registered { OnIdle result (IsArmed cx.new) }
         ensures kept { Keeps cx.old cx.new }
@@ -55,10 +55,10 @@ where
     pub(super) fn hand_on(&mut self) -> DispatcherTurn
         requires open { MayBePolled S.calling self.old }
         requires running { self.old.ending ≡ None }
-        requires allowed { allows_answer (view_of T.wiring S.served S.calling B.gives L.noted self.old) ≡ true }
+        requires allowed { allows_answer (view_of T.wiring S.served S.calling B.gives L.noted L.is_listening self.old) ≡ true }
         requires answered { is_replying (stage_of S.calling B.gives self.old.work) ≡ true }
-        ensures says { EndSays 2 (view_of T.wiring S.served S.calling B.gives L.noted self.old) (view_of T.wiring S.served S.calling B.gives L.noted self.new) result }
-        ensures handed { (trace : List sums.Step) → TracedStands (view_of T.wiring S.served S.calling B.gives L.noted self.old).traced trace → Handed (view_of T.wiring S.served S.calling B.gives L.noted self.new) result }
+        ensures says { EndSays 2 (view_of T.wiring S.served S.calling B.gives L.noted L.is_listening self.old) (view_of T.wiring S.served S.calling B.gives L.noted L.is_listening self.new) result }
+        ensures handed { (trace : List sums.Step) → TracedStands (view_of T.wiring S.served S.calling B.gives L.noted L.is_listening self.old).traced trace → Handed (view_of T.wiring S.served S.calling B.gives L.noted L.is_listening self.new) result }
         ensures open { MayBePolled S.calling self.new }
     {
         if !self.traced.connection().can_pull() {
@@ -78,8 +78,8 @@ where
         requires open { MayBePolled S.calling self.old }
         requires running { self.old.ending ≡ None }
         requires answered { is_replying (stage_of S.calling B.gives self.old.work) ≡ true }
-        ensures says { StepSays (view_of T.wiring S.served S.calling B.gives L.noted self.old) (view_of T.wiring S.served S.calling B.gives L.noted self.new) result }
-        ensures handed { allows (view_of T.wiring S.served S.calling B.gives L.noted self.old) on.drop_body ≡ false → allows_answer (view_of T.wiring S.served S.calling B.gives L.noted self.old) ≡ true → Handed (view_of T.wiring S.served S.calling B.gives L.noted self.new) result }
+        ensures says { StepSays (view_of T.wiring S.served S.calling B.gives L.noted L.is_listening self.old) (view_of T.wiring S.served S.calling B.gives L.noted L.is_listening self.new) result }
+        ensures handed { allows (view_of T.wiring S.served S.calling B.gives L.noted L.is_listening self.old) on.drop_body ≡ false → allows_answer (view_of T.wiring S.served S.calling B.gives L.noted L.is_listening self.old) ≡ true → Handed (view_of T.wiring S.served S.calling B.gives L.noted L.is_listening self.new) result }
         ensures open { MayBePolled S.calling self.new }
     {
         if self.traced.connection().can_pull() {
@@ -96,11 +96,11 @@ where
     fn put_reply(&mut self) -> DispatcherTurn
         requires open { MayBePolled S.calling self.old }
         requires running { self.old.ending ≡ None }
-        requires allowed { allows_answer (view_of T.wiring S.served S.calling B.gives L.noted self.old) ≡ true }
-        requires dropped { allows (view_of T.wiring S.served S.calling B.gives L.noted self.old) on.drop_body ≡ false }
+        requires allowed { allows_answer (view_of T.wiring S.served S.calling B.gives L.noted L.is_listening self.old) ≡ true }
+        requires dropped { allows (view_of T.wiring S.served S.calling B.gives L.noted L.is_listening self.old) on.drop_body ≡ false }
         requires answered { is_replying (stage_of S.calling B.gives self.old.work) ≡ true }
-        ensures says { EndSays 1 (view_of T.wiring S.served S.calling B.gives L.noted self.old) (view_of T.wiring S.served S.calling B.gives L.noted self.new) result }
-        ensures handed { Handed (view_of T.wiring S.served S.calling B.gives L.noted self.new) result }
+        ensures says { EndSays 1 (view_of T.wiring S.served S.calling B.gives L.noted L.is_listening self.old) (view_of T.wiring S.served S.calling B.gives L.noted L.is_listening self.new) result }
+        ensures handed { Handed (view_of T.wiring S.served S.calling B.gives L.noted L.is_listening self.new) result }
         ensures open { MayBePolled S.calling self.new }
     {
         let Work::Replying(response) = &self.work else {

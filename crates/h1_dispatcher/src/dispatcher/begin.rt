@@ -21,7 +21,7 @@ where
     /// Tells the connection the moment, and that it is to be drained.
     pub(super) fn begin(&mut self, moment: u64) -> Result<(), NoMemory>
         requires open { MayBePolled S.calling self.old }
-        ensures says { BeginSays (view_of T.wiring S.served S.calling B.gives L.noted self.old) moment (view_of T.wiring S.served S.calling B.gives L.noted self.new) result }
+        ensures says { BeginSays (view_of T.wiring S.served S.calling B.gives L.noted L.is_listening self.old) moment (view_of T.wiring S.served S.calling B.gives L.noted L.is_listening self.new) result }
         ensures open { MayBePolled S.calling self.new }
     {
         match self.tick(moment) {
@@ -32,7 +32,7 @@ where
 
     fn tick(&mut self, moment: u64) -> Result<(), NoMemory>
         requires open { MayBePolled S.calling self.old }
-        ensures says { TickSays (view_of T.wiring S.served S.calling B.gives L.noted self.old) moment (view_of T.wiring S.served S.calling B.gives L.noted self.new) result }
+        ensures says { TickSays (view_of T.wiring S.served S.calling B.gives L.noted L.is_listening self.old) moment (view_of T.wiring S.served S.calling B.gives L.noted L.is_listening self.new) result }
         ensures open { MayBePolled S.calling self.new }
     {
         if !self.traced.connection().can_tick(moment) {
@@ -54,7 +54,7 @@ where
 
     fn tell_drain(&mut self) -> Result<(), NoMemory>
         requires open { MayBePolled S.calling self.old }
-        ensures says { DrainSays (view_of T.wiring S.served S.calling B.gives L.noted self.old) (view_of T.wiring S.served S.calling B.gives L.noted self.new) result }
+        ensures says { DrainSays (view_of T.wiring S.served S.calling B.gives L.noted L.is_listening self.old) (view_of T.wiring S.served S.calling B.gives L.noted L.is_listening self.new) result }
         ensures open { MayBePolled S.calling self.new }
     {
         if !self.is_draining {

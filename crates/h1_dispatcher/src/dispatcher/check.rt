@@ -27,7 +27,7 @@ where
     /// The client of a request that is held back is told nothing, and the request doesn't go to the service. Polls are
     /// pending, and read as far as the input may be held, until who polls lets it go on or turns it away, and polls again.
     pub fn hold_expects(&mut self, on: bool)
-        ensures view { view_of T.wiring S.served S.calling B.gives L.noted self.new ≡ with_holds (view_of T.wiring S.served S.calling B.gives L.noted self.old).upgrades on (view_of T.wiring S.served S.calling B.gives L.noted self.old) }
+        ensures view { view_of T.wiring S.served S.calling B.gives L.noted L.is_listening self.new ≡ with_holds (view_of T.wiring S.served S.calling B.gives L.noted L.is_listening self.old).upgrades on (view_of T.wiring S.served S.calling B.gives L.noted L.is_listening self.old) }
         ensures open { MayBePolled S.calling self.old → MayBePolled S.calling self.new }
     {
         self.expects = on;
@@ -36,7 +36,7 @@ where
     /// The request whose client is held back, once there is room for an answer to it: it may be let on or turned away.
     #[tactic(auto, using(crate::proofs::Held::expecting_off, crate::proofs::Held::expecting_none, crate::proofs::Held::expecting_some))]
     pub fn expecting(&self) -> Option<&Request<(), ()>>
-        ensures { option_copied result ≡ expecting_in (view_of T.wiring S.served S.calling B.gives L.noted self.now) }
+        ensures { option_copied result ≡ expecting_in (view_of T.wiring S.served S.calling B.gives L.noted L.is_listening self.now) }
     {
         if !self.is_expecting() {
             return None;
@@ -53,7 +53,7 @@ where
     /// Has the client that is held back go on: it is told so, and then its request goes to the service, or is held back for
     /// its upgrade.
     pub fn let_on(&mut self)
-        ensures view { view_of T.wiring S.served S.calling B.gives L.noted self.new ≡ with_leave (view_of T.wiring S.served S.calling B.gives L.noted self.old) }
+        ensures view { view_of T.wiring S.served S.calling B.gives L.noted L.is_listening self.new ≡ with_leave (view_of T.wiring S.served S.calling B.gives L.noted L.is_listening self.old) }
         ensures open { MayBePolled S.calling self.old → MayBePolled S.calling self.new }
     {
         self.is_checking = false;
@@ -61,7 +61,7 @@ where
 
     // Whether the client of the last request is held back, and there is room for an answer.
     fn is_expecting(&self) -> bool
-        ensures { result ≡ is_expecting (view_of T.wiring S.served S.calling B.gives L.noted self.now) }
+        ensures { result ≡ is_expecting (view_of T.wiring S.served S.calling B.gives L.noted L.is_listening self.now) }
     {
         if !self.work.is_waiting() {
             return false;
@@ -74,7 +74,7 @@ where
 
     /// Whether a request is held back, for its client or since it asks for an upgrade, and may be turned away.
     pub fn can_refuse(&self) -> bool
-        ensures { result ≡ may_refuse (view_of T.wiring S.served S.calling B.gives L.noted self.now) }
+        ensures { result ≡ may_refuse (view_of T.wiring S.served S.calling B.gives L.noted L.is_listening self.now) }
     {
         if self.ending.is_some() {
             return false;
@@ -90,8 +90,8 @@ where
 
     /// Turns the request away that is held back: this is its answer, and the service isn't asked.
     pub fn refuse(&mut self, response: Response<B>)
-        requires can_refuse { may_refuse (view_of T.wiring S.served S.calling B.gives L.noted self.old) ≡ true }
-        ensures says { (request : Asking) × IsStep (view_of T.wiring S.served S.calling B.gives L.noted self.old) (turned_away request (told_response B.gives response)) (view_of T.wiring S.served S.calling B.gives L.noted self.new) }
+        requires can_refuse { may_refuse (view_of T.wiring S.served S.calling B.gives L.noted L.is_listening self.old) ≡ true }
+        ensures says { (request : Asking) × IsStep (view_of T.wiring S.served S.calling B.gives L.noted L.is_listening self.old) (turned_away request (told_response B.gives response)) (view_of T.wiring S.served S.calling B.gives L.noted L.is_listening self.new) }
         ensures open { MayBePolled S.calling self.new }
     {
         self.work = Work::Replying(response);
@@ -99,7 +99,7 @@ where
 
     // Whether the client of the last request is to be held back, and waits to be told to go on.
     pub(super) fn waits_for_leave(&self) -> bool
-        ensures { result ≡ ((view_of T.wiring S.served S.calling B.gives L.noted self.now).checking && allows (view_of T.wiring S.served S.calling B.gives L.noted self.now) on.send_continue) }
+        ensures { result ≡ ((view_of T.wiring S.served S.calling B.gives L.noted L.is_listening self.now).checking && allows (view_of T.wiring S.served S.calling B.gives L.noted L.is_listening self.now) on.send_continue) }
     {
         if !self.is_checking {
             return false;

@@ -29,11 +29,11 @@ where
     pub(super) fn feed(&mut self, cx: &mut Context<'_>) -> DispatcherTurn
         requires open { MayBePolled S.calling self.old }
         requires running { self.old.ending ≡ None }
-        requires allowed { allows_answer (view_of T.wiring S.served S.calling B.gives L.noted self.old) ≡ true }
+        requires allowed { allows_answer (view_of T.wiring S.served S.calling B.gives L.noted L.is_listening self.old) ≡ true }
         requires awaits { is_awaiting (stage_of S.calling B.gives self.old.work) ≡ true }
-        requires unheld { is_held (view_of T.wiring S.served S.calling B.gives L.noted self.old) ≡ false }
+        requires unheld { is_held (view_of T.wiring S.served S.calling B.gives L.noted L.is_listening self.old) ≡ false }
         requires armed { IsArmed cx.old }
-        ensures says { FeedingSays (view_of T.wiring S.served S.calling B.gives L.noted self.old) (view_of T.wiring S.served S.calling B.gives L.noted self.new) result }
+        ensures says { FeedingSays (view_of T.wiring S.served S.calling B.gives L.noted L.is_listening self.old) (view_of T.wiring S.served S.calling B.gives L.noted L.is_listening self.new) result }
         ensures open { MayBePolled S.calling self.new }
         ensures registered { OnIdle result (IsArmed cx.new) }
         ensures kept { Keeps cx.old cx.new }
@@ -53,11 +53,11 @@ where
     pub(super) fn feed_beside(&mut self, cx: &mut Context<'_>) -> DispatcherTurn
         requires open { MayBePolled S.calling self.old }
         requires running { self.old.ending ≡ None }
-        requires allowed { allows_answer (view_of T.wiring S.served S.calling B.gives L.noted self.old) ≡ true }
+        requires allowed { allows_answer (view_of T.wiring S.served S.calling B.gives L.noted L.is_listening self.old) ≡ true }
         requires awaits { is_awaiting (stage_of S.calling B.gives self.old.work) ≡ true }
-        requires unheld { is_held (view_of T.wiring S.served S.calling B.gives L.noted self.old) ≡ false }
-        requires armed { HasNoOutput (view_of T.wiring S.served S.calling B.gives L.noted self.old) ⊎ IsArmed cx.old }
-        ensures says { FeedingSays (view_of T.wiring S.served S.calling B.gives L.noted self.old) (view_of T.wiring S.served S.calling B.gives L.noted self.new) result }
+        requires unheld { is_held (view_of T.wiring S.served S.calling B.gives L.noted L.is_listening self.old) ≡ false }
+        requires armed { HasNoOutput (view_of T.wiring S.served S.calling B.gives L.noted L.is_listening self.old) ⊎ IsArmed cx.old }
+        ensures says { FeedingSays (view_of T.wiring S.served S.calling B.gives L.noted L.is_listening self.old) (view_of T.wiring S.served S.calling B.gives L.noted L.is_listening self.new) result }
         ensures open { MayBePolled S.calling self.new }
         ensures registered { OnIdle result (IsArmed cx.new) }
         ensures kept { Keeps cx.old cx.new }
@@ -75,10 +75,10 @@ where
     fn feed_woken(&mut self, cx: &mut Context<'_>) -> DispatcherTurn
         requires open { MayBePolled S.calling self.old }
         requires running { self.old.ending ≡ None }
-        requires allowed { allows_answer (view_of T.wiring S.served S.calling B.gives L.noted self.old) ≡ true }
+        requires allowed { allows_answer (view_of T.wiring S.served S.calling B.gives L.noted L.is_listening self.old) ≡ true }
         requires awaits { is_awaiting (stage_of S.calling B.gives self.old.work) ≡ true }
-        requires unheld { is_held (view_of T.wiring S.served S.calling B.gives L.noted self.old) ≡ false }
-        ensures says { FeedingSays (view_of T.wiring S.served S.calling B.gives L.noted self.old) (view_of T.wiring S.served S.calling B.gives L.noted self.new) result }
+        requires unheld { is_held (view_of T.wiring S.served S.calling B.gives L.noted L.is_listening self.old) ≡ false }
+        ensures says { FeedingSays (view_of T.wiring S.served S.calling B.gives L.noted L.is_listening self.old) (view_of T.wiring S.served S.calling B.gives L.noted L.is_listening self.new) result }
         ensures open { MayBePolled S.calling self.new }
         ensures registered { OnIdle result (IsArmed cx.new) }
         ensures kept { Keeps cx.old cx.new }
@@ -102,9 +102,9 @@ where
     /// Asks for more of the body, and feeds the queue with what comes; where nothing does it reads.
     fn pull(&mut self, cx: &mut Context<'_>) -> DispatcherTurn
         requires open { MayBePolled S.calling self.old }
-        requires wants { Wants (view_of T.wiring S.served S.calling B.gives L.noted self.old) }
+        requires wants { Wants (view_of T.wiring S.served S.calling B.gives L.noted L.is_listening self.old) }
         requires armed { IsArmed cx.old }
-        ensures says { FeedingSays (view_of T.wiring S.served S.calling B.gives L.noted self.old) (view_of T.wiring S.served S.calling B.gives L.noted self.new) result }
+        ensures says { FeedingSays (view_of T.wiring S.served S.calling B.gives L.noted L.is_listening self.old) (view_of T.wiring S.served S.calling B.gives L.noted L.is_listening self.new) result }
         ensures open { MayBePolled S.calling self.new }
         ensures registered { OnIdle result (IsArmed cx.new) }
         ensures kept { Keeps cx.old cx.new }

@@ -44,11 +44,11 @@ where
     /// `Parse`, `SlowRequestTimeout` and `Body` where the connection ended by such an end, and the transport is shut down: `Body`
     /// where an answer's body failed, or ended before the length that its answer had stated. `DisconnectTimeout` where the
     /// peer took too long to take what was left. `Io` where the transport failed. `NoMemory` where memory ran out, in a body too:
-    /// what was noted stays a trace, and the last step may not have been noted. From then on each poll answers `NoMemory`
-    /// and does nothing. No other.
+    /// what was noted stays a trace, and the last step may not have been noted. Where nobody listens, it runs out only for an
+    /// event that takes some. From then on each poll answers `NoMemory` and does nothing. No other.
     pub fn poll(&mut self, moment: u64, cx: &mut Context<'_>) -> Poll<Result<(), DispatchError>>
         requires open { MayBePolled S.calling self.old }
-        ensures says { PollSays (view_of T.wiring S.served S.calling B.gives L.noted self.old) (view_of T.wiring S.served S.calling B.gives L.noted self.new) cx.new moment result }
+        ensures says { PollSays (view_of T.wiring S.served S.calling B.gives L.noted L.is_listening self.old) (view_of T.wiring S.served S.calling B.gives L.noted L.is_listening self.new) cx.new moment result }
         ensures open { MayBePolled S.calling self.new }
         ensures registered { OnPending result (IsArmed cx.new) }
         ensures kept { Keeps cx.old cx.new }
@@ -64,7 +64,7 @@ where
 
     // Whether memory ran out.
     fn is_broken(&self) -> bool
-        ensures { result ≡ is_broken (view_of T.wiring S.served S.calling B.gives L.noted self.now).ending }
+        ensures { result ≡ is_broken (view_of T.wiring S.served S.calling B.gives L.noted L.is_listening self.now).ending }
     {
         match self.ending {
             None => false,
@@ -77,7 +77,7 @@ where
     /// The turns.
     fn turns(&mut self, cx: &mut Context<'_>) -> Poll<Result<(), DispatchError>>
         requires open { MayBePolled S.calling self.old }
-        ensures says { TurnsSay (view_of T.wiring S.served S.calling B.gives L.noted self.old) (view_of T.wiring S.served S.calling B.gives L.noted self.new) cx.new result }
+        ensures says { TurnsSay (view_of T.wiring S.served S.calling B.gives L.noted L.is_listening self.old) (view_of T.wiring S.served S.calling B.gives L.noted L.is_listening self.new) cx.new result }
         ensures open { MayBePolled S.calling self.new }
         ensures registered { OnPending result (IsArmed cx.new) }
         ensures kept { Keeps cx.old cx.new }

@@ -31,7 +31,7 @@ where
     pub(super) fn read_alone(&mut self, cx: &mut Context<'_>) -> DispatcherTurn
         requires open { MayBePolled S.calling self.old }
         requires running { self.old.ending ≡ None }
-        ensures says { ReadingSays (view_of T.wiring S.served S.calling B.gives L.noted self.old) (view_of T.wiring S.served S.calling B.gives L.noted self.new) result }
+        ensures says { ReadingSays (view_of T.wiring S.served S.calling B.gives L.noted L.is_listening self.old) (view_of T.wiring S.served S.calling B.gives L.noted L.is_listening self.new) result }
         ensures open { MayBePolled S.calling self.new }
         ensures registered { OnIdle result (IsArmed cx.new) }
         ensures kept { Keeps cx.old cx.new }
@@ -51,7 +51,7 @@ where
         requires open { MayBePolled S.calling self.old }
         requires running { self.old.ending ≡ None }
         requires armed { IsArmed cx.old }
-        ensures says { ReadingSays (view_of T.wiring S.served S.calling B.gives L.noted self.old) (view_of T.wiring S.served S.calling B.gives L.noted self.new) result }
+        ensures says { ReadingSays (view_of T.wiring S.served S.calling B.gives L.noted L.is_listening self.old) (view_of T.wiring S.served S.calling B.gives L.noted L.is_listening self.new) result }
         ensures open { MayBePolled S.calling self.new }
         ensures registered { OnIdle result (IsArmed cx.new) }
         ensures kept { Keeps cx.old cx.new }
@@ -71,8 +71,8 @@ where
     pub(super) fn read_beside(&mut self, cx: &mut Context<'_>) -> DispatcherTurn
         requires open { MayBePolled S.calling self.old }
         requires running { self.old.ending ≡ None }
-        requires armed { HasNoOutput (view_of T.wiring S.served S.calling B.gives L.noted self.old) ⊎ IsArmed cx.old }
-        ensures says { ReadingSays (view_of T.wiring S.served S.calling B.gives L.noted self.old) (view_of T.wiring S.served S.calling B.gives L.noted self.new) result }
+        requires armed { HasNoOutput (view_of T.wiring S.served S.calling B.gives L.noted L.is_listening self.old) ⊎ IsArmed cx.old }
+        ensures says { ReadingSays (view_of T.wiring S.served S.calling B.gives L.noted L.is_listening self.old) (view_of T.wiring S.served S.calling B.gives L.noted L.is_listening self.new) result }
         ensures open { MayBePolled S.calling self.new }
         ensures registered { OnIdle result (IsArmed cx.new) }
         ensures kept { Keeps cx.old cx.new }
@@ -92,10 +92,10 @@ where
         requires open { MayBePolled S.calling self.old }
         requires running { self.old.ending ≡ None }
         requires some { 0 < limit }
-        requires fits { limit ≤ room (view_of T.wiring S.served S.calling B.gives L.noted self.old) }
-        requires read { (bytes : List ℕ) → allows (view_of T.wiring S.served S.calling B.gives L.noted self.old) (on.read bytes) ≡ true }
-        requires eof { allows (view_of T.wiring S.served S.calling B.gives L.noted self.old) on.eof ≡ true }
-        ensures says { ReadingSays (view_of T.wiring S.served S.calling B.gives L.noted self.old) (view_of T.wiring S.served S.calling B.gives L.noted self.new) result }
+        requires fits { limit ≤ room (view_of T.wiring S.served S.calling B.gives L.noted L.is_listening self.old) }
+        requires read { (bytes : List ℕ) → allows (view_of T.wiring S.served S.calling B.gives L.noted L.is_listening self.old) (on.read bytes) ≡ true }
+        requires eof { allows (view_of T.wiring S.served S.calling B.gives L.noted L.is_listening self.old) on.eof ≡ true }
+        ensures says { ReadingSays (view_of T.wiring S.served S.calling B.gives L.noted L.is_listening self.old) (view_of T.wiring S.served S.calling B.gives L.noted L.is_listening self.new) result }
         ensures open { MayBePolled S.calling self.new }
         ensures registered { OnIdle result (IsArmed cx.new) }
         ensures kept { Keeps cx.old cx.new }
@@ -112,10 +112,10 @@ where
         requires open { MayBePolled S.calling self.old }
         requires running { self.old.ending ≡ None }
         requires some { 0 < limit }
-        requires fits { limit ≤ room (view_of T.wiring S.served S.calling B.gives L.noted self.old) }
-        requires read { (bytes : List ℕ) → allows (view_of T.wiring S.served S.calling B.gives L.noted self.old) (on.read bytes) ≡ true }
-        requires eof { allows (view_of T.wiring S.served S.calling B.gives L.noted self.old) on.eof ≡ true }
-        ensures says { ReadingSays (view_of T.wiring S.served S.calling B.gives L.noted self.old) (view_of T.wiring S.served S.calling B.gives L.noted self.new) result }
+        requires fits { limit ≤ room (view_of T.wiring S.served S.calling B.gives L.noted L.is_listening self.old) }
+        requires read { (bytes : List ℕ) → allows (view_of T.wiring S.served S.calling B.gives L.noted L.is_listening self.old) (on.read bytes) ≡ true }
+        requires eof { allows (view_of T.wiring S.served S.calling B.gives L.noted L.is_listening self.old) on.eof ≡ true }
+        ensures says { ReadingSays (view_of T.wiring S.served S.calling B.gives L.noted L.is_listening self.old) (view_of T.wiring S.served S.calling B.gives L.noted L.is_listening self.new) result }
         ensures open { MayBePolled S.calling self.new }
         ensures registered { OnIdle result (IsArmed cx.new) }
         ensures kept { Keeps cx.old cx.new }
@@ -129,10 +129,10 @@ where
         requires open { MayBePolled S.calling self.old }
         requires running { self.old.ending ≡ None }
         requires some { 0 < length buf.old }
-        requires fits { length buf.old ≤ room (view_of T.wiring S.served S.calling B.gives L.noted self.old) }
-        requires read { (bytes : List ℕ) → allows (view_of T.wiring S.served S.calling B.gives L.noted self.old) (on.read bytes) ≡ true }
-        requires eof { allows (view_of T.wiring S.served S.calling B.gives L.noted self.old) on.eof ≡ true }
-        ensures says { ReadingSays (view_of T.wiring S.served S.calling B.gives L.noted self.old) (view_of T.wiring S.served S.calling B.gives L.noted self.new) result }
+        requires fits { length buf.old ≤ room (view_of T.wiring S.served S.calling B.gives L.noted L.is_listening self.old) }
+        requires read { (bytes : List ℕ) → allows (view_of T.wiring S.served S.calling B.gives L.noted L.is_listening self.old) (on.read bytes) ≡ true }
+        requires eof { allows (view_of T.wiring S.served S.calling B.gives L.noted L.is_listening self.old) on.eof ≡ true }
+        ensures says { ReadingSays (view_of T.wiring S.served S.calling B.gives L.noted L.is_listening self.old) (view_of T.wiring S.served S.calling B.gives L.noted L.is_listening self.new) result }
         ensures open { MayBePolled S.calling self.new }
         ensures registered { OnIdle result (IsArmed cx.new) }
         ensures kept { Keeps cx.old cx.new }

@@ -31,8 +31,8 @@ where
         requires open { MayBePolled S.calling self.old }
         requires running { self.old.ending ≡ None }
         requires sends { is_sending (stage_of S.calling B.gives self.old.work) ≡ true }
-        requires armed { HasNoOutput (view_of T.wiring S.served S.calling B.gives L.noted self.old) ⊎ IsArmed cx.old }
-        ensures says { ServeSays 4 (view_of T.wiring S.served S.calling B.gives L.noted self.old) (view_of T.wiring S.served S.calling B.gives L.noted self.new) result }
+        requires armed { HasNoOutput (view_of T.wiring S.served S.calling B.gives L.noted L.is_listening self.old) ⊎ IsArmed cx.old }
+        ensures says { ServeSays 4 (view_of T.wiring S.served S.calling B.gives L.noted L.is_listening self.old) (view_of T.wiring S.served S.calling B.gives L.noted L.is_listening self.new) result }
         ensures open { MayBePolled S.calling self.new }
         ensures registered { OnIdle result (IsArmed cx.new) }
         ensures kept { Keeps cx.old cx.new }
@@ -48,8 +48,8 @@ where
         requires open { MayBePolled S.calling self.old }
         requires running { self.old.ending ≡ None }
         requires sends { is_sending (stage_of S.calling B.gives self.old.work) ≡ true }
-        requires allowed { allows_chunk (view_of T.wiring S.served S.calling B.gives L.noted self.old) ≡ true }
-        ensures says { ServeSays 4 (view_of T.wiring S.served S.calling B.gives L.noted self.old) (view_of T.wiring S.served S.calling B.gives L.noted self.new) result }
+        requires allowed { allows_chunk (view_of T.wiring S.served S.calling B.gives L.noted L.is_listening self.old) ≡ true }
+        ensures says { ServeSays 4 (view_of T.wiring S.served S.calling B.gives L.noted L.is_listening self.old) (view_of T.wiring S.served S.calling B.gives L.noted L.is_listening self.new) result }
         ensures open { MayBePolled S.calling self.new }
         ensures registered { OnIdle result (IsArmed cx.new) }
         ensures kept { Keeps cx.old cx.new }
@@ -85,9 +85,9 @@ where
 
     /// Hands on what came of the body: a chunk, or that it failed, and then the connection closes.
     fn put_piece(&mut self, piece: Result<Bytes, BodyFault>) -> Result<(), NoMemory>
-        requires allowed { allows_chunk (view_of T.wiring S.served S.calling B.gives L.noted self.old) ≡ true }
-        ensures ok { OnOk result (Sent (view_of T.wiring S.served S.calling B.gives L.noted self.old).traced (view_of T.wiring S.served S.calling B.gives L.noted self.new).traced (Ready (Some piece))) }
-        ensures err { OnErr result (Lacked (view_of T.wiring S.served S.calling B.gives L.noted self.old).traced (view_of T.wiring S.served S.calling B.gives L.noted self.new).traced (Ready (Some piece))) }
+        requires allowed { allows_chunk (view_of T.wiring S.served S.calling B.gives L.noted L.is_listening self.old) ≡ true }
+        ensures ok { OnOk result (Sent (view_of T.wiring S.served S.calling B.gives L.noted L.is_listening self.old).traced (view_of T.wiring S.served S.calling B.gives L.noted L.is_listening self.new).traced (Ready (Some piece))) }
+        ensures err { OnErr result (Lacked (view_of T.wiring S.served S.calling B.gives L.noted L.is_listening self.old).traced (view_of T.wiring S.served S.calling B.gives L.noted L.is_listening self.new).traced (Ready (Some piece))) }
         ensures stays { self.new ≡ record self.old { traced = self.new.traced } }
     {
         match piece {

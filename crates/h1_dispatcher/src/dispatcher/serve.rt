@@ -3,12 +3,12 @@ ghost use Rattle.std.specs.Prelude.{◌≡◌, ◌⊎◌, None, true, false};
 ghost use Rattle.futures.specs.Task.{IsArmed, Keeps};
 ghost use Rattle.model_h1.specs.Event as on;
 ghost use Rattle.h1_dispatcher.specs.View.{view_of, stage_of, is_busy, is_waiting, is_sending, MayBePolled, HasNoOutput, allows, allows_next, has_write_room, allows_answer, is_checked, is_held};
-ghost use Rattle.h1_dispatcher.specs.Steps.{is_bodyless};
+ghost use Rattle.h1_dispatcher.specs.Steps.{is_bodyless, asking_of};
 ghost use Rattle.h1_dispatcher.specs.Polls.{OnIdle, ServeSays, EndSays};
 
 use crate::dispatcher::{Dispatcher, DispatcherTurn, Ending, Work};
 use futures::task::{Context, Poll};
-use h1_connection::{BodyKind, NextHead};
+use h1_connection::{BodyKind, NextHead, RequestHead};
 use h1_traced::Recorder;
 use http_bodies::MessageBody;
 use http_services::Service;
@@ -16,6 +16,7 @@ use http_services::h1::Payload;
 use http_transport::Transport;
 use http_types::{DispatchError, Request, Response};
 use std::mem;
+use std::net::SocketAddr;
 
 impl<T, S, L, B> Dispatcher<T, S, S::Call, L, B>
 where
@@ -29,8 +30,8 @@ where
     pub(super) fn serve(&mut self, cx: &mut Context<'_>) -> DispatcherTurn
         requires open { MayBePolled S.calling self.old }
         requires running { self.old.ending ≡ None }
-        requires armed { HasNoOutput (view_of T.wiring S.served S.calling B.gives L.noted self.old) ⊎ IsArmed cx.old }
-        ensures says { ServeSays 4 (view_of T.wiring S.served S.calling B.gives L.noted self.old) (view_of T.wiring S.served S.calling B.gives L.noted self.new) result }
+        requires armed { HasNoOutput (view_of T.wiring S.served S.calling B.gives L.noted L.is_listening self.old) ⊎ IsArmed cx.old }
+        ensures says { ServeSays 4 (view_of T.wiring S.served S.calling B.gives L.noted L.is_listening self.old) (view_of T.wiring S.served S.calling B.gives L.noted L.is_listening self.new) result }
         ensures open { MayBePolled S.calling self.new }
         ensures registered { OnIdle result (IsArmed cx.new) }
         ensures kept { Keeps cx.old cx.new }
@@ -61,7 +62,7 @@ where
 
     /// Whether fewer bytes wait to be written than the settings' write buffer size.
     pub(super) fn has_room(&self) -> bool
-        ensures { result ≡ has_write_room (view_of T.wiring S.served S.calling B.gives L.noted self.now) }
+        ensures { result ≡ has_write_room (view_of T.wiring S.served S.calling B.gives L.noted L.is_listening self.now) }
     {
         0 < self.traced.connection().write_room()
     }
@@ -70,10 +71,10 @@ where
     fn respond(&mut self, cx: &mut Context<'_>) -> DispatcherTurn
         requires open { MayBePolled S.calling self.old }
         requires running { self.old.ending ≡ None }
-        requires allowed { allows_answer (view_of T.wiring S.served S.calling B.gives L.noted self.old) ≡ true }
-        requires armed { HasNoOutput (view_of T.wiring S.served S.calling B.gives L.noted self.old) ⊎ IsArmed cx.old }
+        requires allowed { allows_answer (view_of T.wiring S.served S.calling B.gives L.noted L.is_listening self.old) ≡ true }
+        requires armed { HasNoOutput (view_of T.wiring S.served S.calling B.gives L.noted L.is_listening self.old) ⊎ IsArmed cx.old }
         requires unsent { is_sending (stage_of S.calling B.gives self.old.work) ≡ false }
-        ensures says { ServeSays 4 (view_of T.wiring S.served S.calling B.gives L.noted self.old) (view_of T.wiring S.served S.calling B.gives L.noted self.new) result }
+        ensures says { ServeSays 4 (view_of T.wiring S.served S.calling B.gives L.noted L.is_listening self.old) (view_of T.wiring S.served S.calling B.gives L.noted L.is_listening self.new) result }
         ensures open { MayBePolled S.calling self.new }
         ensures registered { OnIdle result (IsArmed cx.new) }
         ensures kept { Keeps cx.old cx.new }
@@ -92,10 +93,10 @@ where
     fn admit(&mut self, cx: &mut Context<'_>) -> DispatcherTurn
         requires open { MayBePolled S.calling self.old }
         requires running { self.old.ending ≡ None }
-        requires allowed { allows_answer (view_of T.wiring S.served S.calling B.gives L.noted self.old) ≡ true }
+        requires allowed { allows_answer (view_of T.wiring S.served S.calling B.gives L.noted L.is_listening self.old) ≡ true }
         requires waits { is_waiting (stage_of S.calling B.gives self.old.work) ≡ true }
-        requires armed { HasNoOutput (view_of T.wiring S.served S.calling B.gives L.noted self.old) ⊎ IsArmed cx.old }
-        ensures says { ServeSays 4 (view_of T.wiring S.served S.calling B.gives L.noted self.old) (view_of T.wiring S.served S.calling B.gives L.noted self.new) result }
+        requires armed { HasNoOutput (view_of T.wiring S.served S.calling B.gives L.noted L.is_listening self.old) ⊎ IsArmed cx.old }
+        ensures says { ServeSays 4 (view_of T.wiring S.served S.calling B.gives L.noted L.is_listening self.old) (view_of T.wiring S.served S.calling B.gives L.noted L.is_listening self.new) result }
         ensures open { MayBePolled S.calling self.new }
         ensures registered { OnIdle result (IsArmed cx.new) }
         ensures kept { Keeps cx.old cx.new }
@@ -119,10 +120,10 @@ where
         requires open { MayBePolled S.calling self.old }
         requires running { self.old.ending ≡ None }
         requires waits { is_waiting (stage_of S.calling B.gives self.old.work) ≡ true }
-        requires room { has_write_room (view_of T.wiring S.served S.calling B.gives L.noted self.old) ≡ true }
-        requires told { allows (view_of T.wiring S.served S.calling B.gives L.noted self.old) on.send_continue ≡ true }
-        requires unchecked { is_checked (view_of T.wiring S.served S.calling B.gives L.noted self.old) ≡ false }
-        ensures says { EndSays 1 (view_of T.wiring S.served S.calling B.gives L.noted self.old) (view_of T.wiring S.served S.calling B.gives L.noted self.new) result }
+        requires room { has_write_room (view_of T.wiring S.served S.calling B.gives L.noted L.is_listening self.old) ≡ true }
+        requires told { allows (view_of T.wiring S.served S.calling B.gives L.noted L.is_listening self.old) on.send_continue ≡ true }
+        requires unchecked { is_checked (view_of T.wiring S.served S.calling B.gives L.noted L.is_listening self.old) ≡ false }
+        ensures says { EndSays 1 (view_of T.wiring S.served S.calling B.gives L.noted L.is_listening self.old) (view_of T.wiring S.served S.calling B.gives L.noted L.is_listening self.new) result }
         ensures open { MayBePolled S.calling self.new }
     {
         match self.traced.send_continue() {
@@ -139,10 +140,10 @@ where
         requires open { MayBePolled S.calling self.old }
         requires running { self.old.ending ≡ None }
         requires free { is_busy (stage_of S.calling B.gives self.old.work) ≡ false }
-        requires unanswered { allows_answer (view_of T.wiring S.served S.calling B.gives L.noted self.old) ≡ false }
-        requires allowed { allows_next (view_of T.wiring S.served S.calling B.gives L.noted self.old) ≡ true }
-        requires room { has_write_room (view_of T.wiring S.served S.calling B.gives L.noted self.old) ≡ true }
-        ensures says { ServeSays 4 (view_of T.wiring S.served S.calling B.gives L.noted self.old) (view_of T.wiring S.served S.calling B.gives L.noted self.new) result }
+        requires unanswered { allows_answer (view_of T.wiring S.served S.calling B.gives L.noted L.is_listening self.old) ≡ false }
+        requires allowed { allows_next (view_of T.wiring S.served S.calling B.gives L.noted L.is_listening self.old) ≡ true }
+        requires room { has_write_room (view_of T.wiring S.served S.calling B.gives L.noted L.is_listening self.old) ≡ true }
+        ensures says { ServeSays 4 (view_of T.wiring S.served S.calling B.gives L.noted L.is_listening self.old) (view_of T.wiring S.served S.calling B.gives L.noted L.is_listening self.new) result }
         ensures open { MayBePolled S.calling self.new }
         ensures registered { OnIdle result (IsArmed cx.new) }
         ensures kept { Keeps cx.old cx.new }
@@ -151,7 +152,7 @@ where
             Ok(NextHead::Head(item)) => {
                 let has_ended = is_bodyless(item.body);
                 self.queue = Payload::create(self.alloc, has_ended);
-                self.work = Work::Waiting(Request::new(item.head, ()));
+                self.work = Work::Waiting(request_from(item.head, self.peer));
                 self.is_holding = self.upgrades;
                 self.is_checking = self.expects;
                 DispatcherTurn::Counted
@@ -173,12 +174,12 @@ where
     fn ask(&mut self, cx: &mut Context<'_>) -> DispatcherTurn
         requires open { MayBePolled S.calling self.old }
         requires running { self.old.ending ≡ None }
-        requires allowed { allows_answer (view_of T.wiring S.served S.calling B.gives L.noted self.old) ≡ true }
+        requires allowed { allows_answer (view_of T.wiring S.served S.calling B.gives L.noted L.is_listening self.old) ≡ true }
         requires waits { is_waiting (stage_of S.calling B.gives self.old.work) ≡ true }
-        requires room { has_write_room (view_of T.wiring S.served S.calling B.gives L.noted self.old) ≡ true }
-        requires told { allows (view_of T.wiring S.served S.calling B.gives L.noted self.old) on.send_continue ≡ false }
-        requires unheld { is_held (view_of T.wiring S.served S.calling B.gives L.noted self.old) ≡ false }
-        ensures says { ServeSays 4 (view_of T.wiring S.served S.calling B.gives L.noted self.old) (view_of T.wiring S.served S.calling B.gives L.noted self.new) result }
+        requires room { has_write_room (view_of T.wiring S.served S.calling B.gives L.noted L.is_listening self.old) ≡ true }
+        requires told { allows (view_of T.wiring S.served S.calling B.gives L.noted L.is_listening self.old) on.send_continue ≡ false }
+        requires unheld { is_held (view_of T.wiring S.served S.calling B.gives L.noted L.is_listening self.old) ≡ false }
+        ensures says { ServeSays 4 (view_of T.wiring S.served S.calling B.gives L.noted L.is_listening self.old) (view_of T.wiring S.served S.calling B.gives L.noted L.is_listening self.new) result }
         ensures open { MayBePolled S.calling self.new }
         ensures registered { OnIdle result (IsArmed cx.new) }
         ensures kept { Keeps cx.old cx.new }
@@ -198,6 +199,15 @@ where
             }
         }
     }
+}
+
+/// The request of this head, from this address.
+fn request_from(head: RequestHead, peer: Option<SocketAddr>) -> Request<(), ()>
+    ensures { result ≡ asking_of peer head }
+{
+    let mut head = head;
+    head.peer_addr = peer;
+    Request::new(head, ())
 }
 
 /// Whether no body follows the head.

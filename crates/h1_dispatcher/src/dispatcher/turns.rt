@@ -27,7 +27,7 @@ where
     #[tactic(auto, using(crate::proofs::Runs::stays_broken))]
     pub(super) fn turn(&mut self, cx: &mut Context<'_>) -> DispatcherTurn
         requires open { MayBePolled S.calling self.old }
-        ensures says { TurnSays (view_of T.wiring S.served S.calling B.gives L.noted self.old) (view_of T.wiring S.served S.calling B.gives L.noted self.new) result }
+        ensures says { TurnSays (view_of T.wiring S.served S.calling B.gives L.noted L.is_listening self.old) (view_of T.wiring S.served S.calling B.gives L.noted L.is_listening self.new) result }
         ensures open { MayBePolled S.calling self.new }
         ensures registered { OnIdle result (IsArmed cx.new) }
         ensures kept { Keeps cx.old cx.new }
@@ -44,7 +44,7 @@ where
     fn shut(&mut self, end: End, cx: &mut Context<'_>) -> DispatcherTurn
         requires open { MayBePolled S.calling self.old }
         requires ended { self.old.ending ≡ Some (Closed end) }
-        ensures says { TurnSays (view_of T.wiring S.served S.calling B.gives L.noted self.old) (view_of T.wiring S.served S.calling B.gives L.noted self.new) result }
+        ensures says { TurnSays (view_of T.wiring S.served S.calling B.gives L.noted L.is_listening self.old) (view_of T.wiring S.served S.calling B.gives L.noted L.is_listening self.new) result }
         ensures open { MayBePolled S.calling self.new }
         ensures registered { OnIdle result (IsArmed cx.new) }
         ensures kept { Keeps cx.old cx.new }

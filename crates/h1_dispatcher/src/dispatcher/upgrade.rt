@@ -1,9 +1,10 @@
 // Requests that ask for an upgrade are held back for who polls, who accepts or declines them.
-ghost use Rattle.std.specs.Prelude.{◌≡◌, ◌&&◌, None, true, IfOk, option_map};
+ghost use Rattle.std.specs.Prelude.{◌≡◌, ◌&&◌, None, true, false, IfOk, IsOk, option_map};
 ghost use Rattle.std.specs.Option.{option_copied};
 ghost use Rattle.futures.specs.Task.{IsArmed, Keeps};
 ghost use Rattle.model_h1.specs.Event as on;
 ghost use Rattle.h1_connection.specs.EventMeaning.{failing_of};
+ghost use Rattle.h1_connection.specs.State.{TakesNoMemory};
 ghost use Rattle.h1_dispatcher.specs.View.{view_of, stage_of, waiting, is_waiting, is_held, is_offered, may_accept, with_holds, with_release, allows, allows_answer, MayBePolled};
 ghost use Rattle.h1_dispatcher.specs.Upgrades.{refusal_of, held_in, Accepts, AcceptSays};
 ghost use Rattle.h1_dispatcher.specs.Polls.{OnIdle, ServeSays};
@@ -68,7 +69,7 @@ where
     /// ([`Dispatcher::refuse`]), and polls again. It asks for an upgrade by its body, which is raw: an `Upgrade` field, or the method CONNECT (RFC 7230, section 6.7; RFC 7231,
     /// section 4.3.6).
     pub fn hold_upgrades(&mut self, on: bool)
-        ensures view { view_of T.wiring S.served S.calling B.gives L.noted self.new ≡ with_holds on (view_of T.wiring S.served S.calling B.gives L.noted self.old).expects (view_of T.wiring S.served S.calling B.gives L.noted self.old) }
+        ensures view { view_of T.wiring S.served S.calling B.gives L.noted L.is_listening self.new ≡ with_holds on (view_of T.wiring S.served S.calling B.gives L.noted L.is_listening self.old).expects (view_of T.wiring S.served S.calling B.gives L.noted L.is_listening self.old) }
         ensures open { MayBePolled S.calling self.old → MayBePolled S.calling self.new }
     {
         self.upgrades = on;
@@ -77,7 +78,7 @@ where
     /// The request that is held back, once its client doesn't wait to be told to go on.
     #[tactic(auto, using(crate::proofs::Held::held_off, crate::proofs::Held::held_none, crate::proofs::Held::held_some))]
     pub fn held(&self) -> Option<&Request<(), ()>>
-        ensures { option_copied result ≡ held_in (view_of T.wiring S.served S.calling B.gives L.noted self.now) }
+        ensures { option_copied result ≡ held_in (view_of T.wiring S.served S.calling B.gives L.noted L.is_listening self.now) }
     {
         if !self.is_offered() {
             return None;
@@ -93,7 +94,7 @@ where
 
     /// Has the request that is held back go to the service.
     pub fn decline(&mut self)
-        ensures view { view_of T.wiring S.served S.calling B.gives L.noted self.new ≡ with_release (view_of T.wiring S.served S.calling B.gives L.noted self.old) }
+        ensures view { view_of T.wiring S.served S.calling B.gives L.noted L.is_listening self.new ≡ with_release (view_of T.wiring S.served S.calling B.gives L.noted L.is_listening self.old) }
         ensures open { MayBePolled S.calling self.old → MayBePolled S.calling self.new }
     {
         self.is_holding = false;
@@ -102,7 +103,7 @@ where
     /// Whether a request is held back, and may be accepted with this limit: its client doesn't wait to be told to go on, and
     /// as many bytes as a frame with such a payload has may be held.
     pub fn can_accept(&self, limit: usize) -> bool
-        ensures { result ≡ may_accept (view_of T.wiring S.served S.calling B.gives L.noted self.now) limit }
+        ensures { result ≡ may_accept (view_of T.wiring S.served S.calling B.gives L.noted L.is_listening self.now) limit }
     {
         if !self.is_offered() {
             return false;
@@ -112,7 +113,7 @@ where
 
     // Whether a request is held back, and its client doesn't wait to be told to go on.
     fn is_offered(&self) -> bool
-        ensures { result ≡ is_offered (view_of T.wiring S.served S.calling B.gives L.noted self.now) }
+        ensures { result ≡ is_offered (view_of T.wiring S.served S.calling B.gives L.noted L.is_listening self.now) }
     {
         if self.ending.is_some() {
             return false;
@@ -130,11 +131,12 @@ where
     /// frames none has a payload of more than `limit` bytes, and hands the connection and its transport over. What waits to be
     /// written stands in the connection, with the answer that upgrades it at its end, and so does what the peer sent behind
     /// the request. A drain that was asked for since the last poll isn't told to the connection. A request that fails a check
-    /// of the upgrade is held back still. On an error all is dropped.
+    /// of the upgrade is held back still. On an error, which is that memory ran out for the upgrade, all is dropped.
     pub fn accept(self, limit: usize) -> Result<Accepting<T, S, S::Call, L, B>, NoMemory>
         requires open { MayBePolled S.calling self }
-        requires can_accept { may_accept (view_of T.wiring S.served S.calling B.gives L.noted self) limit ≡ true }
-        ensures says { IfOk result (AcceptSays T.wiring S.served S.calling B.gives L.noted (view_of T.wiring S.served S.calling B.gives L.noted self) limit) }
+        requires can_accept { may_accept (view_of T.wiring S.served S.calling B.gives L.noted L.is_listening self) limit ≡ true }
+        ensures says { IfOk result (AcceptSays T.wiring S.served S.calling B.gives L.noted L.is_listening (view_of T.wiring S.served S.calling B.gives L.noted L.is_listening self) limit) }
+        ensures no_memory_needed { (view_of T.wiring S.served S.calling B.gives L.noted L.is_listening self).traced.listens ≡ false → TakesNoMemory (view_of T.wiring S.served S.calling B.gives L.noted L.is_listening self).traced.state (on.accept limit) → IsOk result }
     {
         let mut dispatcher = self;
         match dispatcher.step_accept(limit) {
@@ -147,8 +149,9 @@ where
     // The upgrade comes to the connection.
     fn step_accept(&mut self, limit: usize) -> Result<Option<HandshakeError>, NoMemory>
         requires open { MayBePolled S.calling self.old }
-        requires can_accept { may_accept (view_of T.wiring S.served S.calling B.gives L.noted self.old) limit ≡ true }
-        ensures says { IfOk result (λ refusal. Accepts (view_of T.wiring S.served S.calling B.gives L.noted self.old) limit (view_of T.wiring S.served S.calling B.gives L.noted self.new) (option_map failing_of refusal)) }
+        requires can_accept { may_accept (view_of T.wiring S.served S.calling B.gives L.noted L.is_listening self.old) limit ≡ true }
+        ensures says { IfOk result (λ refusal. Accepts (view_of T.wiring S.served S.calling B.gives L.noted L.is_listening self.old) limit (view_of T.wiring S.served S.calling B.gives L.noted L.is_listening self.new) (option_map failing_of refusal)) }
+        ensures no_memory_needed { (view_of T.wiring S.served S.calling B.gives L.noted L.is_listening self.old).traced.listens ≡ false → TakesNoMemory (view_of T.wiring S.served S.calling B.gives L.noted L.is_listening self.old).traced.state (on.accept limit) → IsOk result }
         ensures open { MayBePolled S.calling self.new }
     {
         match self.traced.step(&Event::Accept(limit)) {
@@ -185,7 +188,7 @@ where
 
     /// Whether the request that waits is held back.
     pub(super) fn is_held(&self) -> bool
-        ensures { result ≡ is_held (view_of T.wiring S.served S.calling B.gives L.noted self.now) }
+        ensures { result ≡ is_held (view_of T.wiring S.served S.calling B.gives L.noted L.is_listening self.now) }
     {
         if !self.work.is_waiting() {
             return false;
@@ -195,7 +198,7 @@ where
 
     // Whether an upgrade of the last request is to be held back, and may be accepted.
     fn asks_upgrade(&self) -> bool
-        ensures { result ≡ ((view_of T.wiring S.served S.calling B.gives L.noted self.now).holding && allows (view_of T.wiring S.served S.calling B.gives L.noted self.now) (on.accept 0)) }
+        ensures { result ≡ ((view_of T.wiring S.served S.calling B.gives L.noted L.is_listening self.now).holding && allows (view_of T.wiring S.served S.calling B.gives L.noted L.is_listening self.now) (on.accept 0)) }
     {
         if !self.is_holding {
             return false;
@@ -208,10 +211,10 @@ where
     pub(super) fn hold(&mut self, cx: &mut Context<'_>) -> DispatcherTurn
         requires open { MayBePolled S.calling self.old }
         requires running { self.old.ending ≡ None }
-        requires allowed { allows_answer (view_of T.wiring S.served S.calling B.gives L.noted self.old) ≡ true }
+        requires allowed { allows_answer (view_of T.wiring S.served S.calling B.gives L.noted L.is_listening self.old) ≡ true }
         requires waits { is_waiting (stage_of S.calling B.gives self.old.work) ≡ true }
-        requires held { is_held (view_of T.wiring S.served S.calling B.gives L.noted self.old) ≡ true }
-        ensures says { ServeSays 4 (view_of T.wiring S.served S.calling B.gives L.noted self.old) (view_of T.wiring S.served S.calling B.gives L.noted self.new) result }
+        requires held { is_held (view_of T.wiring S.served S.calling B.gives L.noted L.is_listening self.old) ≡ true }
+        ensures says { ServeSays 4 (view_of T.wiring S.served S.calling B.gives L.noted L.is_listening self.old) (view_of T.wiring S.served S.calling B.gives L.noted L.is_listening self.new) result }
         ensures open { MayBePolled S.calling self.new }
         ensures registered { OnIdle result (IsArmed cx.new) }
         ensures kept { Keeps cx.old cx.new }
@@ -234,10 +237,10 @@ where
     fn wait_held(&mut self, cx: &mut Context<'_>) -> DispatcherTurn
         requires open { MayBePolled S.calling self.old }
         requires running { self.old.ending ≡ None }
-        requires allowed { allows_answer (view_of T.wiring S.served S.calling B.gives L.noted self.old) ≡ true }
+        requires allowed { allows_answer (view_of T.wiring S.served S.calling B.gives L.noted L.is_listening self.old) ≡ true }
         requires waits { is_waiting (stage_of S.calling B.gives self.old.work) ≡ true }
-        requires held { is_held (view_of T.wiring S.served S.calling B.gives L.noted self.old) ≡ true }
-        ensures says { ServeSays 4 (view_of T.wiring S.served S.calling B.gives L.noted self.old) (view_of T.wiring S.served S.calling B.gives L.noted self.new) result }
+        requires held { is_held (view_of T.wiring S.served S.calling B.gives L.noted L.is_listening self.old) ≡ true }
+        ensures says { ServeSays 4 (view_of T.wiring S.served S.calling B.gives L.noted L.is_listening self.old) (view_of T.wiring S.served S.calling B.gives L.noted L.is_listening self.new) result }
         ensures open { MayBePolled S.calling self.new }
         ensures registered { OnIdle result (IsArmed cx.new) }
         ensures kept { Keeps cx.old cx.new }

@@ -30,7 +30,7 @@ where
     pub(super) fn write(&mut self, cx: &mut Context<'_>) -> DispatcherTurn
         requires open { MayBePolled S.calling self.old }
         requires running { self.old.ending ≡ None }
-        ensures says { TurnSays (view_of T.wiring S.served S.calling B.gives L.noted self.old) (view_of T.wiring S.served S.calling B.gives L.noted self.new) result }
+        ensures says { TurnSays (view_of T.wiring S.served S.calling B.gives L.noted L.is_listening self.old) (view_of T.wiring S.served S.calling B.gives L.noted L.is_listening self.new) result }
         ensures open { MayBePolled S.calling self.new }
         ensures registered { OnIdle result (IsArmed cx.new) }
         ensures kept { Keeps cx.old cx.new }
@@ -48,9 +48,9 @@ where
     fn give(&mut self, cx: &mut Context<'_>) -> DispatcherTurn
         requires open { MayBePolled S.calling self.old }
         requires running { self.old.ending ≡ None }
-        requires some { 0 < length (buffered (view_of T.wiring S.served S.calling B.gives L.noted self.old)) }
-        requires allowed { (count : ℕ) → allows (view_of T.wiring S.served S.calling B.gives L.noted self.old) (on.write count) ≡ true }
-        ensures says { TurnSays (view_of T.wiring S.served S.calling B.gives L.noted self.old) (view_of T.wiring S.served S.calling B.gives L.noted self.new) result }
+        requires some { 0 < length (buffered (view_of T.wiring S.served S.calling B.gives L.noted L.is_listening self.old)) }
+        requires allowed { (count : ℕ) → allows (view_of T.wiring S.served S.calling B.gives L.noted L.is_listening self.old) (on.write count) ≡ true }
+        ensures says { TurnSays (view_of T.wiring S.served S.calling B.gives L.noted L.is_listening self.old) (view_of T.wiring S.served S.calling B.gives L.noted L.is_listening self.new) result }
         ensures open { MayBePolled S.calling self.new }
         ensures registered { OnIdle result (IsArmed cx.new) }
         ensures kept { Keeps cx.old cx.new }
@@ -75,8 +75,8 @@ where
     fn go_on(&mut self, cx: &mut Context<'_>) -> DispatcherTurn
         requires open { MayBePolled S.calling self.old }
         requires running { self.old.ending ≡ None }
-        requires armed { HasNoOutput (view_of T.wiring S.served S.calling B.gives L.noted self.old) ⊎ IsArmed cx.old }
-        ensures says { AfterSays (view_of T.wiring S.served S.calling B.gives L.noted self.old) (view_of T.wiring S.served S.calling B.gives L.noted self.new) result }
+        requires armed { HasNoOutput (view_of T.wiring S.served S.calling B.gives L.noted L.is_listening self.old) ⊎ IsArmed cx.old }
+        ensures says { AfterSays (view_of T.wiring S.served S.calling B.gives L.noted L.is_listening self.old) (view_of T.wiring S.served S.calling B.gives L.noted L.is_listening self.new) result }
         ensures open { MayBePolled S.calling self.new }
         ensures registered { OnIdle result (IsArmed cx.new) }
         ensures kept { Keeps cx.old cx.new }
@@ -91,9 +91,9 @@ where
     fn close(&mut self, end: End, cx: &mut Context<'_>) -> DispatcherTurn
         requires open { MayBePolled S.calling self.old }
         requires running { self.old.ending ≡ None }
-        requires closing { closing_by (setting_of (view_of T.wiring S.served S.calling B.gives L.noted self.old).traced.state.settings) (view_of T.wiring S.served S.calling B.gives L.noted self.old).traced.state.kept ≡ Some (end_of end) }
-        requires armed { HasNoOutput (view_of T.wiring S.served S.calling B.gives L.noted self.old) ⊎ IsArmed cx.old }
-        ensures says { AfterSays (view_of T.wiring S.served S.calling B.gives L.noted self.old) (view_of T.wiring S.served S.calling B.gives L.noted self.new) result }
+        requires closing { closing_by (setting_of (view_of T.wiring S.served S.calling B.gives L.noted L.is_listening self.old).traced.state.settings) (view_of T.wiring S.served S.calling B.gives L.noted L.is_listening self.old).traced.state.kept ≡ Some (end_of end) }
+        requires armed { HasNoOutput (view_of T.wiring S.served S.calling B.gives L.noted L.is_listening self.old) ⊎ IsArmed cx.old }
+        ensures says { AfterSays (view_of T.wiring S.served S.calling B.gives L.noted L.is_listening self.old) (view_of T.wiring S.served S.calling B.gives L.noted L.is_listening self.new) result }
         ensures open { MayBePolled S.calling self.new }
         ensures registered { OnIdle result (IsArmed cx.new) }
         ensures kept { Keeps cx.old cx.new }
@@ -111,9 +111,9 @@ where
     fn tell_end(&mut self, end: End) -> DispatcherTurn
         requires open { MayBePolled S.calling self.old }
         requires running { self.old.ending ≡ None }
-        requires closing { closing_by (setting_of (view_of T.wiring S.served S.calling B.gives L.noted self.old).traced.state.settings) (view_of T.wiring S.served S.calling B.gives L.noted self.old).traced.state.kept ≡ Some (end_of end) }
-        requires allowed { allows_next (view_of T.wiring S.served S.calling B.gives L.noted self.old) ≡ true }
-        ensures says { EndSays 1 (view_of T.wiring S.served S.calling B.gives L.noted self.old) (view_of T.wiring S.served S.calling B.gives L.noted self.new) result }
+        requires closing { closing_by (setting_of (view_of T.wiring S.served S.calling B.gives L.noted L.is_listening self.old).traced.state.settings) (view_of T.wiring S.served S.calling B.gives L.noted L.is_listening self.old).traced.state.kept ≡ Some (end_of end) }
+        requires allowed { allows_next (view_of T.wiring S.served S.calling B.gives L.noted L.is_listening self.old) ≡ true }
+        ensures says { EndSays 1 (view_of T.wiring S.served S.calling B.gives L.noted L.is_listening self.old) (view_of T.wiring S.served S.calling B.gives L.noted L.is_listening self.new) result }
         ensures open { MayBePolled S.calling self.new }
     {
         match self.traced.next() {

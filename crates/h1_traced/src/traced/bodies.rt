@@ -16,9 +16,9 @@ impl<L: Recorder> Traced<L> {
     /// Takes what comes next of the open request's body.
     pub fn pull(&mut self) -> Result<Pulled, NoMemory>
         requires can_pull { IsAllowed self.old.connection on.drop_body }
-        ensures stands { IfOk result (λ pulled. TracedSteps (traced_of L.noted self.old) on.pull (SaysPulled pulled) (traced_of L.noted self.new)) }
+        ensures stands { IfOk result (λ pulled. TracedSteps (traced_of L.noted L.is_listening self.old) on.pull (SaysPulled pulled) (traced_of L.noted L.is_listening self.new)) }
         ensures settings { self.new.connection.settings ≡ self.old.connection.settings }
-        ensures err { OnErr result (TracedFails (traced_of L.noted self.old) on.pull (traced_of L.noted self.new)) }
+        ensures err { OnErr result (TracedFails (traced_of L.noted L.is_listening self.old) on.pull (traced_of L.noted L.is_listening self.new)) }
         ensures listening { L.is_listening self.new.recorder ≡ L.is_listening self.old.recorder }
         ensures no_memory_needed { L.is_listening self.old.recorder ≡ false → IsLightPull self.old.connection.kept → IsOk result }
     {
@@ -29,9 +29,9 @@ impl<L: Recorder> Traced<L> {
     /// The rest of the open request's body isn't wanted.
     pub fn drop_body(&mut self) -> Result<(), NoMemory>
         requires can_pull { IsAllowed self.old.connection on.drop_body }
-        ensures stands { OnOk result (TracedSteps (traced_of L.noted self.old) on.drop_body (Is on.done) (traced_of L.noted self.new)) }
+        ensures stands { OnOk result (TracedSteps (traced_of L.noted L.is_listening self.old) on.drop_body (Is on.done) (traced_of L.noted L.is_listening self.new)) }
         ensures settings { self.new.connection.settings ≡ self.old.connection.settings }
-        ensures err { OnErr result (TracedFails (traced_of L.noted self.old) on.drop_body (traced_of L.noted self.new)) }
+        ensures err { OnErr result (TracedFails (traced_of L.noted L.is_listening self.old) on.drop_body (traced_of L.noted L.is_listening self.new)) }
         ensures listening { L.is_listening self.new.recorder ≡ L.is_listening self.old.recorder }
         ensures no_memory_needed { L.is_listening self.old.recorder ≡ false → IsOk result }
     {
@@ -42,9 +42,9 @@ impl<L: Recorder> Traced<L> {
     /// Tells the client of the open request to go on, which waits for leave to send its body (RFC 7231, section 5.1.1).
     pub fn send_continue(&mut self) -> Result<(), NoMemory>
         requires can_continue { IsAllowed self.old.connection on.send_continue }
-        ensures stands { OnOk result (TracedSteps (traced_of L.noted self.old) on.send_continue (Is on.done) (traced_of L.noted self.new)) }
+        ensures stands { OnOk result (TracedSteps (traced_of L.noted L.is_listening self.old) on.send_continue (Is on.done) (traced_of L.noted L.is_listening self.new)) }
         ensures settings { self.new.connection.settings ≡ self.old.connection.settings }
-        ensures err { OnErr result (TracedFails (traced_of L.noted self.old) on.send_continue (traced_of L.noted self.new)) }
+        ensures err { OnErr result (TracedFails (traced_of L.noted L.is_listening self.old) on.send_continue (traced_of L.noted L.is_listening self.new)) }
         ensures listening { L.is_listening self.new.recorder ≡ L.is_listening self.old.recorder }
     {
         self.connection.send_continue()?;

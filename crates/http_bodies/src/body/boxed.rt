@@ -1,5 +1,5 @@
 //! A body of any kind.
-ghost use Rattle.std.specs.Prelude.{◌≡◌, [], Ok, Err, IfOk, IfErr};
+ghost use Rattle.std.specs.Prelude.{◌≡◌, ◌⊎◌, [], true, Ok, Err, IfOk, IfErr, OnErr};
 ghost use Rattle.http_bodies.specs.declared.body.boxed.AnyBody.TheVariants as any;
 
 use crate::{BodyFault, ErasedBody, MessageBody};
@@ -57,9 +57,12 @@ impl<E> fmt::Debug for AnyBody<E> {
 }
 
 impl<E: ErasedBody> MessageBody for AnyBody<E> {
-    ghost use Rattle.http_bodies.specs.Boxed.{any_gives};
+    ghost use Rattle.http_bodies.specs.Boxed.{any_gives, any_hand, tried};
+    ghost use Rattle.http_bodies.specs.Whole.{AreAll, whole};
 
     ghost gives = { any_gives E.erased };
+
+    ghost at_hand = { any_hand };
 
     fn size(&self) -> BodySize {
         match self {
@@ -81,7 +84,14 @@ impl<E: ErasedBody> MessageBody for AnyBody<E> {
         }
     }
 
-    fn try_into_bytes(self, _alloc: Global) -> Result<Bytes, Self> {
+    fn try_into_bytes(self, _alloc: Global) -> Result<Bytes, Self>
+        ensures tried { result ≡ tried self }
+        ensures given { IfOk result (λ bytes. any_hand self ≡ Some bytes) }
+        ensures all { IfOk result (λ bytes. AreAll (whole [] (any_gives E.erased self).coming) bytes) }
+        ensures same { IfErr result (λ body. any_gives E.erased body ≡ any_gives E.erased self) }
+        ensures same_hand { IfErr result (λ body. any_hand body ≡ any_hand self) }
+        ensures cause { OnErr result ((any_hand self ≡ None) ⊎ ((any_gives E.erased self).takes_memory ≡ true)) }
+    {
         match self {
             AnyBody::None => Ok(Bytes::new()),
             AnyBody::Bytes(bytes) => Ok(bytes),

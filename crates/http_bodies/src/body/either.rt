@@ -1,5 +1,5 @@
 //! One of two bodies.
-ghost use Rattle.std.specs.Prelude.{◌≡◌};
+ghost use Rattle.std.specs.Prelude.{◌≡◌, ◌⊎◌, [], true, IfOk, IfErr, OnErr};
 ghost use Rattle.http_bodies.specs.declared.body.either.EitherBody.TheVariants.{Left, Right};
 
 use crate::{BodyFault, BoxBody, MessageBody};
@@ -47,9 +47,12 @@ impl<L, R> EitherBody<L, R> {
 }
 
 impl<L: MessageBody, R: MessageBody> MessageBody for EitherBody<L, R> {
-    ghost use Rattle.http_bodies.specs.Sides.{either};
+    ghost use Rattle.http_bodies.specs.Sides.{either, either_hand, IsOfSide};
+    ghost use Rattle.http_bodies.specs.Whole.{AreAll, whole};
 
     ghost gives = { either L.gives R.gives };
+
+    ghost at_hand = { either_hand L.at_hand R.at_hand };
 
     fn size(&self) -> BodySize {
         match self {
@@ -69,7 +72,14 @@ impl<L: MessageBody, R: MessageBody> MessageBody for EitherBody<L, R> {
         }
     }
 
-    fn try_into_bytes(self, alloc: Global) -> Result<Bytes, Self> {
+    fn try_into_bytes(self, alloc: Global) -> Result<Bytes, Self>
+        ensures given { IfOk result (λ bytes. either_hand L.at_hand R.at_hand self ≡ Some bytes) }
+        ensures all { IfOk result (λ bytes. AreAll (whole [] (either L.gives R.gives self).coming) bytes) }
+        ensures same { IfErr result (λ body. either L.gives R.gives body ≡ either L.gives R.gives self) }
+        ensures same_hand { IfErr result (λ body. either_hand L.at_hand R.at_hand body ≡ either_hand L.at_hand R.at_hand self) }
+        ensures side { IfErr result (λ body. IsOfSide self body) }
+        ensures cause { OnErr result ((either_hand L.at_hand R.at_hand self ≡ None) ⊎ ((either L.gives R.gives self).takes_memory ≡ true)) }
+    {
         match self {
             EitherBody::Left { body } => match body.try_into_bytes(alloc) {
                 Ok(bytes) => Ok(bytes),

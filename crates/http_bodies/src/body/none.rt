@@ -26,12 +26,14 @@ impl Default for None {
 }
 
 impl MessageBody for None {
-    ghost use Rattle.std.specs.Prelude.{Ok, []};
+    ghost use Rattle.std.specs.Prelude.{Ok, Some, []};
     ghost use Rattle.std.specs.Prelude as std;
     ghost use Rattle.futures.specs.Task.{Keeps};
     ghost use Rattle.futures.specs.declared.task.Poll.TheVariants.{Ready};
 
     ghost gives = { λ _. holds_none };
+
+    ghost at_hand = { λ _. Some [] };
 
     fn size(&self) -> BodySize {
         BodySize::None

@@ -1,4 +1,4 @@
-//! Heads that are read ahead of the one that was asked for.
+//! Heads that stand ahead of the one that was handed out last.
 use h1_connection::{Connection, HeadItem, HeadRoom, NextKind};
 use http_framing::BodySize;
 use http_types::{NoMemory, ResponseHead, ServiceConfigBuilder, StatusCode};
@@ -32,8 +32,8 @@ fn reply(connection: &mut Connection, answer: &ResponseHead) -> Result<(), NoMem
     Ok(())
 }
 
-// Asks for the next head and answers it, where it is one: how many heads are read ahead behind it. None where there is no
-// head, and no fault either.
+// Asks for the next head and answers it, where it is one: how many heads stand ahead then. None where there is no head, and
+// no fault either.
 fn count_next(
     connection: &mut Connection,
     item: &mut HeadItem,
@@ -41,7 +41,7 @@ fn count_next(
 ) -> Result<Option<usize>, NoMemory> {
     write(connection)?;
     let next = ask(connection, item)?;
-    let ahead = connection.ahead();
+    let ahead = connection.ahead()?;
     match next {
         Some(NextKind::Head) => reply(connection, answer)?,
         Some(NextKind::Fault(_)) => {}
@@ -50,7 +50,7 @@ fn count_next(
     Ok(Some(ahead))
 }
 
-// Notes for each head that is there how many are read ahead behind it.
+// Notes for each head that is there how many stand ahead behind it.
 fn count_all(
     connection: &mut Connection,
     item: &mut HeadItem,
@@ -66,16 +66,22 @@ fn count_all(
     Ok(())
 }
 
-// A connection that has read all of this at once.
-fn with_text(alloc: Global, text: &[u8]) -> Result<Connection, NoMemory> {
-    let mut connection = Connection::new(alloc, ServiceConfigBuilder::new().build());
+// Reads all of this at once.
+fn read(connection: &mut Connection, text: &[u8]) -> Result<(), NoMemory> {
     if connection.can_read() {
         let _ = connection.read(text)?;
     }
+    Ok(())
+}
+
+// A connection that has read all of this at once.
+fn with_text(alloc: Global, text: &[u8]) -> Result<Connection, NoMemory> {
+    let mut connection = Connection::new(alloc, ServiceConfigBuilder::new().build());
+    read(&mut connection, text)?;
     Ok(connection)
 }
 
-// How many heads are read ahead behind each call for the next head.
+// How many heads stand ahead behind each call for the next head.
 fn counts_of(alloc: Global, text: &[u8]) -> Result<Vec<usize>, NoMemory> {
     let mut connection = with_text(alloc, text)?;
     let mut item = HeadItem::new(alloc);
@@ -108,17 +114,40 @@ fn is_counted(
 }
 
 #[test]
-fn a_head_that_is_refused_is_read_ahead_and_is_the_last(rt: HostRuntime) -> Result<(), Fail> {
+fn a_head_that_is_refused_is_counted_and_is_the_last(rt: HostRuntime) -> Result<(), Fail> {
     let refused = b"GET\r\n\r\nGET / HTTP/1.1\r\n\r\n";
     assert!(rt; is_counted(rt.alloc(), 2, refused, &[2, 1, 0])?);
     Ok(())
 }
 
 #[test]
-fn at_most_sixteen_heads_are_read_ahead(rt: HostRuntime) -> Result<(), Fail> {
+fn at_most_sixteen_heads_are_counted(rt: HostRuntime) -> Result<(), Fail> {
     let wanted = [
         16, 15, 14, 13, 12, 11, 10, 9, 8, 7, 6, 5, 4, 3, 2, 1, 0, 2, 1, 0,
     ];
     assert!(rt; is_counted(rt.alloc(), 20, b"", &wanted)?);
+    Ok(())
+}
+
+#[test]
+fn a_head_with_a_body_is_counted_and_is_the_last(rt: HostRuntime) -> Result<(), Fail> {
+    let rest = b"\r\nPOST / HTTP/1.1\r\ncontent-length: 1\r\n\r\naGET / HTTP/1.1\r\n\r\nGET / HT";
+    assert!(rt; is_counted(rt.alloc(), 2, rest, &[2, 1, 0, 0])?);
+    Ok(())
+}
+
+#[test]
+fn heads_that_come_later_are_counted_behind_those(rt: HostRuntime) -> Result<(), Fail> {
+    let mut connection = with_text(rt.alloc(), &requests(rt.alloc(), 2, b"")?)?;
+    let mut item = HeadItem::new(rt.alloc());
+    let answer = ResponseHead::new(rt.alloc(), StatusCode::OK);
+    let mut counts = Vec::new(rt.alloc());
+    assert!(rt; connection.ahead()? == 0);
+    assert!(rt; count_next(&mut connection, &mut item, &answer)? == Some(1));
+    read(&mut connection, &requests(rt.alloc(), 3, b"GET / HT")?)?;
+    assert!(rt; connection.ahead()? == 1);
+    count_all(&mut connection, &mut item, &answer, &mut counts)?;
+    let wanted: [usize; 4] = [0, 2, 1, 0];
+    assert!(rt; counts.as_slice() == wanted.as_slice());
     Ok(())
 }

@@ -14,6 +14,7 @@ use futures::task::{Doorbell, Poll, Solo};
 use h1_dispatcher::{Accepting, Dispatcher, Upgraded};
 use h1_traced::Recorder;
 use http_services::CountedService;
+use http_transport::Transport;
 use http_types::{DispatchError, StatusCode};
 use std::alloc::{AllocError, AllocGlobal, Global};
 use std::io;
@@ -46,7 +47,9 @@ pub fn play<R: RandomSource + AllocGlobal, L: Recorder>(
 ) -> io::Result<()> {
     let transport = setup.transport(rt.alloc(), cut)?;
     let service = setup.service(rt.alloc())?;
-    let served = Dispatcher::new(rt.alloc(), transport, service, setup.config(), recorder);
+    let config = setup.config();
+    let peer = transport.peer_addr();
+    let served = Dispatcher::new(rt.alloc(), transport, service, config, peer, recorder);
     play_on(rt, served, steps, report)
 }
 

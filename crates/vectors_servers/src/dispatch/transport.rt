@@ -2,6 +2,7 @@
 use futures::task::{Context, Poll};
 use http_config::Failed;
 use http_transport::{MemTransport, Transport};
+use std::net::SocketAddr;
 
 /// A transport in memory. Its shutdown is pending so many times, and then that of the transport below.
 #[derive(Drop)]
@@ -35,9 +36,16 @@ impl Lingering {
 }
 
 impl Transport for Lingering {
+    ghost use Rattle.std.specs.Prelude.{None};
     ghost use Rattle.http_transport.specs.MemTold.{known};
 
     ghost wiring = { λ w. record (known w.transport) { shut_waits = w.waits } };
+
+    ghost peer = { λ _. None };
+
+    fn peer_addr(&self) -> Option<SocketAddr> {
+        None
+    }
 
     fn poll_read(&mut self, buf: &mut [u8], cx: &mut Context<'_>) -> Poll<Result<usize, Failed>> {
         self.transport.poll_read(buf, cx)

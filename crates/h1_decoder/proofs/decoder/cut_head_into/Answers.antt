@@ -1,6 +1,6 @@
 use Rattle.std.proofs.Common.{◌≡◌, take, sym, ap, ◌∙◌}
 use Rattle.h1_decoder.proofs.FrontLemmas.{cut_piece}
-use Rattle.h1_decoder.proofs.ReadingLemmas.{values_whole, says_read, causes_whole, faults, alone_of}
+use Rattle.h1_decoder.proofs.ReadingLemmas.{values_whole, says_over, causes_whole, faults}
 use Rattle.h1_decoder.proofs.decoder.cut_head_into.Goals as goal
 
 pub read_parts_over-requires-clause-values : goal.read_parts_over-requires-clause-values
@@ -9,15 +9,15 @@ read_parts_over-requires-clause-values c =
     let cut : take n c.as_slice.result.now ≡ c.in-Ok.head = ap (take n) c.as_slice.ensures ∙ sym c.in-Ok.ensures.front in
     values_whole c.in-Ok.head (take n c.as_slice.result.now) c.parse_front.new.fields c.in-Some.spans cut c.in-Some.ensures.found
 
-pub returns-in-Ok-true-clause-head : goal.returns-in-Ok-true-clause-head
-returns-in-Ok-true-clause-head c =
+pub returns-in-Ok-read_parts_over-clause-head : goal.returns-in-Ok-read_parts_over-clause-head
+returns-in-Ok-read_parts_over-clause-head c =
     let n = c.in-Some.spans.len in
     let cut : take n c.as_slice.result.now ≡ c.in-Ok.head = ap (take n) c.as_slice.ensures ∙ sym c.in-Ok.ensures.front in
-    λ _. (rw c.in-Ok-true.is at (says_read c.in-Ok.head (take n c.as_slice.result.now) c.parse_front.new.fields c.in-Some.spans
-    c.read_parts_over.new.item c.read_parts_over.result cut c.in-Some.ensures.found c.read_parts_over.ensures.parts c.read_parts_over.ensures.says)) c.in-Ok-true.field-0-test
-
-pub returns-in-Ok-true-clause-alone : goal.returns-in-Ok-true-clause-alone
-returns-in-Ok-true-clause-alone c = λ _. alone_of _ _ _ _ c.is_followed-followed.ensures (c.in-Ok-true.ensures.alone c.in-Ok-true.field-0-test)
+    λ found. (
+      cut_piece c.args.buffer.now.items c.as_slice.result.now c.in-Ok.head n c.as_slice.ensures cut c.in-Some.ensures.piece,
+      rw c.in-Ok-read_parts_over.is at (says_over c.in-Ok.head (take n c.as_slice.result.now) c.parse_front.new.fields c.in-Some.spans
+          c.read_parts_over.new.item c.read_parts_over.result cut c.in-Some.ensures.found c.read_parts_over.ensures.parts c.read_parts_over.ensures.says),
+    )
 
 pub returns-in-Err-read_parts_over-clause-fault : goal.returns-in-Err-read_parts_over-clause-fault
 returns-in-Err-read_parts_over-clause-fault c =

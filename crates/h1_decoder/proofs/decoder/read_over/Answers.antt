@@ -1,5 +1,5 @@
 use Rattle.std.proofs.Common.{subst}
-use Rattle.h1_decoder.proofs.ReadingLemmas.{values_whole, says_read, causes_whole, faults, refuses_text, reads_fault}
+use Rattle.h1_decoder.proofs.ReadingLemmas.{values_whole, says_over, causes_whole, faults, refuses_text, reads_fault}
 use Rattle.h1_decoder.specs.WholeHead.{RefusesText}
 use Rattle.h1_decoder.proofs.decoder.read_over.Goals as goal
 
@@ -9,7 +9,7 @@ read_parts_over-requires-clause-values c =
 
 pub returns-in-Ok-clause-head : goal.returns-in-Ok-clause-head
 returns-in-Ok-clause-head c =
-    says_read c.args.piece.now c.as_slice.result.now c.parse_whole.new.fields c.in-Ok.spans c.read_parts_over.new.item c.read_parts_over.result
+    says_over c.args.piece.now c.as_slice.result.now c.parse_whole.new.fields c.in-Ok.spans c.read_parts_over.new.item c.read_parts_over.result
     c.as_slice.ensures c.in-Ok.ensures.found c.read_parts_over.ensures.parts c.read_parts_over.ensures.says
 
 pub returns-in-Ok-clause-cause : goal.returns-in-Ok-clause-cause

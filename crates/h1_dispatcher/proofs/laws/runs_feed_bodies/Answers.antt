@@ -10,7 +10,7 @@ pub returns-clause-wanted : goal.returns-clause-wanted
 returns-clause-wanted c = λ v w piece is. is.0
 
 pub returns-clause-new : goal.returns-clause-new
-returns-clause-new c = λ transport service settings noted body. (tt, omega arith)
+returns-clause-new c = λ transport service settings peer noted listens body. (tt, omega arith)
 
 pub returns-clause-bound : goal.returns-clause-bound
 returns-clause-bound c = run_bound

@@ -11,8 +11,8 @@ use http_framing::BodySize;
 use std::alloc::Global;
 
 impl<B: MessageBody> MessageBody for &mut B {
-    ghost use Rattle.std.specs.Prelude.{[], IsErr, IfErr, IfOk};
-    ghost use Rattle.http_bodies.specs.Whole.{AreAll, whole};
+    ghost use Rattle.std.specs.Prelude.{◌⊎◌, [], true, Some, None, IsErr, IfErr, IfOk, OnErr};
+    ghost use Rattle.http_bodies.specs.Whole.{AreAll, whole, none_at_hand};
 
     ghost gives = { λ body. B.gives body.now };
 
@@ -35,8 +35,11 @@ impl<B: MessageBody> MessageBody for &mut B {
 
     fn try_into_bytes(self, _alloc: Global) -> Result<Bytes, Self>
         ensures still { IsErr result }
+        ensures given { IfOk result (λ bytes. none_at_hand self.old ≡ Some bytes) }
         ensures all { IfOk result (λ bytes. AreAll (whole [] (B.gives self.old).coming) bytes) }
         ensures same { IfErr result (λ body. B.gives body.now ≡ B.gives self.old) }
+        ensures same_hand { IfErr result (λ body. none_at_hand body.now ≡ none_at_hand self.old) }
+        ensures cause { OnErr result ((none_at_hand self.old ≡ None) ⊎ ((B.gives self.old).takes_memory ≡ true)) }
         ensures same_reference { IfErr result (λ body. body.ghost_name ≡ self.entry.ghost_name) }
     {
         Err(self)

@@ -40,7 +40,11 @@ fn share_text(text: String) -> Result<Bytes, String>
 }
 
 impl MessageBody for BytesMut {
+    ghost use Rattle.std.specs.Prelude.{Some};
+
     ghost gives = { λ bytes. holds_owned bytes.items };
+
+    ghost at_hand = { λ bytes. Some bytes.items };
 
     fn size(&self) -> BodySize {
         BodySize::Sized(self.len() as u64)
@@ -77,7 +81,11 @@ impl MessageBody for BytesMut {
 }
 
 impl MessageBody for Vec<u8> {
+    ghost use Rattle.std.specs.Prelude.{Some};
+
     ghost gives = { λ bytes. holds_owned bytes.items };
+
+    ghost at_hand = { λ bytes. Some bytes.items };
 
     fn size(&self) -> BodySize {
         BodySize::Sized(self.len() as u64)
@@ -111,7 +119,11 @@ impl MessageBody for Vec<u8> {
 }
 
 impl MessageBody for String {
+    ghost use Rattle.std.specs.Prelude.{Some};
+
     ghost gives = { λ text. holds_owned (string_bytes text) };
+
+    ghost at_hand = { λ text. Some (string_bytes text) };
 
     fn size(&self) -> BodySize {
         BodySize::Sized(self.len() as u64)
@@ -145,7 +157,13 @@ impl MessageBody for String {
 }
 
 impl MessageBody for CowSlice<'static, u8> {
+    ghost use Rattle.std.specs.Prelude.{◌⊎◌, [], true, Some, None, OnErr};
+    ghost use Rattle.std.specs.Cow.{IsOwnedSlice};
+    ghost use Rattle.http_bodies.specs.Whole.{AreAll, whole};
+
     ghost gives = { λ bytes. holds_owned (cow_slice_items bytes) };
+
+    ghost at_hand = { λ bytes. Some (cow_slice_items bytes) };
 
     fn size(&self) -> BodySize {
         BodySize::Sized(self.len() as u64)
@@ -173,7 +191,14 @@ impl MessageBody for CowSlice<'static, u8> {
         }
     }
 
-    fn try_into_bytes(self, _alloc: Global) -> Result<Bytes, CowSlice<'static, u8>> {
+    fn try_into_bytes(self, _alloc: Global) -> Result<Bytes, CowSlice<'static, u8>>
+        ensures given { IfOk result (λ bytes. Some (cow_slice_items self.entry) ≡ Some bytes) }
+        ensures all { IfOk result (λ bytes. AreAll (whole [] (holds_owned (cow_slice_items self.entry)).coming) bytes) }
+        ensures same { IfErr result (λ body. holds_owned (cow_slice_items body) ≡ holds_owned (cow_slice_items self.entry)) }
+        ensures same_hand { IfErr result (λ body. Some (cow_slice_items body) ≡ Some (cow_slice_items self.entry)) }
+        ensures owned { OnErr result (IsOwnedSlice self.entry) }
+        ensures cause { OnErr result ((Some (cow_slice_items self.entry) ≡ None) ⊎ ((holds_owned (cow_slice_items self.entry)).takes_memory ≡ true)) }
+    {
         match self {
             CowSlice::Borrowed(bytes) => Ok(Bytes::from_static(bytes)),
             CowSlice::Owned(vec) => match share_vec(vec) {
@@ -185,7 +210,13 @@ impl MessageBody for CowSlice<'static, u8> {
 }
 
 impl MessageBody for CowStr<'static> {
+    ghost use Rattle.std.specs.Prelude.{◌⊎◌, [], true, Some, None, OnErr};
+    ghost use Rattle.std.specs.Cow.{IsOwnedStr};
+    ghost use Rattle.http_bodies.specs.Whole.{AreAll, whole};
+
     ghost gives = { λ text. holds_owned (cow_str_bytes text) };
+
+    ghost at_hand = { λ text. Some (cow_str_bytes text) };
 
     fn size(&self) -> BodySize {
         BodySize::Sized(self.len() as u64)
@@ -213,7 +244,14 @@ impl MessageBody for CowStr<'static> {
         }
     }
 
-    fn try_into_bytes(self, _alloc: Global) -> Result<Bytes, CowStr<'static>> {
+    fn try_into_bytes(self, _alloc: Global) -> Result<Bytes, CowStr<'static>>
+        ensures given { IfOk result (λ bytes. Some (cow_str_bytes self.entry) ≡ Some bytes) }
+        ensures all { IfOk result (λ bytes. AreAll (whole [] (holds_owned (cow_str_bytes self.entry)).coming) bytes) }
+        ensures same { IfErr result (λ body. holds_owned (cow_str_bytes body) ≡ holds_owned (cow_str_bytes self.entry)) }
+        ensures same_hand { IfErr result (λ body. Some (cow_str_bytes body) ≡ Some (cow_str_bytes self.entry)) }
+        ensures owned { OnErr result (IsOwnedStr self.entry) }
+        ensures cause { OnErr result ((Some (cow_str_bytes self.entry) ≡ None) ⊎ ((holds_owned (cow_str_bytes self.entry)).takes_memory ≡ true)) }
+    {
         match self {
             CowStr::Borrowed(text) => Ok(Bytes::from_static(text.as_bytes())),
             CowStr::Owned(text) => match share_text(text) {

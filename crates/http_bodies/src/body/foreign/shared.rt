@@ -10,7 +10,11 @@ use http_framing::BodySize;
 use std::alloc::Global;
 
 impl MessageBody for () {
+    ghost use Rattle.std.specs.Prelude.{Some};
+
     ghost gives = { λ _. holds [] };
+
+    ghost at_hand = { λ _. Some [] };
 
     fn size(&self) -> BodySize {
         BodySize::ZERO
@@ -35,7 +39,11 @@ impl MessageBody for () {
 }
 
 impl MessageBody for Bytes {
+    ghost use Rattle.std.specs.Prelude.{Some};
+
     ghost gives = { λ bytes. holds bytes };
+
+    ghost at_hand = { λ bytes. Some bytes };
 
     fn size(&self) -> BodySize {
         BodySize::Sized(self.len() as u64)
@@ -64,7 +72,11 @@ impl MessageBody for Bytes {
 }
 
 impl MessageBody for &'static [u8] {
+    ghost use Rattle.std.specs.Prelude.{Some};
+
     ghost gives = { λ bytes. holds bytes.now };
+
+    ghost at_hand = { λ bytes. Some bytes.now };
 
     fn size(&self) -> BodySize {
         BodySize::Sized(self.len() as u64)
@@ -95,7 +107,11 @@ impl MessageBody for &'static [u8] {
 }
 
 impl MessageBody for &'static str {
+    ghost use Rattle.std.specs.Prelude.{Some};
+
     ghost gives = { λ text. holds text.now };
+
+    ghost at_hand = { λ text. Some text.now };
 
     fn size(&self) -> BodySize {
         BodySize::Sized(self.len() as u64)

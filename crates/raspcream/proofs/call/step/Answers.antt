@@ -1,4 +1,4 @@
-use Rattle.raspcream.proofs.CalledLemmas.{served_same, served_did, asked_same, asked_did}
+use Rattle.raspcream.proofs.CalledLemmas.{served_same, served_did, served_code, asked_same, asked_did, asked_code}
 use Rattle.raspcream.proofs.call.step.Goals as goal
 
 pub returns-in-Server-clause-kept : goal.returns-in-Server-clause-kept
@@ -12,3 +12,9 @@ returns-in-Client-clause-kept c = asked_same _ _ _ _ c.in-Client.is c.request.en
 
 pub returns-in-Client-clause-done : goal.returns-in-Client-clause-done
 returns-in-Client-clause-done c = asked_did _ _ _ _ _ _ _ _ _ c.in-Client.is c.request.ensures.done
+
+pub returns-in-Server-clause-reason : goal.returns-in-Server-clause-reason
+returns-in-Server-clause-reason c = served_code _ _ _ _ _ _ _ c.in-Server.is c.serve.ensures.reason
+
+pub returns-in-Client-clause-reason : goal.returns-in-Client-clause-reason
+returns-in-Client-clause-reason c = asked_code _ _ _ _ _ _ _ c.in-Client.is c.request.ensures.reason

@@ -15,4 +15,4 @@ returns-clause-fits c = stands_fits _ _ _ (returns-clause-first c)
 
 pub returns-clause-whole : goal.returns-clause-whole
 returns-clause-whole c =
-    held_whole c.self.inside.config c.self.inside.parts c.args.self.now _ c.args.start _ c.self.view_is refl refl c.self.invariant c.bytes_from.ensures.whole
+    held_whole c.self.inside.config c.self.inside.parts c.args.self.now _ c.args.start _ c.self.view_is refl c.self.invariant c.bytes_from.ensures.whole

@@ -10,16 +10,16 @@ use Rattle.h1_connection.proofs.ResultLemmas.{ok_map}
 use Rattle.h1_connection.proofs.RunLemmas.{at_event, says_more}
 use Rattle.h1_connection.proofs.connection.Connection.step.Goals as goal
 
-pub returns-in_ok-count-in-Read-clause-stands : goal.returns-in_ok-count-in-Read-clause-stands
-returns-in_ok-count-in-Read-clause-stands c =
-    at_event c.args.self.now c.read.new.self _ _ (out.Took c.in_ok-count-in-Read.count) c.in-Read.is
-    (subst (λ (l : List ℕ). GoesOn c.args.self.now (on.read l) (Is (on.took c.in_ok-count-in-Read.count)) c.read.new.self) c.as_slice.ensures c.in_ok-count-in-Read.ensures.stands)
+pub returns-in_ok-read-in-Read-clause-stands : goal.returns-in_ok-read-in-Read-clause-stands
+returns-in_ok-read-in-Read-clause-stands c =
+    at_event c.args.self.now c.read.new.self _ _ (out.Took c.in_ok-read-in-Read.field-0) c.in-Read.is
+    (subst (λ (l : List ℕ). GoesOn c.args.self.now (on.read l) (Is (on.took c.in_ok-read-in-Read.field-0)) c.read.new.self) c.as_slice.ensures c.in_ok-read-in-Read.ensures.stands)
 
 pub returns-in-Eof-clause-stands : goal.returns-in-Eof-clause-stands
 returns-in-Eof-clause-stands c = at_event c.args.self.now c.eof.new.self _ _ out.Done c.in-Eof.is c.eof.ensures.stands
 
-pub returns-in_ok-next-in-Next-clause-stands : goal.returns-in_ok-next-in-Next-clause-stands
-returns-in_ok-next-in-Next-clause-stands c = at_event c.args.self.now c.ask.new.self _ _ c.outcome_of_next.result c.in-Next.is (says_more c.args.self.now c.ask.new.self _ _ _ c.outcome_of_next.ensures c.in_ok-next-in-Next.ensures.stands)
+pub returns-in_ok-ask-in-Next-clause-stands : goal.returns-in_ok-ask-in-Next-clause-stands
+returns-in_ok-ask-in-Next-clause-stands c = at_event c.args.self.now c.ask.new.self _ _ c.outcome_of_next.result c.in-Next.is (says_more c.args.self.now c.ask.new.self _ _ _ c.outcome_of_next.ensures c.in_ok-ask-in-Next.ensures.stands)
 
 pub returns-in-Pull-clause-stands : goal.returns-in-Pull-clause-stands
 returns-in-Pull-clause-stands c =
@@ -47,20 +47,20 @@ returns-in_ok-end_answer-in-BodyEnd-clause-stands c = at_event c.args.self.now c
 pub returns-in-BodyError-clause-stands : goal.returns-in-BodyError-clause-stands
 returns-in-BodyError-clause-stands c = at_event c.args.self.now c.fail_answer.new.self _ _ out.Done c.in-BodyError.is c.fail_answer.ensures.stands
 
-pub returns-in_ok-bytes-in-Write-clause-stands : goal.returns-in_ok-bytes-in-Write-clause-stands
-returns-in_ok-bytes-in-Write-clause-stands c = at_event c.args.self.now c.write.new.self _ _ (out.Gave c.in_ok-bytes-in-Write.bytes) c.in-Write.is c.in_ok-bytes-in-Write.ensures.stands
+pub returns-in_ok-write-in-Write-clause-stands : goal.returns-in_ok-write-in-Write-clause-stands
+returns-in_ok-write-in-Write-clause-stands c = at_event c.args.self.now c.write.new.self _ _ (out.Gave c.in_ok-write-in-Write.field-0) c.in-Write.is c.in_ok-write-in-Write.ensures.stands
 
-pub returns-in_ok-expiry-in-Tick-clause-stands : goal.returns-in_ok-expiry-in-Tick-clause-stands
-returns-in_ok-expiry-in-Tick-clause-stands c = at_event c.args.self.now c.tick.new.self _ _ c.outcome_of_tick.result c.in-Tick.is (says_more c.args.self.now c.tick.new.self _ _ _ c.outcome_of_tick.ensures c.in_ok-expiry-in-Tick.ensures.stands)
+pub returns-in_ok-tick-in-Tick-clause-stands : goal.returns-in_ok-tick-in-Tick-clause-stands
+returns-in_ok-tick-in-Tick-clause-stands c = at_event c.args.self.now c.tick.new.self _ _ c.outcome_of_tick.result c.in-Tick.is (says_more c.args.self.now c.tick.new.self _ _ _ c.outcome_of_tick.ensures c.in_ok-tick-in-Tick.ensures.stands)
 
 pub returns-in-Drain-clause-stands : goal.returns-in-Drain-clause-stands
 returns-in-Drain-clause-stands c = at_event c.args.self.now c.drain.new.self _ _ out.Done c.in-Drain.is c.drain.ensures.stands
 
-pub returns-in_ok-accepted-in-Accept-clause-stands : goal.returns-in_ok-accepted-in-Accept-clause-stands
-returns-in_ok-accepted-in-Accept-clause-stands c = at_event c.args.self.now c.accept.new.self _ _ c.outcome_of_accept.result c.in-Accept.is (says_more c.args.self.now c.accept.new.self _ _ _ c.outcome_of_accept.ensures c.in_ok-accepted-in-Accept.ensures.stands)
+pub returns-in_ok-accept-in-Accept-clause-stands : goal.returns-in_ok-accept-in-Accept-clause-stands
+returns-in_ok-accept-in-Accept-clause-stands c = at_event c.args.self.now c.accept.new.self _ _ c.outcome_of_accept.result c.in-Accept.is (says_more c.args.self.now c.accept.new.self _ _ _ c.outcome_of_accept.ensures c.in_ok-accept-in-Accept.ensures.stands)
 
-pub returns-in_ok-sent-in-Send-clause-stands : goal.returns-in_ok-sent-in-Send-clause-stands
-returns-in_ok-sent-in-Send-clause-stands c =
+pub returns-in_ok-send-in-Send-clause-stands : goal.returns-in_ok-send-in-Send-clause-stands
+returns-in_ok-send-in-Send-clause-stands c =
     at_event c.args.self.now c.send.new.self _ _ c.outcome_of_send.result c.in-Send.is
     (subst (λ (m : Message). GoesOn c.args.self.now (on.send m) (SaysOutcome c.outcome_of_send.result) c.send.new.self) c.get-in-Send.ensures
-    (says_more c.args.self.now c.send.new.self _ _ _ c.outcome_of_send.ensures c.in_ok-sent-in-Send.ensures.stands))
+    (says_more c.args.self.now c.send.new.self _ _ _ c.outcome_of_send.ensures c.in_ok-send-in-Send.ensures.stands))

@@ -3,14 +3,14 @@ use Rattle.model_h1.specs.Event as on
 use Rattle.h1_connection.specs.State.{Is}
 use Rattle.h1_connection.specs.declared.event.Event.TheVariants.{Drain}
 use Rattle.h1_connection.specs.declared.event.Outcome.TheVariants.{Done}
-use Rattle.h1_traced.proofs.TracedLaws.{when_ok, when_err, traced_steps, fails_after}
+use Rattle.h1_traced.proofs.TracedLaws.{when_ok, traced_steps, fails_noting}
 use Rattle.h1_traced.proofs.traced.Traced.drain.Goals as goal
 
 pub returns-clause-stands : goal.returns-clause-stands
 returns-clause-stands g c =
-    rw (sym c.self.view_is) (when_ok c.note_bare.result c.note_bare.ensures.ok (λ grows. traced_steps c.self.inside.connection c.drain.new.self _ _ (record { event = Drain; outcome = Done }) on.drain (Is on.done)
+    rw (sym c.self.view_is) (when_ok c.note_bare.result c.note_bare.ensures.ok (λ grows. traced_steps c.self.inside.connection c.drain.new.self _ _ _ _ (record { event = Drain; outcome = Done }) on.drain (Is on.done)
     c.drain.ensures.stands c.drain.ensures.settings grows (λ out is. record { event = refl; outcome = is })))
 
 pub returns-clause-err : goal.returns-clause-err
 returns-clause-err g c =
-    rw (sym c.self.view_is) (when_err c.note_bare.result c.note_bare.ensures.err (λ grows. fails_after c.self.inside.connection c.drain.new.self _ _ on.drain (Is on.done) c.drain.ensures.stands grows))
+    rw (sym c.self.view_is) (fails_noting c.note_bare.result c.self.inside.connection c.drain.new.self _ _ _ _ on.drain (Is on.done) c.drain.ensures.stands c.note_bare.ensures.err c.note_bare.ensures.no_memory_needed)

@@ -1,9 +1,7 @@
-use Rattle.std.proofs.Common.{◌≡◌, true, None, ◌∙◌, subst}
+use Rattle.std.proofs.Common.{◌≡◌, true, false, None, ◌∙◌, subst}
 use Rattle.std.specs.Prelude.{IfOk, IfErr, OnErr}
 use Rattle.h1_decoder.specs.Refusal.{UnlessNoMemory, fault_of}
-use Rattle.h1_decoder.specs.HeadItem.{without_headers}
-use Rattle.h1_connection.specs.Incoming.{Incoming, IsFound, IsHeadOf, IsWhole, IsNextHead, IsNextFault, IsAlone}
-use Rattle.h1_connection.specs.declared.connection.input.Found.TheVariants.{Nothing, Head, Followed}
+use Rattle.h1_connection.specs.Incoming.{Incoming, IsFound, IsHeadOf, IsWhole, IsNextHead, IsNextFault}
 use Rattle.h1_connection.proofs.InputLemmas.{due_front, found_of, same_incoming}
 use Rattle.h1_connection.proofs.CutLemmas.{due_view}
 use Rattle.h1_connection.proofs.connection.input.Input.read_head.Goals as goal
@@ -16,12 +14,12 @@ returns-in-Due-clause-same c = c.read_due.ensures.same ∙ due_view _ _ _ _ c.in
 
 pub returns-in-Due-clause-head : goal.returns-in-Due-clause-head
 returns-in-Due-clause-head c =
-    subst (λ (i : Incoming). IfOk c.read_due.result (λ found. found ≡ Head → IsNextHead i c.read_due.new.item))
+    subst (λ (i : Incoming). IfOk c.read_due.result (λ is_there. is_there ≡ true → IsNextHead i c.read_due.new.item))
     (due_view _ _ _ _ c.in-Due.is c.self.invariant c.self.view_is) c.read_due.ensures.head
 
 pub returns-in-Due-clause-none : goal.returns-in-Due-clause-none
 returns-in-Due-clause-none c =
-    subst (λ (i : Incoming). IfOk c.read_due.result (λ found. found ≡ Nothing → IsHeadOf i None × (c.read_due.new.item ≡ c.args.item.now)))
+    subst (λ (i : Incoming). IfOk c.read_due.result (λ is_there. is_there ≡ false → IsHeadOf i None × (c.read_due.new.item ≡ c.args.item.now)))
     (due_view _ _ _ _ c.in-Due.is c.self.invariant c.self.view_is) c.read_due.ensures.none
 
 pub returns-in-Due-clause-fault : goal.returns-in-Due-clause-fault
@@ -39,11 +37,11 @@ returns-clause-same c =
 
 pub returns-clause-head : goal.returns-clause-head
 returns-clause-head c =
-    subst (λ (i : Incoming). IfOk c.read_found.result (λ found. found ≡ Head → IsNextHead i c.read_found.new.item)) c.self.view_is c.read_found.ensures.head
+    subst (λ (i : Incoming). IfOk c.read_found.result (λ is_there. is_there ≡ true → IsNextHead i c.read_found.new.item)) c.self.view_is c.read_found.ensures.head
 
 pub returns-clause-none : goal.returns-clause-none
 returns-clause-none c =
-    subst (λ (i : Incoming). IfOk c.read_found.result (λ found. found ≡ Nothing → IsHeadOf i None × (c.read_found.new.item ≡ c.args.item.now))) c.self.view_is c.read_found.ensures.none
+    subst (λ (i : Incoming). IfOk c.read_found.result (λ is_there. is_there ≡ false → IsHeadOf i None × (c.read_found.new.item ≡ c.args.item.now))) c.self.view_is c.read_found.ensures.none
 
 pub returns-clause-fault : goal.returns-clause-fault
 returns-clause-fault c =
@@ -52,29 +50,8 @@ returns-clause-fault c =
 pub returns-clause-whole : goal.returns-clause-whole
 returns-clause-whole c = subst (λ (i : Incoming). OnErr c.read_found.result (IsWhole i)) c.self.view_is c.read_found.ensures.whole
 
--- ---- what was left, and what has no other behind it
-
 pub returns-in-Due-clause-found : goal.returns-in-Due-clause-found
 returns-in-Due-clause-found c = subst (λ (i : Incoming). IsFound i) c.self.view_is (found_of _ _ _ c.self.invariant)
 
-pub returns-in-Due-clause-alone : goal.returns-in-Due-clause-alone
-returns-in-Due-clause-alone c =
-    subst (λ (i : Incoming). IfOk c.read_due.result (λ found. found ≡ Head → c.args.leaves ≡ true → IsAlone i c.read_due.new.item))
-    (due_view _ _ _ _ c.in-Due.is c.self.invariant c.self.view_is) c.read_due.ensures.alone
-
-pub returns-in-Due-clause-left : goal.returns-in-Due-clause-left
-returns-in-Due-clause-left c =
-    subst (λ (i : Incoming). IfOk c.read_due.result (λ found. found ≡ Followed → (c.args.leaves ≡ true) × IsWhole i × (c.read_due.new.item ≡ without_headers c.args.item.now)))
-    (due_view _ _ _ _ c.in-Due.is c.self.invariant c.self.view_is) c.read_due.ensures.left
-
 pub returns-clause-found : goal.returns-clause-found
 returns-clause-found c = subst (λ (i : Incoming). IsFound i) c.self.view_is (found_of _ _ _ c.self.invariant)
-
-pub returns-clause-alone : goal.returns-clause-alone
-returns-clause-alone c =
-    subst (λ (i : Incoming). IfOk c.read_found.result (λ found. found ≡ Head → c.args.leaves ≡ true → IsAlone i c.read_found.new.item)) c.self.view_is c.read_found.ensures.alone
-
-pub returns-clause-left : goal.returns-clause-left
-returns-clause-left c =
-    subst (λ (i : Incoming). IfOk c.read_found.result (λ found. found ≡ Followed → (c.args.leaves ≡ true) × IsWhole i × (c.read_found.new.item ≡ without_headers c.args.item.now)))
-    c.self.view_is c.read_found.ensures.left

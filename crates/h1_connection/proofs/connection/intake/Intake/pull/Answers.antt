@@ -1,19 +1,36 @@
-use Rattle.h1_connection.proofs.IntakeLemmas.{pulls_waiting, light_waiting, pull_waits}
+use Rattle.std.proofs.Common.{ap}
+use Rattle.h1_connection.specs.Stock.{Stock}
+use Rattle.h1_connection.proofs.ResultLemmas.{err_any}
+use Rattle.h1_connection.proofs.IntakeLemmas.{pulls_counted, stays_counted}
 use Rattle.h1_connection.proofs.connection.intake.Intake.pull.Goals as goal
 
-pub returns-in_err-pulled-clause-no_memory_needed : goal.returns-in_err-pulled-clause-no_memory_needed
-returns-in_err-pulled-clause-no_memory_needed c = λ p is light.
-    let ok = light_waiting c.args.has_ended c.args.rest.now c.self.inside.turn c.self.inside.ahead c.self.inside.input c.args.self.now c.pull.result c.self.view_is c.self.invariant
-    c.requires.unsearched c.requires.behind c.pull.ensures.no_memory_needed p is light in
-    let no = rw c.in_err-pulled.was at ok in
-    absurd (cc no)
+pub invariant_of-self : goal.invariant_of-self
+invariant_of-self c =
+    (stays_counted c.args.rest.now c.self.inside.count c.beside_body-self-inside.result c.self.inside.input c.pull.new.self c.args.self.now c.is_nothing.result c.self.view_is c.self.invariant
+    c.is_nothing.ensures c.beside_body-self-inside.ensures c.requires.behind c.in_err-pulled.ensures.err.0).1
 
 pub invariant_of-self-2 : goal.invariant_of-self-2
 invariant_of-self-2 c =
-    pull_waits c.args.has_ended c.args.rest.now c.pull.new.rest c.self.inside.turn c.self.inside.ahead c.self.inside.input c.pull.new.self c.args.self.now c.in_ok-pulled.pulled c.self.view_is
-    c.self.invariant c.requires.unsearched c.requires.behind c.in_ok-pulled.ensures.pulled c.pull.ensures.piece c.len.ensures.fits
+    (pulls_counted c.args.has_ended c.args.rest.now c.pull.new.rest c.in_ok-pulled.pulled c.self.inside.count c.beside_body-self-inside.result c.self.inside.input c.pull.new.self c.args.self.now c.is_nothing.result
+    c.self.view_is c.self.invariant c.is_nothing.ensures c.beside_body-self-inside.ensures c.requires.behind c.in_ok-pulled.ensures.pulled).1
 
-pub returns-clause-pulled : goal.returns-clause-pulled
-returns-clause-pulled c =
-    pulls_waiting c.args.has_ended c.args.rest.now c.pull.new.rest c.self.inside.turn c.self.inside.ahead c.self.inside.input c.args.self.now c.in_ok-pulled.pulled c.pull.new.self.unread
-    c.self.view_is c.self.invariant c.requires.unsearched c.requires.behind c.in_ok-pulled.ensures.pulled
+pub returns-clause-ahead : goal.returns-clause-ahead
+returns-clause-ahead c =
+    (pulls_counted c.args.has_ended c.args.rest.now c.pull.new.rest c.in_ok-pulled.pulled c.self.inside.count c.beside_body-self-inside.result c.self.inside.input c.pull.new.self c.args.self.now c.is_nothing.result
+    c.self.view_is c.self.invariant c.is_nothing.ensures c.beside_body-self-inside.ensures c.requires.behind c.in_ok-pulled.ensures.pulled).0
+
+-- ---- memory was wanted
+
+pub returns-in_err-pulled-clause-ahead : goal.returns-in_err-pulled-clause-ahead
+returns-in_err-pulled-clause-ahead c =
+    ap (λ (s : Stock). s.ahead)
+    (stays_counted c.args.rest.now c.self.inside.count c.beside_body-self-inside.result c.self.inside.input c.pull.new.self c.args.self.now c.is_nothing.result c.self.view_is c.self.invariant
+    c.is_nothing.ensures c.beside_body-self-inside.ensures c.requires.behind c.in_err-pulled.ensures.err.0).0
+
+pub returns-in_err-pulled-clause-err : goal.returns-in_err-pulled-clause-err
+returns-in_err-pulled-clause-err c =
+    err_any c.from_residual.result _ (
+      (stays_counted c.args.rest.now c.self.inside.count c.beside_body-self-inside.result c.self.inside.input c.pull.new.self c.args.self.now c.is_nothing.result c.self.view_is c.self.invariant
+          c.is_nothing.ensures c.beside_body-self-inside.ensures c.requires.behind c.in_err-pulled.ensures.err.0).0,
+      c.in_err-pulled.ensures.err.1,
+    )

@@ -1,12 +1,11 @@
-use Rattle.std.proofs.Common.{refl}
-use Rattle.h1_connection.proofs.IntakeLemmas.{found_heads, turned, turned_found}
+use Rattle.std.proofs.Common.{◌∙◌, ap}
+use Rattle.h1_connection.specs.Stock.{Stock}
+use Rattle.h1_connection.proofs.IntakeLemmas.{same_counted}
 use Rattle.h1_connection.proofs.connection.intake.Intake.search.Goals as goal
 
-pub returns-in-Unasked-clause-scanned : goal.returns-in-Unasked-clause-scanned
-returns-in-Unasked-clause-scanned c =
-    (found_heads c.self.inside.turn c.self.inside.ahead c.self.inside.input c.args.self.now c.self.view_is c.in-Unasked.is (c.is_empty.ensures.some c.if-is_empty.false)).0
+pub invariant_of-self : goal.invariant_of-self
+invariant_of-self c = (same_counted c.self.inside.count c.self.inside.input c.search.new.self c.self.invariant c.search.ensures.unread).1
 
-pub returns : goal.returns
-returns c =
-    let at = turned c.self.inside.turn c.self.inside.ahead c.self.inside.input c.args.self.now c.self.view_is c.self.invariant c.in_default.not-Unasked in
-    record { unread = at.1; scanned = turned_found c.self.inside.ahead c.self.inside.input; searched = refl; ahead = at.2 }
+pub returns-clause-ahead : goal.returns-clause-ahead
+returns-clause-ahead c =
+    (same_counted c.self.inside.count c.self.inside.input c.search.new.self c.self.invariant c.search.ensures.unread).0 ∙ ap (λ (s : Stock). s.ahead) c.self.view_is

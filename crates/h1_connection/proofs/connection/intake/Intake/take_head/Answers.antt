@@ -1,44 +1,58 @@
-use Rattle.std.proofs.Common.{sym, subst}
+use Rattle.std.proofs.Common.{◌≤◌, ◌-◌, ℕ, sym, ap, ◌∙◌, subst, arith}
+use Rattle.std.specs.Prelude.{is_some}
 use Rattle.std.proofs.lemmas.Result.{err_from_is_err_and}
 use Rattle.h1_decoder.specs.Refusal.{fault_of}
-use Rattle.h1_connection.specs.Stock.{Stock, stock_of, IsStocked, IsFaultAhead, HandsOut}
-use Rattle.h1_connection.specs.declared.connection.intake.Turn.{Turn}
-use Rattle.h1_connection.specs.declared.connection.intake.Turn.TheVariants.{Unasked, Next}
-use Rattle.h1_connection.proofs.RingLemmas.{on_err}
-use Rattle.h1_connection.proofs.IntakeLemmas.{turn_view, coming_next, waiting_hands, waiting_fault}
+use Rattle.h1_connection.specs.Ahead.{IsCountBehind}
+use Rattle.h1_connection.specs.Incoming.{Incoming, IsPassedHead}
+use Rattle.h1_connection.specs.Stock.{Stock, stock_of, IsFaultAhead, HandsOut}
+use Rattle.h1_connection.proofs.IntakeLemmas.{handed, fault_last, none_counted, passed_less}
 use Rattle.h1_connection.proofs.connection.intake.Intake.take_head.Goals as goal
 
-pub returns-in_err-turn-in-Unasked-clause-fault : goal.returns-in_err-turn-in-Unasked-clause-fault
-returns-in_err-turn-in-Unasked-clause-fault c =
+-- ---- it is refused
+
+pub returns-in_err-read_head-clause-fault : goal.returns-in_err-read_head-clause-fault
+returns-in_err-read_head-clause-fault c =
+    let p = err_from_is_err_and c.from_residual.result c.from_residual.ensures.1 in
+    rw (p.1, p.2) (λ ne. subst (λ (s : Stock). IsFaultAhead s (fault_of c.in_err-read_head.field-0.0)) c.self.view_is (c.in_err-read_head.ensures.fault ne))
+
+pub returns-in_err-read_head-clause-last : goal.returns-in_err-read_head-clause-last
+returns-in_err-read_head-clause-last c =
     let p = err_from_is_err_and c.from_residual.result c.from_residual.ensures.1 in
     rw (p.1, p.2)
-    (λ ne. subst (λ (t : Stock). IsFaultAhead t (fault_of c.in_err-turn-in-Unasked.field-0.0)) (turn_view c.self.inside.turn Unasked c.self.inside.ahead c.self.inside.input c.args.self.now c.self.view_is c.in-Unasked.is)
-    (c.in_err-turn-in-Unasked.ensures.fault ne))
+    (λ ne. subst (λ (s : Stock). s.ahead ≤ 1) c.self.view_is
+    (fault_last c.self.inside.count c.self.inside.input (fault_of c.in_err-read_head.field-0.0) (c.in_err-read_head.ensures.fault ne)))
 
--- ---- a head that waited
+-- ---- none is there
 
-pub returns-in_err-self-inside-in-Next-clause-fault : goal.returns-in_err-self-inside-in-Next-clause-fault
-returns-in_err-self-inside-in-Next-clause-fault c =
-    let p = err_from_is_err_and c.from_residual-in_err-self-inside-in-Next.result c.from_residual-in_err-self-inside-in-Next.ensures.1 in
-    let first = c.in_err-self-inside-in-Next.ensures.fault in
-    rw (p.1, p.2)
-    (λ _. subst (λ (t : Stock). IsFaultAhead t (fault_of c.in_err-self-inside-in-Next.field-0.0)) (turn_view c.self.inside.turn Next c.self.inside.ahead c.self.inside.input c.args.self.now c.self.view_is c.in-Next.is)
-    (waiting_fault c.self.inside.ahead c.self.inside.input first.0 first.1 _ (subst (λ (u : Turn). IsStocked c.self.inside.ahead u c.self.inside.input) c.in-Next.is c.self.invariant) first.2 first.3).0)
+pub returns-then-not-branch-clause-none_ahead : goal.returns-then-not-branch-clause-none_ahead
+returns-then-not-branch-clause-none_ahead c = λ _ searched.
+    sym (ap (λ (s : Stock). s.ahead) c.self.view_is)
+    ∙ none_counted c.self.inside.count c.self.inside.input c.read_head.ensures.found (c.in_ok-read_head.ensures.none c.if-not-branch.true).0
+    (ap (λ (s : Stock). is_some s.piece) c.self.view_is ∙ searched)
 
-pub returns-in_err-self-inside-in-Next-clause-whole : goal.returns-in_err-self-inside-in-Next-clause-whole
-returns-in_err-self-inside-in-Next-clause-whole c =
-    on_err _ c.from_residual-in_err-self-inside-in-Next.result
-    (sym (coming_next c.self.inside.turn c.self.inside.ahead c.self.inside.input c.args.self.now c.self.view_is c.in-Next.is c.self.invariant))
+-- ---- it is handed out
 
-pub invariant_of-self-in-Next : goal.invariant_of-self-in-Next
-invariant_of-self-in-Next c =
-    let out = c.in_ok-self-inside-in-Next.ensures.head in
-    (waiting_hands c.self.inside.ahead c.self.inside.input out.1.0 c.take_waiting.new.ahead c.take_waiting.new.item c.in_ok-self-inside-in-Next.field-0
-    (subst (λ (u : Turn). IsStocked c.self.inside.ahead u c.self.inside.input) c.in-Next.is c.self.invariant) out.1.1 out.1.2 out.1.3 out.0).1
+pub overflow_sub-size : goal.overflow_sub-size
+overflow_sub-size c =
+    let passed = subst (λ (i : Incoming). IsPassedHead i c.pass_head.new.self) c.read_head.ensures.same c.pass_head.ensures in
+    let less = passed_less c.self.inside.input c.self.inside.input.piece c.pass_head.new.self passed in
+    omega (arith, less, c.len-held.ensures.value, c.len-len.ensures.value)
 
-pub returns-in_ok-self-inside-in-Next-clause-head : goal.returns-in_ok-self-inside-in-Next-clause-head
-returns-in_ok-self-inside-in-Next-clause-head c = λ _.
-    let out = c.in_ok-self-inside-in-Next.ensures.head in
-    subst (λ (t : Stock). HandsOut t c.take_waiting.new.item (stock_of c.take_waiting.new.ahead c.in_ok-self-inside-in-Next.field-0 c.self.inside.input)) (turn_view c.self.inside.turn Next c.self.inside.ahead c.self.inside.input c.args.self.now c.self.view_is c.in-Next.is)
-    (waiting_hands c.self.inside.ahead c.self.inside.input out.1.0 c.take_waiting.new.ahead c.take_waiting.new.item c.in_ok-self-inside-in-Next.field-0
-    (subst (λ (u : Turn). IsStocked c.self.inside.ahead u c.self.inside.input) c.in-Next.is c.self.invariant) out.1.1 out.1.2 out.1.3 out.0).0
+pub returns-clause-head : goal.returns-clause-head
+returns-clause-head c = λ _.
+    let next = c.in_ok-read_head.ensures.head c.if-not-branch.false in
+    let passed = subst (λ (i : Incoming). IsPassedHead i c.pass_head.new.self) c.read_head.ensures.same c.pass_head.ensures in
+    let size = c.len-held.result - c.len-len.result in
+    let goes = subst (λ (n : ℕ). IsCountBehind c.self.inside.count size n c.has_body.result c.behind-self-inside.result) c.len-len.ensures.value c.behind-self-inside.ensures in
+    subst (λ (s : Stock). HandsOut s c.read_head.new.item (stock_of c.behind-self-inside.result c.pass_head.new.self)) c.self.view_is
+    (handed c.self.inside.count c.behind-self-inside.result c.self.inside.input c.pass_head.new.self c.read_head.new.item size c.has_body.result c.self.invariant next passed
+    (omega (arith, c.len-held.ensures.value, c.len-len.ensures.value)) (c.has_body.ensures next.2.0 next.2.2) goes).0
+
+pub invariant_of-self-2 : goal.invariant_of-self-2
+invariant_of-self-2 c =
+    let next = c.in_ok-read_head.ensures.head c.if-not-branch.false in
+    let passed = subst (λ (i : Incoming). IsPassedHead i c.pass_head.new.self) c.read_head.ensures.same c.pass_head.ensures in
+    let size = c.len-held.result - c.len-len.result in
+    let goes = subst (λ (n : ℕ). IsCountBehind c.self.inside.count size n c.has_body.result c.behind-self-inside.result) c.len-len.ensures.value c.behind-self-inside.ensures in
+    (handed c.self.inside.count c.behind-self-inside.result c.self.inside.input c.pass_head.new.self c.read_head.new.item size c.has_body.result c.self.invariant next passed
+    (omega (arith, c.len-held.ensures.value, c.len-len.ensures.value)) (c.has_body.ensures next.2.0 next.2.2) goes).1

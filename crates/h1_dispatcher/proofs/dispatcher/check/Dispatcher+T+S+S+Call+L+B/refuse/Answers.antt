@@ -6,6 +6,6 @@ use Rattle.h1_dispatcher.proofs.dispatcher.check.Dispatcher+T+S+S+Call+L+B.refus
 
 pub returns-clause-says : goal.returns-clause-says
 returns-clause-says g c =
-    let v = view_of g.T.Transport.wiring g.S.Service.served g.S.Service.calling g.B.MessageBody.gives g.L.Recorder.noted c.args.self.now in
+    let v = view_of g.T.Transport.wiring g.S.Service.served g.S.Service.calling g.B.MessageBody.gives g.L.Recorder.noted g.L.Recorder.is_listening c.args.self.now in
     let r = now_waiting v.stage (refuses_waits v c.requires.can_refuse) in
     (r.0, (c.requires.can_refuse, r.1, refl))

@@ -6,10 +6,10 @@ use Rattle.h1_dispatcher.proofs.dispatcher.read.Dispatcher+T+S+S+Call+L+B.read_o
 
 pub returns-then-room-eq0-clause-says : goal.returns-then-room-eq0-clause-says
 returns-then-room-eq0-clause-says g c =
-    let v = view_of g.T.Transport.wiring g.S.Service.served g.S.Service.calling g.B.MessageBody.gives g.L.Recorder.noted c.args.self.now in
+    let v = view_of g.T.Transport.wiring g.S.Service.served g.S.Service.calling g.B.MessageBody.gives g.L.Recorder.noted g.L.Recorder.is_listening c.args.self.now in
     nothing_read v Idle refl (inr (search rules))
 
 pub returns-then-not-can_read-clause-says : goal.returns-then-not-can_read-clause-says
 returns-then-not-can_read-clause-says g c =
-    let v = view_of g.T.Transport.wiring g.S.Service.served g.S.Service.calling g.B.MessageBody.gives g.L.Recorder.noted c.args.self.now in
+    let v = view_of g.T.Transport.wiring g.S.Service.served g.S.Service.calling g.B.MessageBody.gives g.L.Recorder.noted g.L.Recorder.is_listening c.args.self.now in
     nothing_read v Idle refl (inl (search rules))

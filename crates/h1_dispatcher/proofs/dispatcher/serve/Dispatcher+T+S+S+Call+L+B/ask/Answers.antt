@@ -12,9 +12,9 @@ feed-requires-clause-awaits g c = waiting_awaits _ c.requires.waits
 
 pub returns-in-Pending-clause-says : goal.returns-in-Pending-clause-says
 returns-in-Pending-clause-says g c =
-    let v = view_of g.T.Transport.wiring g.S.Service.served g.S.Service.calling g.B.MessageBody.gives g.L.Recorder.noted c.args.self.now in
-    let u = view_of g.T.Transport.wiring g.S.Service.served g.S.Service.calling g.B.MessageBody.gives g.L.Recorder.noted (record c.args.self.now { service = c.poll_ready.new.self }) in
-    let w = view_of g.T.Transport.wiring g.S.Service.served g.S.Service.calling g.B.MessageBody.gives g.L.Recorder.noted c.feed.new.self in
+    let v = view_of g.T.Transport.wiring g.S.Service.served g.S.Service.calling g.B.MessageBody.gives g.L.Recorder.noted g.L.Recorder.is_listening c.args.self.now in
+    let u = view_of g.T.Transport.wiring g.S.Service.served g.S.Service.calling g.B.MessageBody.gives g.L.Recorder.noted g.L.Recorder.is_listening (record c.args.self.now { service = c.poll_ready.new.self }) in
+    let w = view_of g.T.Transport.wiring g.S.Service.served g.S.Service.calling g.B.MessageBody.gives g.L.Recorder.noted g.L.Recorder.is_listening c.feed.new.self in
     let r = now_waiting v.stage c.requires.waits in
     feed_then 4 (omega arith) v u w (ready r.0 Pending) c.feed.result
     ((c.requires.running, r.1, c.requires.allowed, c.requires.room, c.requires.told, c.requires.unheld), tt, told_ready g.B.MessageBody.gives _ _ Pending c.in-Pending.ensures.says, ap (λ x. record v { service = u.service; stage = x }) r.1) tt
@@ -22,9 +22,9 @@ returns-in-Pending-clause-says g c =
 
 pub returns-in-Ready-Err-clause-says : goal.returns-in-Ready-Err-clause-says
 returns-in-Ready-Err-clause-says g c =
-    let v = view_of g.T.Transport.wiring g.S.Service.served g.S.Service.calling g.B.MessageBody.gives g.L.Recorder.noted c.args.self.now in
-    let u = view_of g.T.Transport.wiring g.S.Service.served g.S.Service.calling g.B.MessageBody.gives g.L.Recorder.noted (record c.args.self.now { service = c.poll_ready.new.self; work = Replying c.in-Ready-Err.response }) in
-    let w = view_of g.T.Transport.wiring g.S.Service.served g.S.Service.calling g.B.MessageBody.gives g.L.Recorder.noted c.hand_on.new.self in
+    let v = view_of g.T.Transport.wiring g.S.Service.served g.S.Service.calling g.B.MessageBody.gives g.L.Recorder.noted g.L.Recorder.is_listening c.args.self.now in
+    let u = view_of g.T.Transport.wiring g.S.Service.served g.S.Service.calling g.B.MessageBody.gives g.L.Recorder.noted g.L.Recorder.is_listening (record c.args.self.now { service = c.poll_ready.new.self; work = Replying c.in-Ready-Err.response }) in
+    let w = view_of g.T.Transport.wiring g.S.Service.served g.S.Service.calling g.B.MessageBody.gives g.L.Recorder.noted g.L.Recorder.is_listening c.hand_on.new.self in
     let r = now_waiting v.stage c.requires.waits in
     step_then 4 (omega arith) v u w (ready r.0 (Ready (Err (told_response g.B.MessageBody.gives c.in-Ready-Err.response)))) c.hand_on.result
     ((c.requires.running, r.1, c.requires.allowed, c.requires.room, c.requires.told, c.requires.unheld), tt, told_ready g.B.MessageBody.gives _ _ (Ready (Err c.in-Ready-Err.response)) (rw c.in-Ready-Err.field-0-is at c.in-Ready-Err.ensures.says), refl) tt
@@ -32,9 +32,9 @@ returns-in-Ready-Err-clause-says g c =
 
 pub returns-in-Waiting-clause-says : goal.returns-in-Waiting-clause-says
 returns-in-Waiting-clause-says g c =
-    let v = view_of g.T.Transport.wiring g.S.Service.served g.S.Service.calling g.B.MessageBody.gives g.L.Recorder.noted c.args.self.now in
-    let u = view_of g.T.Transport.wiring g.S.Service.served g.S.Service.calling g.B.MessageBody.gives g.L.Recorder.noted (record c.args.self.now { service = c.call.new.self; work = Calling c.call.result }) in
-    let w = view_of g.T.Transport.wiring g.S.Service.served g.S.Service.calling g.B.MessageBody.gives g.L.Recorder.noted c.answer.new.self in
+    let v = view_of g.T.Transport.wiring g.S.Service.served g.S.Service.calling g.B.MessageBody.gives g.L.Recorder.noted g.L.Recorder.is_listening c.args.self.now in
+    let u = view_of g.T.Transport.wiring g.S.Service.served g.S.Service.calling g.B.MessageBody.gives g.L.Recorder.noted g.L.Recorder.is_listening (record c.args.self.now { service = c.call.new.self; work = Calling c.call.result }) in
+    let w = view_of g.T.Transport.wiring g.S.Service.served g.S.Service.calling g.B.MessageBody.gives g.L.Recorder.noted g.L.Recorder.is_listening c.answer.new.self in
     let waits = ap (λ x. stage_of g.S.Service.calling g.B.MessageBody.gives x) (sym c.replace.ensures.value ∙ c.in-Waiting.is) in
     called_then v u w c.in-Waiting.request (g.S.Service.calling c.call.result).took c.answer.result (
       (c.requires.running, waits, c.requires.allowed, c.requires.room, c.requires.told, c.requires.unheld),

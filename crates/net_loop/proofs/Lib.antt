@@ -1,3 +1,0 @@
-pub mod Lives
-pub mod SeatLemmas
-pub mod TreeLemmas

@@ -1,4 +1,0 @@
-pub mod LoopRuns
-pub mod Slots
-pub mod Watching
-pub mod Tree

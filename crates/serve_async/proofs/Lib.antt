@@ -1,0 +1,3 @@
+mod Jobs
+pub mod Lives
+pub mod Waiting
