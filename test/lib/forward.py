@@ -67,6 +67,7 @@ def forward_clients(program, quick, files=None):
         bad_clients(forwarder.address)
         smuggling_clients(forwarder.address, server)
         log_clients(forwarder)
+        option_clients(program, server)
         slow = [] if quick else silent_clients(forwarder.address)
         if has("nginx"):
             nginx_clients(program)
@@ -136,13 +137,25 @@ def socket_clients(forwarder, server):
                                  b"Keep-Alive: 5\r\nUpgrade: h2c\r\nProxy-Connection: x\r\nX-Kept: 2\r\n\r\n")
         sent = seen.split(b"\r\n\r\n", 1)[1].decode().lower()
         lines = sorted(line.split(":")[0] for line in sent.strip().split("\r\n"))
-        return differs(lines, ["date", "get /head?a=1 http/1.1", "host", "x-kept"])
+        return differs(lines, ["date", "forwarded", "get /head?a=1 http/1.1", "host", "via", "x-forwarded-for", "x-forwarded-host",
+                               "x-forwarded-proto", "x-kept"])
     check("forwarder, no line for one connection is passed on", head)
+
+    def told():
+        with connect(address) as sock:
+            here = sock.getsockname()
+            sock.sendall(b"GET /head HTTP/1.1\r\nhost: a\r\nconnection: close, host\r\nx-forwarded-for: 10.0.0.1\r\nforwarded: for=x\r\n"
+                         b"x-forwarded-proto: https\r\nx-forwarded-host: c\r\nvia: 1.0 b\r\n\r\n")
+            sent = read_all(sock).split(b"\r\n\r\n", 1)[1].decode()
+        lines = [line for line in sent.strip().split("\r\n")[1:] if not line.startswith("date")]
+        return differs(lines, ["via: 1.0 b", "via: 1.1 raspcream", "host: a", "x-forwarded-for: 127.0.0.1",
+                               'forwarded: for="127.0.0.1:%d";proto=http' % here[1], "x-forwarded-proto: http", "x-forwarded-host: a"])
+    check("forwarder, what a client says of earlier clients is replaced", told)
 
     def reply():
         seen = exchange(address, LAST % b"hop-lines")
         lines = sorted(line.split(b":")[0].lower() for line in seen.split(b"\r\n\r\n")[0].split(b"\r\n")[1:])
-        return differs(lines, [b"connection", b"content-length", b"date", b"x-own"])
+        return differs(lines, [b"connection", b"content-length", b"date", b"via", b"x-own"])
     check("forwarder, nor is one of an answer", reply)
 
     def pipelined():
@@ -323,9 +336,50 @@ def smuggling_clients(address, server):
     arrives("extensions and trailers of chunks", b"POST /echo HTTP/1.1\r\nhost: a\r\nconnection: close\r\ntransfer-encoding: chunked\r\n\r\n"
             b"3;a=b\r\nabc\r\n0\r\nsmuggled: 1\r\n\r\n", [b"200"], [b"POST /echo HTTP/1.1"])
     arrives("CONNECT", b"CONNECT a:80 HTTP/1.1\r\nhost: a\r\n\r\n", [b"501"], [])
-    arrives("a target that is a URL", b"GET http://smuggled/ HTTP/1.1\r\nhost: a\r\nconnection: close\r\n\r\n", [b"501"], [])
-    arrives("OPTIONS of all", b"OPTIONS * HTTP/1.1\r\nhost: a\r\nconnection: close\r\n\r\n", [b"501"], [])
+    arrives("a target that is a URL", b"GET http://b:8/x HTTP/1.1\r\nhost: a\r\nconnection: close\r\n\r\n", [b"200"], [b"GET /x HTTP/1.1"])
+    arrives("a URL of another scheme", b"GET ftp://smuggled/ HTTP/1.1\r\nhost: a\r\nconnection: close\r\n\r\n", [b"501"], [])
+    arrives("OPTIONS of all", b"OPTIONS * HTTP/1.1\r\nhost: a\r\nconnection: close\r\n\r\n", [b"200"], [b"OPTIONS * HTTP/1.1"])
+    for name, head in (
+        ("no Host", b"GET /smuggled HTTP/1.1\r\n"),
+        ("two Hosts", b"GET /smuggled HTTP/1.1\r\nhost: a\r\nhost: a\r\n"),
+        ("a Host with a blank", b"GET /smuggled HTTP/1.1\r\nhost: a b\r\n"),
+        ("a Host with a user", b"GET /smuggled HTTP/1.1\r\nhost: u@a\r\n"),
+        ("a Host with a path", b"GET /smuggled HTTP/1.1\r\nhost: a/b\r\n"),
+        ("a byte from 128 on in the target", b"GET /\xc3\xa4 HTTP/1.1\r\nhost: a\r\n"),
+        ("a fragment", b"GET /smuggled#x HTTP/1.1\r\nhost: a\r\n"),
+        ("a target that is no path", b"GET smuggled HTTP/1.1\r\nhost: a\r\n"),
+    ):
+        arrives(name, head + b"\r\n" + inner, [b"400"], [])
     arrives("a head of 200,000 bytes", b"GET / HTTP/1.1\r\nx: " + b"x" * 200_000 + b"\r\n\r\n", [b"431"], [])
+
+
+def option_clients(program, server):
+    with Forwarder(program, server.address, "--trust-forwarded") as forwarder:
+        def trusted():
+            seen = exchange(forwarder.address, b"GET /head HTTP/1.1\r\nhost: a\r\nconnection: close\r\nx-forwarded-for: 10.0.0.1\r\n"
+                                               b"x-forwarded-proto: https\r\n\r\n")
+            return differs([wanted in seen for wanted in (b"x-forwarded-for: 10.0.0.1\r\nx-forwarded-for: 127.0.0.1\r\n",
+                                                          b"x-forwarded-proto: https\r\n", b"x-forwarded-proto: http\r\n")], [True, True, False])
+        check("forwarder, --trust-forwarded", trusted)
+    with Forwarder(program, server.address, "--limit", "stall=2000", "--limit", "drain=1000") as forwarder:
+        def stalls(name, begin, after):
+            def make():
+                start = time.monotonic()
+                with connect(forwarder.address) as sock:
+                    sock.settimeout(20)
+                    sock.sendall(begin)
+                    try:
+                        seen = read_all(sock)
+                    except OSError:
+                        seen = b""
+                return differs((statuses_of(seen), after < time.monotonic() - start < after + 5), ([b"200"] if b"early" in begin else [], True))
+            check("forwarder, " + name, make)
+        stalls("a client that sends nothing of a body", b"POST /echo HTTP/1.1\r\nhost: a\r\ncontent-length: 100\r\n\r\nhalf", 1)
+    with Forwarder(program, server.address, "--lax") as forwarder:
+        def lax():
+            seen = exchange(forwarder.address, b"GET /head HTTP/1.1\r\nconnection: close\r\n\r\n")
+            return differs((statuses_of(seen), b"host: %s:%d\r\n" % (b"127.0.0.1", server.address[1]) in seen), ([b"200"], True))
+        check("forwarder, --lax", lax)
 
 
 def log_clients(forwarder):

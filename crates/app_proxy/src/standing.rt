@@ -1,9 +1,8 @@
 //! How a client and the server that is asked for it stand to their sockets.
 ghost use Rattle.std.specs.Prelude.{◌≡◌};
-ghost use Rattle.app_proxy.specs.Patience.{moved, silence, is_too_long, ticked};
+ghost use Rattle.app_proxy.specs.Patience.{moved, silence, is_too_long, is_slow, paced, ticked};
 
-/// How long a side that is waited for may move nothing, in milliseconds.
-const MAX_SILENCE: u64 = 60_000;
+use crate::limits::Limits;
 
 /// What a socket may do without waiting, as far as it is known.
 #[derive(Clone, Copy)]
@@ -62,6 +61,26 @@ pub enum Stage {
     Lost,
 }
 
+/// How many bytes came from a client since a moment of uptime, in milliseconds.
+#[derive(Clone, Copy)]
+pub struct Pace {
+    pub since: u64,
+    pub moved: u64,
+}
+
+/// What a client is waited for.
+#[derive(Clone, Copy)]
+pub struct Awaited {
+    /// Bytes wait for it to take.
+    pub takes: bool,
+
+    /// It is to send more.
+    pub sends: bool,
+
+    /// It sends the rest of a body behind its reply.
+    pub drains: bool,
+}
+
 /// How both sides stand. Times are in milliseconds of uptime.
 #[derive(Clone, Copy)]
 pub struct Standing {
@@ -75,8 +94,17 @@ pub struct Standing {
     /// When it last took bytes, or none waited for it.
     pub client_moved: u64,
 
+    /// What came from it in a span in which it is to send.
+    pub pace: Pace,
+
+    /// When it last had no rest of a body to send behind its reply.
+    pub drained: u64,
+
     /// When the server last gave bytes of an answer, or took some, or wasn't waited for.
     pub server_moved: u64,
+
+    /// When the connection to the server was last in use.
+    pub used: u64,
 }
 
 impl Standing {
@@ -88,38 +116,82 @@ impl Standing {
             server: Ready::unknown(),
             asked: uptime,
             client_moved: uptime,
+            pace: Pace {
+                since: uptime,
+                moved: 0,
+            },
+            drained: uptime,
             server_moved: uptime,
+            used: uptime,
         }
     }
 
-    /// The time is told, and whether bytes wait for the client. A client that takes nothing for too long is done with.
-    pub fn tick_client(&mut self, waits: bool, uptime: u64)
-        ensures stage { self.new.stage ≡ ticked self.old.stage (silence waits self.old.client_moved uptime) uptime }
-        ensures moved { self.new.client_moved ≡ moved waits self.old.client_moved uptime }
-        ensures others { record self.new { stage = self.old.stage; client_moved = self.old.client_moved } ≡ self.old }
+    /// The time is told, and what the client is waited for. One that takes nothing for too long, sends too little, or sends a
+    /// body's rest for too long is done with.
+    pub fn tick_client(&mut self, limits: &Limits, awaited: Awaited, uptime: u64)
+        ensures stage { self.new.stage ≡ ticked limits.now self.old.stage (silence awaited.takes self.old.client_moved uptime)
+            (silence awaited.drains self.old.drained uptime) (is_slow limits.now self.old.pace awaited.sends uptime) uptime }
+        ensures moved { self.new.client_moved ≡ moved awaited.takes self.old.client_moved uptime }
+        ensures drained { self.new.drained ≡ moved awaited.drains self.old.drained uptime }
+        ensures paced { self.new.pace ≡ paced limits.now.stall self.old.pace awaited.sends uptime }
+        ensures others { record self.new { stage = self.old.stage; client_moved = self.old.client_moved; drained = self.old.drained; pace = self.old.pace } ≡ self.old }
     {
+        let is_slow = self.pace.tick(limits, awaited.sends, uptime);
         if let Stage::Lingering(until) = self.stage
             && uptime >= until
         {
             self.stage = Stage::Lost;
         }
-        if !waits {
+        if !awaited.takes {
             self.client_moved = uptime;
         }
-        if uptime.saturating_sub(self.client_moved) >= MAX_SILENCE {
+        if !awaited.drains {
+            self.drained = uptime;
+        }
+        let is_silent = uptime.saturating_sub(self.client_moved) >= limits.reader;
+        let is_drained = uptime.saturating_sub(self.drained) >= limits.drain;
+        if is_silent || is_slow || is_drained {
             self.stage = Stage::Lost;
         }
     }
 
     /// The time is told, and whether the server is waited for. It says whether that has taken too long.
-    pub fn tick_server(&mut self, is_awaited: bool, uptime: u64) -> bool
-        ensures silent { result ≡ is_too_long (silence is_awaited self.old.server_moved uptime) }
+    pub fn tick_server(&mut self, limits: &Limits, is_awaited: bool, uptime: u64) -> bool
+        ensures silent { result ≡ is_too_long limits.now.server (silence is_awaited self.old.server_moved uptime) }
         ensures moved { self.new.server_moved ≡ moved is_awaited self.old.server_moved uptime }
         ensures others { record self.new { server_moved = self.old.server_moved } ≡ self.old }
     {
         if !is_awaited {
             self.server_moved = uptime;
         }
-        uptime.saturating_sub(self.server_moved) >= MAX_SILENCE
+        uptime.saturating_sub(self.server_moved) >= limits.server
+    }
+}
+
+impl Pace {
+    /// So many bytes came.
+    pub fn count(&mut self, count: usize) {
+        self.moved = self.moved.saturating_add(count as u64);
+    }
+
+    // The time is told, and whether the client is to send. It says whether it sent too little.
+    fn tick(&mut self, limits: &Limits, is_to_send: bool, uptime: u64) -> bool
+        ensures slow { result ≡ is_slow limits.now self.old is_to_send uptime }
+        ensures paced { self.new ≡ paced limits.now.stall self.old is_to_send uptime }
+    {
+        let fresh = Pace {
+            since: uptime,
+            moved: 0,
+        };
+        if !is_to_send {
+            *self = fresh;
+            return false;
+        }
+        if uptime.saturating_sub(self.since) < limits.stall {
+            return false;
+        }
+        let is_slow = self.moved < limits.least;
+        *self = fresh;
+        is_slow
     }
 }

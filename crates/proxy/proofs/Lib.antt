@@ -12,3 +12,4 @@ pub mod Fresh
 pub mod Times
 pub mod Replies
 pub mod Carried
+pub mod Still

@@ -16,7 +16,7 @@ use Rattle.proxy.specs.declared.proxy.Unsent.{Unsent}
 use Rattle.model_proxy.specs.Past.{ProxyStep, now}
 use Rattle.model_proxy.specs.Happenings.{Happenings}
 use Rattle.proxy.specs.Kept.{Forwards}
-use Rattle.proxy.specs.Rests.{may_begin, is_over, may_turn, IsNoted}
+use Rattle.proxy.specs.Rests.{is_over, may_turn, IsNoted}
 
 -- Nothing of an earlier answer is to come: no request waits for its answer, the last answer was read to its end, and no byte is left.
 pub record HasReadAll (s : servers.State) : Type 0 where
@@ -78,12 +78,9 @@ SendsWhereItCan old new = (u : Unsent) → old.unsent ≡ Some u → ((may_turn 
 abbrev pub ClosesOver : Proxy → Proxy → Type 0
 ClosesOver old new = is_over old.server ≡ true → old.sent ≡ None → new ≡ record old { server = None }
 
--- Where turns aren't made, nothing is done; and where 32768 bytes wait towards a server while no request was sent on, at most its connection is
--- closed, as it is to end.
+-- Where turns aren't made, nothing is done; and while no request was sent on, a server connection that is to end is closed before all else.
 abbrev pub BeginsWhereItMay : Proxy → Proxy → Type 0
-BeginsWhereItMay old new =
-    (new ≡ old)
-    ⊎ ((may_turn old ≡ true) × ((may_begin old.sent old.server ≡ true) ⊎ ((is_over old.server ≡ true) × (new ≡ record old { server = None }))))
+BeginsWhereItMay old new = (new ≡ old) ⊎ ((may_turn old ≡ true) × ClosesOver old new)
 
 -- the answer's head is read from a piece of these bytes
 pub record IsReadFrom (setting : Setting) (bytes : List ℕ) (a : Answer) : Type 0 where

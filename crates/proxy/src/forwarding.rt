@@ -1,42 +1,36 @@
 //! What a forwarder does of its own between two events, turn by turn.
 #![tactic(auto)]
 
-ghost use Rattle.std.specs.Prelude.{◌≡◌, ◌<◌, ◌+◌, ◌*◌, ◌||◌, [], IsTrue, None, Some, true, false, not, is_some, length, OnOk, IfOk};
-ghost use Rattle.model_h1.specs.Event as on;
-ghost use Rattle.model_h1.specs.Request.{Head};
-ghost use Rattle.model_h1.specs.Answer.{asked_of};
-ghost use Rattle.h1_decoder.specs.HeadItem.{SaysHead};
+ghost use Rattle.std.specs.Prelude.{◌≡◌, ◌<◌, ◌+◌, ◌*◌, ◌||◌, [], IsTrue, None, Some, true, false, not, is_some, length, OnOk, IfOk, IsOk};
 ghost use Rattle.proxy.specs.Sides.{ServerStays, SendsBody};
 ghost use Rattle.proxy.specs.Wants.{IsTold};
 ghost use Rattle.model_proxy.specs.Rests.{MAX_WAITING};
-ghost use Rattle.proxy.specs.Kept.{Goes, GoesWith, GoesUnsent, GoesFrom, HoldsNoRequest, Runs, GoesBroken};
+ghost use Rattle.proxy.specs.Kept.{Goes, GoesWith, GoesUnsent, HoldsNoRequest, Runs, GoesBroken, is_closing};
 ghost use Rattle.proxy.specs.Served.{Serving, GoesOnServing, HasNoReply, HasNoReplyTo};
-ghost use Rattle.proxy_heads.specs.ForwardedMeaning.{status_of};
 ghost use Rattle.h1_client.specs.State as servers;
 ghost use Rattle.model_client.specs.ClientKept.{client_closing};
 ghost use Rattle.proxy.specs.Puts.{ends};
 ghost use Rattle.proxy.specs.Fresh.{is_used, is_server_used, IsToldTime, SendsOrWaits, SendsWhereItCan, ClosesOver, BeginsWhereItMay};
-ghost use Rattle.proxy.specs.Replies.{own, KeepsIdle, KeepsFor, may_keep, ReplyIsOver, marks_of, PutsLast, TurnReplies, HasReplied, Fails, Breaks, PassesBody, PassesHead, TakesAnswer, Opens};
-ghost use Rattle.proxy.specs.Rests.{may_begin, is_over, may_turn, Settles, LeavesLess, LeavesMore, Works, WorksBody, Turns, IsNotToEnd};
+ghost use Rattle.proxy.specs.Replies.{refusal_part, KeepsIdle, may_keep, ReplyIsOver, marks_of, PutsLast, TurnReplies, HasReplied, Fails, Breaks, PassesBody, PassesHead, TakesAnswer};
+ghost use Rattle.proxy.specs.Rests.{may_begin, is_over, may_turn, Settles, LeavesLess, Works, WorksBody, Turns, IsNotToEnd};
 
 use crate::downstream::{
-    cut_reply, leave_body, next_bytes, next_head, put_end, put_head, put_piece, tell_to_continue,
+    cut_reply, leave_body, next_bytes, next_head, put_end, put_head, put_piece,
 };
 use crate::proxy::{MAX_WAITING, Proxy, SentRequest, Unsent};
 use crate::upstream::{ask, next_answer, next_piece, sends_body, tick_server};
 use h1_client::{ClientConnection, NextAnswer, ResponseItem};
-use h1_connection::{BodySize, HeadItem, NextHead, NoMemory, Pulled, StatusCode};
-use proxy_heads::{
-    AnswerUse, Refusal, answer_use, is_forwardable, reply_head, reply_size, says_close,
-};
+use h1_connection::{BodySize, NextHead, NoMemory, Pulled, StatusCode};
+use proxy_heads::{AnswerUse, Refusal, answer_use, reply_head, reply_size, says_close};
 
 impl Proxy {
-    /// Makes turns until none is possible.
+    /// Makes turns until none is possible. Where none may be made it takes no memory.
     pub(crate) fn settle(&mut self) -> Result<(), NoMemory>
         ensures goes { OnOk result (Goes self.old self.new) }
         ensures rests { OnOk result (Settles self.old self.new) }
         ensures serves { OnOk result (GoesOnServing self.old self.new) }
         ensures replies { OnOk result (HasReplied self.old self.new) }
+        ensures no_memory_needed { may_turn self.old ≡ false → IsOk result }
     {
         for turn in 0..self.most_turns() {
             let more = self.turn()?;
@@ -49,9 +43,9 @@ impl Proxy {
 
     // No more turns are possible one after another: 32 for each byte that may be held of a side, and 8.
     fn most_turns(&self) -> usize
-        ensures { result ≡ 32 * self.now.config.h1_hold_size + 8 }
+        ensures { result ≡ 32 * self.now.config.connections.h1_hold_size + 8 }
     {
-        32 * self.config.h1_hold_size() + 8
+        32 * self.config.connections.h1_hold_size() + 8
     }
 
     // The first turn that is possible; whether there was one.
@@ -63,6 +57,7 @@ impl Proxy {
         ensures begins { OnOk result (BeginsWhereItMay self.old self.new) }
         ensures sends { OnOk result (SendsWhereItCan self.old self.new) }
         ensures keeps { OnOk result (KeepsIdle self.old self.new) }
+        ensures no_memory_needed { may_turn self.old ≡ false → IsOk result }
     {
         if self.is_still() {
             return Ok(false);
@@ -169,9 +164,10 @@ impl Proxy {
         }
     }
 
-    // No request waits.
+    // No request waits, and the client's connection isn't to end.
     fn go_on(&mut self) -> Result<bool, NoMemory>
         requires unsent { self.old.unsent ≡ None }
+        requires going { is_closing self.old ≡ false }
         ensures goes { OnOk result (Goes self.old self.new) }
         ensures works { IfOk result (λ more. Works more self.old self.new) }
         ensures serves { OnOk result (GoesOnServing self.old self.new) }
@@ -194,6 +190,7 @@ impl Proxy {
     // No request is under way: the server connection is idle.
     fn begin(&mut self) -> Result<bool, NoMemory>
         requires idle { HoldsNoRequest self.old }
+        requires going { is_closing self.old ≡ false }
         ensures goes { OnOk result (Goes self.old self.new) }
         ensures works { IfOk result (λ more. Works more self.old self.new) }
         ensures serves { OnOk result (GoesOnServing self.old self.new) }
@@ -212,6 +209,7 @@ impl Proxy {
     // The next request's head; the server connection, if there is one, isn't to end.
     fn take_head(&mut self) -> Result<bool, NoMemory>
         requires idle { HoldsNoRequest self.old }
+        requires going { is_closing self.old ≡ false }
         requires goes_on { IsNotToEnd self.old.server }
         ensures goes { OnOk result (Goes self.old self.new) }
         ensures works { IfOk result (λ more. Works more self.old self.new) }
@@ -231,26 +229,6 @@ impl Proxy {
             NextHead::Pending => Ok(false),
             NextHead::Closed(_) => Ok(false),
         }
-    }
-
-    // A request is open. One that can't be sent on gets 501, and the server connection is closed.
-    fn open(&mut self, item: HeadItem) -> Result<(), NoMemory>
-        requires idle { HoldsNoRequest self.old }
-        ensures goes { OnOk result (GoesFrom item self.old self.new) }
-        ensures works { OnOk result (LeavesMore 3 self.old self.new) }
-        ensures serves { OnOk result ((h : Head) → SaysHead item h → HasNoReplyTo (asked_of h).is_head self.old → Serving self.new) }
-        ensures replies { OnOk result (Opens item self.old.client self.new) }
-        ensures keeps { OnOk result (KeepsFor item self.old self.new) }
-    {
-        if !is_forwardable(&item) {
-            self.server = None;
-            self.note_request(item.head);
-            self.reply(Refusal::NotForwardable)?;
-            return Ok(());
-        }
-        self.unsent = Some(Unsent::new(item));
-        tell_to_continue(&mut self.client)?;
-        Ok(())
     }
 
     // A request is under way.
@@ -547,7 +525,7 @@ impl Proxy {
         ensures goes { OnOk result (Goes self.old self.new) }
         ensures works { OnOk result (LeavesLess 0 self.old self.new) }
         ensures serves { OnOk result (HoldsNoRequest self.old → HasNoReply self.old → Serving self.new) }
-        ensures replies { OnOk result (PutsLast [] (own (status_of refusal)) self.old.client self.new.client) }
+        ensures replies { OnOk result (PutsLast [] (refusal_part refusal) self.old.client self.new.client) }
         ensures idle { OnOk result (HoldsNoRequest self.old → HoldsNoRequest self.new) }
         ensures server { OnOk result (self.new.server ≡ self.old.server) }
     {
@@ -627,10 +605,11 @@ fn has_read_all(server: &ClientConnection) -> bool
     server.can_next()
 }
 
-// Whether more of the request's body may be sent on.
+// Whether more of the request's body may be sent on: never where 32768 bytes wait towards the server.
 fn may_send(sent: SentRequest, server: &ClientConnection) -> bool
     ensures sends { IsTrue result → SendsBody server.now }
     ensures more { IsTrue result → (sent.is_whole ≡ false) × (sent.is_broken ≡ false) }
+    ensures room { IsTrue result → length server.now.kept.buffered < MAX_WAITING }
     ensures none { result ≡ false → sent.is_whole ≡ false → sent.is_broken ≡ false → length server.now.kept.buffered < MAX_WAITING → SendsBody server.now → ⊥ }
 {
     if sent.is_whole {

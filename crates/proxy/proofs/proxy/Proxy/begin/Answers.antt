@@ -9,7 +9,7 @@ use Rattle.proxy.proofs.Puts.{puts_none}
 use Rattle.proxy.proofs.proxy.Proxy.begin.Goals as goal
 
 pub take_head-requires : goal.take_head-requires
-take_head-requires c = record { idle = c.requires.idle; goes_on = c.is_server_over.ensures.goes_on c.if-is_server_over.false }
+take_head-requires c = record { idle = c.requires.idle; going = c.requires.going; goes_on = c.is_server_over.ensures.goes_on c.if-is_server_over.false }
 
 pub returns-then-is_server_over-clause-goes : goal.returns-then-is_server_over-clause-goes
 returns-then-is_server_over-clause-goes c = closes c.args.self.now

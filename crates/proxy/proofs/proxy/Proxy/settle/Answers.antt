@@ -2,6 +2,10 @@ use Rattle.std.proofs.Common.{arith}
 use Rattle.proxy.proofs.Moves.{goes_same, goes_then}
 use Rattle.proxy.proofs.Work.{told_of, more_turns, no_more_turns, too_many}
 use Rattle.proxy.specs.Replies.{nothing, turned}
+use Rattle.std.proofs.Common.{ap, ◌∙◌}
+use Rattle.std.proofs.lemmas.Bool.{false≢true}
+use Rattle.proxy.specs.Rests.{may_turn}
+use Rattle.proxy.proofs.Still.{still_turns}
 use Rattle.proxy.proofs.proxy.Proxy.settle.Goals as goal
 
 pub loop-turn-init : goal.loop-turn-init
@@ -38,3 +42,7 @@ returns-then-not-more-clause-replies c = turned _ _ c.loop-turn.invariant.replie
 
 pub returns-clause-replies : goal.returns-clause-replies
 returns-clause-replies c = c.loop-turn.invariant.replies
+
+pub returns-in_err-more-clause-no_memory_needed : goal.returns-in_err-more-clause-no_memory_needed
+returns-in_err-more-clause-no_memory_needed c = λ still.
+    absurd (false≢true (c.in_err-more.ensures.no_memory_needed (ap may_turn (still_turns c.args.self.now c.loop-turn.self still c.loop-turn.invariant.replies) ∙ still)))

@@ -46,7 +46,7 @@ returns-in-Closed-clause-works c = idle_rests on.done c.args.self.now c.next_hea
 pub returns-in_ok-open-in-Head-clause-serves : goal.returns-in_ok-open-in-Head-clause-serves
 returns-in_ok-open-in-Head-clause-serves c = λ s.
     let x = head_opens c.in-Head.item c.args.self.now c.next_head.new.client (subst (λ (n : NextHead). BringsNext n c.args.self.now.client c.next_head.new.client) c.in-Head.is c.in_ok-item.ensures.brings) (subst (λ (n : NextHead). Wants (WantsNext n) c.args.self.now.client c.next_head.new.client) c.in-Head.is c.in_ok-item.ensures.wants) s in
-    c.in_ok-open-in-Head.ensures.serves x.0 x.1 x.2
+    c.in_ok-open-in-Head.ensures.serves x.0 x.1 x.2 x.3
 
 pub returns-in_ok-note_fault-in-Fault-clause-serves : goal.returns-in_ok-note_fault-in-Fault-clause-serves
 returns-in_ok-note_fault-in-Fault-clause-serves c = λ s.
@@ -78,11 +78,11 @@ returns-in-Pending-clause-replies c =
 pub returns-in-Closed-clause-replies : goal.returns-in-Closed-clause-replies
 returns-in-Closed-clause-replies c =
     let x = subst (λ (n : NextHead). HandsNext n c.args.self.now.client c.next_head.new.client) c.in-Closed.is c.in_ok-item.ensures.hands in
-    closed_replies c.args.self.now c.next_head.new.client c.requires.idle x.0 x.1
+    closed_replies c.args.self.now c.next_head.new.client c.requires.idle c.requires.going x.1
 
 pub returns-in_ok-open-in-Head-clause-keeps : goal.returns-in_ok-open-in-Head-clause-keeps
 returns-in_ok-open-in-Head-clause-keeps c =
-    head_keeps c.args.self.now (record c.args.self.now { client = c.next_head.new.client }) c.open.new.self c.in-Head.item refl
+    head_keeps c.args.self.now (record c.args.self.now { client = c.next_head.new.client }) c.open.new.self c.in-Head.item refl refl
     (subst (λ (n : NextHead). HandsNext n c.args.self.now.client c.next_head.new.client) c.in-Head.is c.in_ok-item.ensures.hands) c.in_ok-open-in-Head.ensures.keeps
 
 pub returns-in_ok-note_fault-in-Fault-clause-keeps : goal.returns-in_ok-note_fault-in-Fault-clause-keeps
