@@ -12,7 +12,7 @@ use mio::unix::SourceFd;
 use mio::{Events, Interest, Poll, Token};
 use net_sockets::{moment, uptime};
 use proxy_loop::{Edge, Forwarder, NoMemory, ProxyConfig, ServiceConfig};
-use std::alloc::{AllocError, Global};
+use std::alloc::Global;
 use std::io::{ErrorKind, Read};
 use std::net::SocketAddr;
 use std::time::Duration;
@@ -237,8 +237,7 @@ impl Server {
 
     // A forwarder that knows the client and the time.
     fn new_forwarder(&self, peer: SocketAddr, moment: u64) -> Result<Forwarder, NoMemory> {
-        // No text of an address has a byte that no value has.
-        let mut edge = Edge::new(self.alloc, peer, self.target.server).map_err(|_| AllocError)?;
+        let mut edge = Edge::new(self.alloc, peer, self.target.server)?;
         edge.trusts_client = self.target.trusts_clients;
         edge.is_lax = self.target.is_lax;
         let config = ProxyConfig {

@@ -1,8 +1,8 @@
 -- What a server gets for a target is one.
 use Rattle.std.proofs.Common.{◌≡◌, ℕ, ◌+◌, ◌<◌, ◌≤◌, Bool, true, false, not, ◌&&◌, ◌||◌, cond, List, [], ◌∷◌, ◌++◌, length, get_or, take, drop, codes, refl, sym, ap, ◌∙◌, subst, inl, inr, arith, lit≤, lt-ltb, length-take, length-drop, length-append, Option, Some, None, IsTrue}
-use Rattle.std.specs.Prelude.{nat_eq, nat_lt, bytes_eq, IsUtf8, IfSome, ◌==◌, is_some}
+use Rattle.std.specs.Prelude.{nat_eq, nat_lt, bytes_eq, IsUtf8, IfSome, ◌==◌, if◌then◌else◌, option_map}
 use Rattle.std.specs.List.{starts_with}
-use Rattle.std.proofs.lemmas.Bool.{false≢true, eqb-true, and_parts}
+use Rattle.std.proofs.lemmas.Bool.{false≢true, eqb-true, and_parts, and_right}
 use Rattle.std.proofs.lemmas.List.Elements.{All-cons, All-nil, All-drop}
 use Rattle.std.proofs.lemmas.Slice.Eq.{bytes_eq-Decides}
 use Rattle.std.proofs.lemmas.Str.{IsUtf8-append, IsUtf8-from_ascii}
@@ -15,7 +15,7 @@ use Rattle.http_uri.proofs.SchemeLemmas.{length_of_folded}
 use Rattle.http_uri.proofs.UriLemmas.{cut_rest, cut_authority, cut_tail, cut_long, IsAuthority_no_scheme}
 use Rattle.http_uri.proofs.PathLemmas.{IsPathAndQuery_slash}
 use Rattle.model_h1.specs.RequestHead.{IsTarget}
-use Rattle.model_proxy.specs.Targets.{is_http, behind_http, authority_in, authority_of, is_asterisk, is_servable, origin_of, target_sent}
+use Rattle.model_proxy.specs.Targets.{is_http, behind_http, authority_in, authority_of, is_asterisk, is_at_host, is_servable, origin_of, has_no_path, asks_for_all, target_sent}
 use Rattle.model_proxy.proofs.Paths.{cut_cons, cut_hash, cut_again, cut_short, cut_path, slashed, target_cut, some_cut, utf8_cut, visible_cut}
 
 -- ---- a target of `http`
@@ -48,11 +48,26 @@ slash_len : (text : List ℕ) → get_or text 0 0 ≡ 47 → scheme_len text ≡
 slash_len [] e = absurd (omega (arith, e))
 slash_len (b ∷ bytes) e = ap (λ c. scheme_len (c ∷ bytes)) e
 
--- so a path is kept
-pub path_kept : (text : List ℕ) → starts_with nat_eq text (codes "/") ≡ true → target_sent text ≡ without_fragment text
-path_kept text begins =
+-- so it is no target of `http`
+no_http : (text : List ℕ) → starts_with nat_eq text (codes "/") ≡ true → behind_http text ≡ None
+no_http text begins =
     let cut = slashed text begins in
-    subst (λ (t : List ℕ). target_sent t ≡ without_fragment t) (sym cut.is) refl
+    subst (λ (t : List ℕ). behind_http t ≡ None) (sym cut.is) refl
+
+-- where no whole server is asked for
+not_all : (method text : List ℕ) → asks_for_all method text ≡ false → target_sent method text ≡ origin_of (behind_http text) text
+not_all method text no = ap (λ (t : Bool). if t then codes "*" else origin_of (behind_http text) text) no
+
+-- and where one is
+is_all : (method text : List ℕ) → asks_for_all method text ≡ true → target_sent method text ≡ codes "*"
+is_all method text all = ap (λ (t : Bool). if t then codes "*" else origin_of (behind_http text) text) all
+
+-- so a path is kept
+pub path_kept : (method text : List ℕ) → starts_with nat_eq text (codes "/") ≡ true → target_sent method text ≡ without_fragment text
+path_kept method text begins =
+    let none = no_http text begins in
+    not_all method text (and_right (bytes_eq method (codes "OPTIONS")) (has_no_path (behind_http text)) (ap has_no_path none))
+    ∙ ap (λ (o : Option (List ℕ)). origin_of o text) none
 
 -- its parts are those of an absolute URI
 pub record IsAbsolute (text : List ℕ) (scheme authority : Option (List ℕ)) (kept : List ℕ) : Type 0 where
@@ -189,9 +204,31 @@ star_sound text is x = subst (λ (t : List ℕ). IsSound (without_fragment t)) (
 slash_sound : (text : List ℕ) → starts_with nat_eq text (codes "/") ≡ true → IsTarget text → IsSound (without_fragment text)
 slash_sound text begins x = record { target = target_cut text begins x; some = some_cut text begins; utf8 = utf8_cut text begins x }
 
--- all that a server can be asked for
-pub sent_sound : (method text : List ℕ) → is_servable method text ≡ true → IsTarget text → IsSound (target_sent text)
-sent_sound method text may x = by_http (behind_http text) refl may
+-- `*` is one for a server as a whole
+IsPathAndQuery_star : IsPathAndQuery (codes "*")
+IsPathAndQuery_star = record {
+  start = inr (inl refl);
+  path = All-cons (λ b. IsTrue (is_path_byte b)) 42 [] refl (All-nil (λ b. IsTrue (is_path_byte b)));
+  query = tt;
+  utf8 = IsUtf8-from_ascii _ (IsAscii-cons 42 [] (omega arith) IsAscii-nil);
+  short = lit≤ tt;
+}
+
+star_alone : IsSound (codes "*")
+star_alone = record {
+  target = (
+    None,
+    None,
+    codes "*",
+    (lit≤ tt, ((inl refl, record { start = inl refl; short = lit≤ tt; kept = IsPathAndQuery_star }), refl)),
+  );
+  some = omega arith;
+  utf8 = IsUtf8-from_ascii _ (IsAscii-cons 42 [] (omega arith) IsAscii-nil);
+}
+
+-- all that a server can be asked for, as an origin is
+origin_sound : (method text : List ℕ) → is_servable method text ≡ true → IsTarget text → IsSound (origin_of (behind_http text) text)
+origin_sound method text may x = by_http (behind_http text) refl may
   where
     by_star : (star : Bool) → is_asterisk text ≡ star → (star && bytes_eq method (codes "OPTIONS")) ≡ true → IsSound (without_fragment text)
     by_star true is e = star_sound text ((bytes_eq-Decides text (codes "*")).0 is) x
@@ -203,7 +240,8 @@ sent_sound method text may x = by_http (behind_http text) refl may
     by_slash false is e = by_star (is_asterisk text) refl e
 
     by_http : (o : Option (List ℕ)) → behind_http text ≡ o
-        → (starts_with nat_eq text (codes "/") || (is_some o || (is_asterisk text && bytes_eq method (codes "OPTIONS")))) ≡ true → IsSound (target_sent text)
+        → (starts_with nat_eq text (codes "/") || (is_at_host (option_map authority_in o) || (is_asterisk text && bytes_eq method (codes "OPTIONS")))) ≡ true
+        → IsSound (origin_of (behind_http text) text)
     by_http None is may = subst (λ (o : Option (List ℕ)). IsSound (origin_of o text)) (sym is) (by_slash (starts_with nat_eq text (codes "/")) refl may)
     by_http (Some rest) is may =
         let http = http_of text rest is in
@@ -211,6 +249,14 @@ sent_sound method text may x = by_http (behind_http text) refl may
         subst (λ (o : Option (List ℕ)). IsSound (origin_of o text)) (sym is)
         (subst (λ (t : List ℕ). IsSound (path_and_query_text (without_fragment t))) (sym (tail_is text rest parts.name parts.host x.2 http parts.form))
         (of_tail parts.form.tail x.2 (tail_short text parts.name parts.host x.2 x.3.0 parts.form) parts.form.is_tail))
+
+-- and as a whole server
+pub sent_sound : (method text : List ℕ) → is_servable method text ≡ true → IsTarget text → IsSound (target_sent method text)
+sent_sound method text may x = by_all (asks_for_all method text) refl
+  where
+    by_all : (all : Bool) → asks_for_all method text ≡ all → IsSound (target_sent method text)
+    by_all true is = subst IsSound (sym (is_all method text is)) star_alone
+    by_all false is = subst IsSound (sym (not_all method text is)) (origin_sound method text may x)
 
 -- ---- its bytes
 
@@ -222,10 +268,10 @@ slashed_visible text all = by_test ((get_or text 0 0 == 47) || (get_or text 0 0 
     by_test true = all
     by_test false = All-cons (λ b. IsTrue (is_uri_byte b)) 47 text refl all
 
-pub sent_visible : (text : List ℕ) → AllPass is_uri_byte text → AllPass is_uri_byte (target_sent text)
-sent_visible text all = by_http (behind_http text) refl
+origin_visible : (text : List ℕ) → AllPass is_uri_byte text → AllPass is_uri_byte (origin_of (behind_http text) text)
+origin_visible text all = by_http (behind_http text) refl
   where
-    by_http : (o : Option (List ℕ)) → behind_http text ≡ o → AllPass is_uri_byte (target_sent text)
+    by_http : (o : Option (List ℕ)) → behind_http text ≡ o → AllPass is_uri_byte (origin_of (behind_http text) text)
     by_http None is = subst (λ (o : Option (List ℕ)). AllPass is_uri_byte (origin_of o text)) (sym is) (visible_cut text all)
     by_http (Some rest) is =
         let http = http_of text rest is in
@@ -234,3 +280,10 @@ sent_visible text all = by_http (behind_http text) refl
         subst (λ (o : Option (List ℕ)). AllPass is_uri_byte (origin_of o text)) (sym is)
         (slashed_visible (without_fragment (drop (authority_len rest) rest))
         (visible_cut (drop (authority_len rest) rest) (All-drop (λ b. IsTrue (is_uri_byte b)) (authority_len rest) rest behind)))
+
+pub sent_visible : (method text : List ℕ) → AllPass is_uri_byte text → AllPass is_uri_byte (target_sent method text)
+sent_visible method text all = by_all (asks_for_all method text) refl
+  where
+    by_all : (t : Bool) → asks_for_all method text ≡ t → AllPass is_uri_byte (target_sent method text)
+    by_all true is = subst (AllPass is_uri_byte) (sym (is_all method text is)) (All-cons (λ b. IsTrue (is_uri_byte b)) 42 [] refl (All-nil (λ b. IsTrue (is_uri_byte b))))
+    by_all false is = subst (AllPass is_uri_byte) (sym (not_all method text is)) (origin_visible text all)

@@ -79,7 +79,7 @@ forwarded_size h = size_by (states_length h) h.body
 abbrev pub forwarded_head : Edge → Head → AskedHead
 forwarded_head e h = record {
   method = h.method;
-  target = target_sent h.target;
+  target = target_sent h.method h.target;
   minor = 1;
   in_camel_case = false;
   headers = forwarded_lines e h;

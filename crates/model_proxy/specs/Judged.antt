@@ -1,11 +1,11 @@
 -- Which heads are refused though they were read: those that RFC 9112 says must be, and targets that RFC 3986 has no bytes for.
-use Rattle.std.specs.Prelude.{ℕ, Bool, true, false, not, ◌&&◌, ◌||◌, ◌==◌, List, [], ◌∷◌, length, codes, bytes_eq, nat_eq, nat_lt, if◌then◌else◌, Option, Some, None}
+use Rattle.std.specs.Prelude.{ℕ, Bool, true, false, not, ◌&&◌, ◌||◌, ◌==◌, List, [], ◌∷◌, codes, bytes_eq, nat_eq, nat_lt, if◌then◌else◌, Option, Some, None}
 use Rattle.std.specs.List.{list_all, starts_with}
 use Rattle.h1_strict.specs.Host.{is_host}
 use Rattle.model_h1.specs.Request.{Head}
 use Rattle.model_h1.specs.LengthTable.{values_of}
 use Rattle.model_proxy.specs.Edge.{Edge}
-use Rattle.model_proxy.specs.Targets.{has_scheme, authority_of, is_asterisk}
+use Rattle.model_proxy.specs.Targets.{has_scheme, authority_of, names_host, is_asterisk}
 
 -- HTTP/1.1 has one Host line, HTTP/1.0 one or none, and what it says is a host, with or without a port (RFC 9112, section 3.2)
 abbrev pub are_hosts_right : ℕ → List (List ℕ) → Bool
@@ -13,10 +13,10 @@ are_hosts_right minor [] = minor == 0
 are_hosts_right minor (value ∷ []) = is_host value
 are_hosts_right minor (value ∷ second ∷ more) = false
 
--- the authority of an absolute target names a host, and no user (RFC 9110, sections 4.2.1 and 4.2.4)
+-- where a target has an authority, that names a host, and no user
 abbrev pub is_authority_right : Option (List ℕ) → Bool
 is_authority_right None = true
-is_authority_right (Some authority) = nat_lt 0 (length authority) && is_host authority
+is_authority_right (Some authority) = names_host authority
 
 -- a byte of ASCII that begins no fragment
 abbrev pub is_right_byte : ℕ → Bool

@@ -1,6 +1,7 @@
 -- The forms of a request's target, and what a server gets for each (RFC 9112, section 3.2).
-use Rattle.std.specs.Prelude.{ℕ, ◌+◌, Bool, true, false, ◌||◌, ◌&&◌, List, [], ◌∷◌, take, drop, codes, bytes_eq, nat_eq, nat_lt, if◌then◌else◌, Option, Some, None, is_some, option_map}
+use Rattle.std.specs.Prelude.{ℕ, ◌+◌, Bool, false, ◌||◌, ◌&&◌, ◌==◌, List, length, take, drop, codes, bytes_eq, nat_eq, nat_lt, if◌then◌else◌, Option, Some, None, option_map}
 use Rattle.std.specs.List.{starts_with}
+use Rattle.h1_strict.specs.Host.{is_host}
 use Rattle.http_uri.specs.ByteClasses.{lowercase}
 use Rattle.http_uri.specs.Grammar.{without_fragment, scheme_len, authority_len, path_and_query_text}
 
@@ -28,16 +29,38 @@ authority_of target = option_map authority_in (behind_http target)
 abbrev pub is_asterisk : List ℕ → Bool
 is_asterisk target = bytes_eq target (codes "*")
 
--- A server can be asked for it: a path (section 3.2.1); an absolute target of `http`; or `*`, by OPTIONS alone.
+-- the authority names a host, and no user (RFC 9110, sections 4.2.1 and 4.2.4)
+abbrev pub names_host : List ℕ → Bool
+names_host authority = nat_lt 0 (length authority) && is_host authority
+
+-- an absolute target of `http` names one
+abbrev pub is_at_host : Option (List ℕ) → Bool
+is_at_host None = false
+is_at_host (Some authority) = names_host authority
+
+-- A server can be asked for it: a path (section 3.2.1); an absolute target of `http` that names a host; or `*`, by OPTIONS alone.
 abbrev pub is_servable : List ℕ → List ℕ → Bool
 is_servable method target =
-    starts_with nat_eq target (codes "/") || (is_some (behind_http target) || (is_asterisk target && bytes_eq method (codes "OPTIONS")))
+    starts_with nat_eq target (codes "/") || (is_at_host (authority_of target) || (is_asterisk target && bytes_eq method (codes "OPTIONS")))
 
--- by what stands behind `http://`: the path and the query of that, with a slash where there is no path; else the target; without a fragment
+-- the path and the query behind an authority, without a fragment
+abbrev pub path_in : List ℕ → List ℕ
+path_in rest = without_fragment (drop (authority_len rest) rest)
+
+-- by what stands behind `http://`: the path and the query of that, with a slash where there is no path; else the target, without a fragment
 abbrev pub origin_of : Option (List ℕ) → List ℕ → List ℕ
 origin_of None target = without_fragment target
-origin_of (Some rest) target = path_and_query_text (without_fragment (drop (authority_len rest) rest))
+origin_of (Some rest) target = path_and_query_text (path_in rest)
+
+-- there is an authority, and neither a path nor a query behind it
+abbrev pub has_no_path : Option (List ℕ) → Bool
+has_no_path None = false
+has_no_path (Some rest) = length (path_in rest) == 0
+
+-- by OPTIONS such a target asks for the whole server, as `*` does (section 3.2.4)
+abbrev pub asks_for_all : List ℕ → List ℕ → Bool
+asks_for_all method target = bytes_eq method (codes "OPTIONS") && has_no_path (behind_http target)
 
 -- the target as the server gets it
-abbrev pub target_sent : List ℕ → List ℕ
-target_sent target = origin_of (behind_http target) target
+abbrev pub target_sent : List ℕ → List ℕ → List ℕ
+target_sent method target = if asks_for_all method target then codes "*" else origin_of (behind_http target) target

@@ -58,8 +58,8 @@ pub fn a_length_of_zero_goes_on()
     ensures unstated { forward (sent_now (head_for (codes "POST") (codes "/p") [] no_body) [] true) ≡ codes "POST /p HTTP/1.1\r\n" ++ added }
 {}
 
-/// CONNECT, `*` but by OPTIONS, a target of another scheme, and a request for another protocol can't be sent on; an ordinary one can, and one
-/// whose target is a whole URI of `http`.
+/// CONNECT, `*` but by OPTIONS, a target of another scheme, or one with a user, and a request for another protocol can't be sent on; an ordinary one
+/// can, and one whose target is a whole URI of `http`.
 pub fn which_requests_can_be_sent_on()
     ensures ordinary { is_forwardable usual_edge get_x ≡ true }
     ensures connect { is_forwardable usual_edge (head_for (codes "CONNECT") (codes "/x") [] (fixed_body 1)) ≡ false }
@@ -69,6 +69,7 @@ pub fn which_requests_can_be_sent_on()
     ensures scheme { is_forwardable usual_edge (head_for (codes "GET") (codes "ftp://a/x") [] no_body) ≡ false }
     ensures protocol { is_forwardable usual_edge (head_for (codes "GET") (codes "/x") [] raw_body) ≡ false }
     ensures no_host { is_forwardable usual_edge (plain_head (codes "GET") (codes "/x") [] no_body) ≡ false }
+    ensures user { is_forwardable lax_edge (head_for (codes "GET") (codes "http://u@a/x") [] no_body) ≡ false }
 {}
 
 /// A head is refused that has no Host in HTTP/1.1, or two, or none that is one; so are a target with a user, one with a byte from 128 on, one with a
@@ -88,13 +89,15 @@ pub fn which_heads_are_refused()
     ensures taken { is_refused lax_edge (plain_head (codes "GET") (codes "/x#y") (line_of (codes "host") (codes "a b") ∷ []) no_body) ≡ false }
 {}
 
-/// A server gets the path and the query of a whole URI, and the host that it names, whatever Host says; of a client of HTTP/1.0 that names none it gets
-/// its own.
+/// A server gets the path and the query of a whole URI, and the host that it names, whatever Host says, but `*` for OPTIONS of one that has neither; of
+/// a client of HTTP/1.0 that names none it gets its own.
 pub fn whole_targets_are_sent_as_paths()
-    ensures path { target_sent (codes "http://c:8/x?y#z") ≡ codes "/x?y" }
-    ensures no_path { target_sent (codes "http://c") ≡ codes "/" }
-    ensures query { target_sent (codes "Http://c?y") ≡ codes "/?y" }
-    ensures asterisk { target_sent (codes "*") ≡ codes "*" }
+    ensures path { target_sent (codes "GET") (codes "http://c:8/x?y#z") ≡ codes "/x?y" }
+    ensures no_path { target_sent (codes "GET") (codes "http://c") ≡ codes "/" }
+    ensures query { target_sent (codes "GET") (codes "Http://c?y") ≡ codes "/?y" }
+    ensures asterisk { target_sent (codes "OPTIONS") (codes "*") ≡ codes "*" }
+    ensures all { target_sent (codes "OPTIONS") (codes "http://c:8") ≡ codes "*" }
+    ensures not_all { target_sent (codes "OPTIONS") (codes "http://c:8/") ≡ codes "/" }
     ensures host { named_host (head_for (codes "GET") (codes "http://c:8/x") [] no_body) ≡ Some (codes "c:8") }
     ensures none { forward (sent_now (record (plain_head (codes "GET") (codes "/x") [] no_body) { minor = 0 }) [] true)
         ≡ codes "GET /x HTTP/1.1\r\nhost: b:81\r\nvia: 1.0 raspcream\r\nx-forwarded-for: 192.0.2.1\r\nforwarded: for=_client;proto=http\r\nx-forwarded-proto: http\r\ndate: Thu, 01 Jan 1970 00:00:00 GMT\r\n\r\n" }

@@ -27,7 +27,7 @@ pub fn forwarded_requests_are_read()
 /// gets for that of the client: a path as it stands, without a fragment.
 pub fn what_is_read_is_what_was_asked()
     ensures method { (s : Sent) → (sent_request (forwarded s)).says.method ≡ s.head.method }
-    ensures target { (s : Sent) → (sent_request (forwarded s)).says.target ≡ target_sent s.head.target }
+    ensures target { (s : Sent) → (sent_request (forwarded s)).says.target ≡ target_sent s.head.method s.head.target }
     ensures path { (s : Sent) → starts_with nat_eq s.head.target (codes "/") ≡ true
         → (sent_request (forwarded s)).says.target ≡ without_fragment s.head.target }
     ensures body { (hold_size : ℕ) (s : Sent) → IsSentWhole hold_size s → (sent_request (forwarded s)).says.body ≡ s.head.body }

@@ -35,7 +35,7 @@ use Rattle.h1_decoder.specs.HeadItem.{SaysHead, version_of}
 use Rattle.h1_encoder.specs.RequestMeaning.{asked_head, asked_minor, target_of}
 use Rattle.model_proxy.specs.Edge as model
 use Rattle.model_proxy.specs.Edge.{via}
-use Rattle.model_proxy.specs.Targets.{behind_http, authority_in, authority_of, is_servable, target_sent}
+use Rattle.model_proxy.specs.Targets.{behind_http, authority_in, authority_of, is_servable, asks_for_all, target_sent}
 use Rattle.model_proxy.specs.Judged.{are_hosts_right, are_bytes_right, is_form_right, is_authority_right, is_right, is_refused}
 use Rattle.model_proxy.specs.Forward.{is_forwardable, passed_lines, named_host, unless_there, own_lines, forwarded_lines, states_length, forwarded_head, forwarded_size, Sent, forwarded}
 use Rattle.model_proxy.proofs.Targets.{http_of, absolute_of, host_is}
@@ -266,11 +266,13 @@ can_is e item h refused can says judged is =
     is ∙ (λ i. not (judged i) && (not (bytes_eq (says.method i) (codes "CONNECT")) && (not (is_raw_kind (says.body i)) && is_servable (says.method i) (says.target i))))
 
 pub head_is : (e : model.Edge) (r : RequestHead) (item : HeadItem) (h : Head) → SaysHead item h → is_forwardable e h ≡ true → r.method ≡ item.head.method
-    → r.uri ≡ item.head.uri → r.version ≡ HTTP_11 → request_flags r ≡ no_flags
+    → target_of r.uri ≡ (if asks_for_all item.head.method item.target then codes "*" else target_of item.head.uri) → r.version ≡ HTTP_11 → request_flags r ≡ no_flags
     → headers_of r.headers ≡ by_name (forwarded_lines e h) → asked_head r ≡ by_names (forwarded_head e h)
 head_is e r item h says can method uri version flags lines =
-    let target : target_of r.uri ≡ target_sent h.target =
-    ap target_of uri ∙ target_is h.method h.target item.head.uri (servable_of e h can) says.uri in
+    let target : target_of r.uri ≡ target_sent h.method h.target =
+    uri
+    ∙ (λ i. if asks_for_all (says.method i) (says.target i) then codes "*" else target_of item.head.uri)
+    ∙ target_is h.method h.target item.head.uri (servable_of e h can) says.uri in
     let methods = method ∙ says.method in
     λ i. record {
       method = methods i;

@@ -10,7 +10,7 @@ use Rattle.http_uri.specs.Uri.{Spells, uri_scheme, uri_authority, uri_data}
 use Rattle.http_uri.specs.ByteClasses.{lowercase, is_scheme_byte, is_delimiter}
 use Rattle.http_uri.specs.Grammar.{IsUriText, IsAbsoluteForm, IsTail, scheme_len, authority_len, without_fragment, path_and_query_text}
 use Rattle.h1_encoder.specs.RequestMeaning.{target_of}
-use Rattle.model_proxy.specs.Targets.{is_http, behind_http, authority_in, authority_of, is_asterisk, is_servable, origin_of, target_sent}
+use Rattle.model_proxy.specs.Targets.{is_http, behind_http, authority_in, authority_of, is_asterisk, is_at_host, is_servable, origin_of, asks_for_all, target_sent}
 use Rattle.model_proxy.proofs.Paths.{slashed, no_parts, cut_cons}
 use Rattle.model_proxy.proofs.Targets.{IsHttp, http_of, IsAbsolute, absolute_of, tail_is}
 use Rattle.proxy_heads.specs.Edges.{is_no_scheme_byte}
@@ -138,9 +138,9 @@ whole_sent text rest u http spells =
     ∙ tail_kept parts.form.tail (uri_data u) parts.form.is_tail
     ∙ ap (λ (t : List ℕ). path_and_query_text (without_fragment t)) (sym (tail_is text rest parts.name parts.host (uri_data u) http parts.form))
 
--- of all that a server can be asked for
-pub target_is : (method text : List ℕ) (u : Uri) → is_servable method text ≡ true → Spells text u → target_of u ≡ target_sent text
-target_is method text u may spells = by_http (behind_http text) refl may
+-- of all that a server can be asked for, as an origin is
+origin_is : (method text : List ℕ) (u : Uri) → is_servable method text ≡ true → Spells text u → target_of u ≡ origin_of (behind_http text) text
+origin_is method text u may spells = by_http (behind_http text) refl may
   where
     by_star : (star : Bool) → is_asterisk text ≡ star → (star && bytes_eq method (codes "OPTIONS")) ≡ true → target_of u ≡ without_fragment text
     by_star true is e = star_sent text u ((bytes_eq-Decides text (codes "*")).0 is) spells
@@ -152,8 +152,18 @@ target_is method text u may spells = by_http (behind_http text) refl may
     by_slash false is e = by_star (is_asterisk text) refl e
 
     by_http : (o : Option (List ℕ)) → behind_http text ≡ o
-        → (starts_with nat_eq text (codes "/") || (is_some o || (is_asterisk text && bytes_eq method (codes "OPTIONS")))) ≡ true → target_of u ≡ target_sent text
+        → (starts_with nat_eq text (codes "/") || (is_at_host (option_map authority_in o) || (is_asterisk text && bytes_eq method (codes "OPTIONS")))) ≡ true
+        → target_of u ≡ origin_of (behind_http text) text
     by_http None is may =
         by_slash (starts_with nat_eq text (codes "/")) refl may ∙ ap (λ (o : Option (List ℕ)). origin_of o text) (sym is)
     by_http (Some rest) is may =
         whole_sent text rest u (http_of text rest is) spells ∙ ap (λ (o : Option (List ℕ)). origin_of o text) (sym is)
+
+-- and as a whole server
+pub target_is : (method text : List ℕ) (u : Uri) → is_servable method text ≡ true → Spells text u
+    → (if asks_for_all method text then codes "*" else target_of u) ≡ target_sent method text
+target_is method text u may spells = by_all (asks_for_all method text)
+  where
+    by_all : (t : Bool) → (if t then codes "*" else target_of u) ≡ (if t then codes "*" else origin_of (behind_http text) text)
+    by_all true = refl
+    by_all false = origin_is method text u may spells

@@ -1,5 +1,10 @@
 -- What the parts of an edge say, against the definitions, and what is judged of a head as the code holds it.
-use Rattle.std.specs.Prelude.{ℕ, Bool, false, not, ◌&&◌, List, [], ◌∷◌, ◌++◌, codes, if◌then◌else◌, Option, Some, None}
+use Rattle.std.specs.Prelude.{ℕ, Bool, false, not, ◌&&◌, List, [], ◌∷◌, ◌++◌, codes, decimal, if◌then◌else◌, Option, Some, None}
+use Rattle.std.specs.declared.net.ip_addr.IpAddr.{IpAddr}
+use Rattle.std.specs.declared.net.ip_addr.IpAddr.TheVariants as Ip
+use Rattle.std.specs.declared.net.socket_addr.SocketAddr.{SocketAddr}
+use Rattle.std.specs.Net.Socket.{socket_ip, socket_port}
+use Rattle.std.specs.Net.Text.{ip_text}
 use Rattle.http_header.specs.FieldValue.{FieldValue}
 use Rattle.http_map.specs.HeaderMap.{get_all}
 use Rattle.http_types.specs.Version.{is_below_http11}
@@ -10,7 +15,7 @@ use Rattle.model_client.specs.WrittenHead.{line_of}
 use Rattle.h1_decoder.specs.declared.decoder.HeadItem.{HeadItem}
 use Rattle.h1_strict.specs.Host.{is_host}
 use Rattle.model_proxy.specs.Edge as model
-use Rattle.model_proxy.specs.Edge.{via}
+use Rattle.model_proxy.specs.Edge.{element_of, via}
 use Rattle.model_proxy.specs.HopNames.{hop_names, without}
 use Rattle.model_proxy.specs.Targets.{authority_of}
 use Rattle.model_proxy.specs.Judged.{are_bytes_right, is_form_right, is_authority_right}
@@ -25,6 +30,21 @@ edge_of e = record {
   host = e.host.bytes;
   trusts = e.trusts_client;
   is_lax = e.is_lax;
+}
+
+-- an address with its port, as 192.0.2.1:80 or [2001:db8::1]:80, without a zone
+abbrev pub plain_text : IpAddr → ℕ → List ℕ
+plain_text (Ip.V4 a) port = ip_text (Ip.V4 a) ++ codes ":" ++ decimal port
+plain_text (Ip.V6 a) port = codes "[" ++ ip_text (Ip.V6 a) ++ codes "]:" ++ decimal port
+
+-- what a server with the second address is told of a client with the first one
+abbrev pub edge_between : SocketAddr → SocketAddr → model.Edge
+edge_between client server = record {
+  address = ip_text (socket_ip client);
+  element = element_of (plain_text (socket_ip client) (socket_port client));
+  host = plain_text (socket_ip server) (socket_port server);
+  trusts = false;
+  is_lax = false;
 }
 
 -- ---- heads that are refused

@@ -1,12 +1,14 @@
 //! What servers are told of a client.
-ghost use Rattle.std.specs.Prelude.{◌≡◌, false, IfOk};
-ghost use Rattle.std.specs.Net.Socket.{socket_ip};
-ghost use Rattle.std.specs.Net.Text.{ip_text, socket_text};
-ghost use Rattle.model_proxy.specs.Edge.{element_of};
-ghost use Rattle.proxy_heads.specs.Edges.{edge_of};
+ghost use Rattle.std.specs.Prelude.{◌≡◌, IfOk, string_bytes};
+ghost use Rattle.std.specs.Net.Socket.{socket_ip, socket_port};
+ghost use Rattle.std.specs.Net.Text.{socket_text};
+ghost use Rattle.http_header.specs.FieldValue.{IsFieldValue, plain_value};
+ghost use Rattle.model_proxy.specs.Edge.{IsCleanEdge};
+ghost use Rattle.proxy_heads.specs.Edges.{edge_of, plain_text, edge_between};
 
 use http_header::{HeaderValue, HeaderValueError};
-use std::alloc::Global;
+use http_types::NoMemory;
+use std::alloc::{AllocError, Global};
 use std::net::SocketAddr;
 
 /// What is the same for all requests of one client: what servers are told of it, and how its heads are judged.
@@ -41,18 +43,18 @@ impl Edge {
     }
 
     /// That of a client with this address, whose requests go to the server with that one. The client isn't trusted, and
-    /// heads are refused as RFC 9112 says.
-    pub fn new(
-        alloc: Global,
-        client: SocketAddr,
-        server: SocketAddr,
-    ) -> Result<Edge, HeaderValueError>
-        ensures { IfOk result (λ edge. edge_of edge ≡ record { address = ip_text (socket_ip client); element = element_of (socket_text client); host = socket_text server; trusts = false; is_lax = false }) }
+    /// heads are refused as RFC 9112 says. The zone of an address that counts on its link alone is left out. Out of memory
+    /// is the only error.
+    pub fn new(alloc: Global, client: SocketAddr, server: SocketAddr) -> Result<Edge, NoMemory>
+        ensures says { IfOk result (λ edge. edge_of edge ≡ edge_between client server) }
+        ensures clean { IfOk result (λ edge. IsCleanEdge (edge_of edge)) }
     {
         let ip = client.ip();
-        let address = HeaderValue::from_string(format!(in alloc; "{ip}")?)?;
-        let element = HeaderValue::from_string(format!(in alloc; "for=\"{client}\";proto=http")?)?;
-        let host = HeaderValue::from_string(format!(in alloc; "{server}")?)?;
+        let from = plain(client);
+        let to = plain(server);
+        let address = value(format!(in alloc; "{ip}")?)?;
+        let element = value(format!(in alloc; "for=\"{from}\";proto=http")?)?;
+        let host = value(format!(in alloc; "{to}")?)?;
         Ok(Edge {
             address,
             element,
@@ -60,5 +62,24 @@ impl Edge {
             trusts_client: false,
             is_lax: false,
         })
+    }
+}
+
+// The address and its port, without a zone.
+fn plain(address: SocketAddr) -> SocketAddr
+    ensures { socket_text result ≡ plain_text (socket_ip address) (socket_port address) }
+{
+    SocketAddr::new(address.ip(), address.port())
+}
+
+// The text of an address as a value: all its bytes are visible.
+fn value(text: String) -> Result<HeaderValue, NoMemory>
+    requires { IsFieldValue (string_bytes text) }
+    ensures { IfOk result (λ value. value ≡ plain_value (string_bytes text)) }
+{
+    match HeaderValue::from_string(text) {
+        Ok(value) => Ok(value),
+        Err(HeaderValueError::OutOfMemory) => Err(AllocError),
+        Err(HeaderValueError::Invalid) => unreachable!(),
     }
 }

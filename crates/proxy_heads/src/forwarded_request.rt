@@ -1,5 +1,5 @@
 //! The head that is sent on for a request (RFC 9110, section 7; RFC 9112, section 3).
-ghost use Rattle.std.specs.Prelude.{◌≡◌, ◌&&◌, not, true, option_map, codes, bytes_eq, Some, IfOk};
+ghost use Rattle.std.specs.Prelude.{◌≡◌, ◌&&◌, not, true, option_map, codes, bytes_eq, Some, IfOk, if◌then◌else◌};
 ghost use Rattle.http.specs.declared.version.TheConstants.Version.{HTTP_11};
 ghost use Rattle.http_framing.specs.Kinds.{kind_of};
 ghost use Rattle.http_header.specs.FieldValue.{IsFieldValue, plain_value};
@@ -10,7 +10,7 @@ ghost use Rattle.model_h1.specs.Request.{Head, keep_alive, is_raw_kind};
 ghost use Rattle.model_client.specs.RequestText.{asked_shape, request_text, given_request_text};
 ghost use Rattle.h1_encoder.specs.Meaning.{size_of};
 ghost use Rattle.h1_decoder.specs.HeadItem.{SaysHead};
-ghost use Rattle.h1_encoder.specs.RequestMeaning.{asked_head};
+ghost use Rattle.h1_encoder.specs.RequestMeaning.{asked_head, target_of};
 ghost use Rattle.model_proxy.specs.Targets.{is_servable};
 ghost use Rattle.model_proxy.specs.Forward.{is_forwardable, named_host, forwarded_head, size_by, forwarded_size, forwarded, Sent};
 ghost use Rattle.proxy_heads.specs.Edges.{edge_of};
@@ -20,12 +20,13 @@ use crate::edge::Edge;
 use crate::hops::remove_unforwarded;
 use crate::judged::is_refused;
 use crate::own_lines::add_own;
-use crate::targets::{authority_of, is_servable};
+use crate::targets::{asks_for_all, authority_of, is_servable};
 use h1_decoder::HeadItem;
 use http_framing::{BodyKind, BodySize};
 use http_header::{HeaderValue, HeaderValueError};
 use http_map::{CONTENT_LENGTH, HOST, HeaderMap};
 use http_types::{NoMemory, RequestHead, Version};
+use http_uri::Uri;
 use std::alloc::{AllocError, Global};
 
 /// Whether the request can be sent on: its head isn't refused, it is no CONNECT, asks for no other protocol, and a server
@@ -59,8 +60,8 @@ fn can_go(refused: bool, method: &str, body: BodyKind, target: &[u8]) -> bool
     is_servable(method, target)
 }
 
-/// The head that is sent on for a request that can be: its method; the path and the query of its target; HTTP/1.1; its lines
-/// but for those that stay behind; and which host it is for, who passes it on, and whom it comes from. It has no mark, so
+/// The head that is sent on for a request that can be: its method; the path and the query of its target, or `*` for OPTIONS of
+/// a whole URI that has neither; HTTP/1.1; its lines but for those that stay behind; and which host it is for, who passes it on, and whom it comes from. It has no mark, so
 /// its connection is to be kept, and no line that frames its body: that is written by `forwarded_size`. Out of memory is
 /// the only error.
 pub fn forwarded_head(alloc: Global, edge: &Edge, item: HeadItem) -> Result<RequestHead, NoMemory>
@@ -73,13 +74,32 @@ pub fn forwarded_head(alloc: Global, edge: &Edge, item: HeadItem) -> Result<Requ
     ensures flags { IfOk result (λ head. request_flags head ≡ no_flags) }
 {
     let named = named_host(alloc, &item)?;
+    let asks_for_all = asks_for_all(item.head.method.as_str(), item.target.as_slice());
     let version = item.head.version;
     let mut headers = item.head.headers;
     remove_unforwarded(&mut headers, edge.trusts_client);
     add_own(&mut headers, edge, named, version)?;
     // Called for its clause alone: the lines stand name by name.
     let _valid = headers.len();
-    Ok(RequestHead::from_parts(item.head.method, item.head.uri, Version::HTTP_11, headers))
+    let uri = uri_sent(asks_for_all, item.head.uri);
+    Ok(RequestHead::from_parts(item.head.method, uri, Version::HTTP_11, headers))
+}
+
+// The URI by which a server is asked: `*` where it is asked for as a whole.
+fn uri_sent(asks_for_all: bool, uri: Uri) -> Uri
+    ensures { target_of result ≡ (if asks_for_all then codes "*" else target_of uri) }
+{
+    if asks_for_all { asterisk() } else { uri }
+}
+
+// `*`.
+fn asterisk() -> Uri
+    ensures { target_of result ≡ codes "*" }
+{
+    match Uri::from_static("*") {
+        Ok(uri) => uri,
+        Err(_) => unreachable!(),
+    }
 }
 
 // The host that the request names: that of a whole URI, else that of its first Host line.

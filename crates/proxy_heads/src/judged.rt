@@ -1,5 +1,5 @@
 //! Which heads are refused though they were read (RFC 9112, section 3.2).
-ghost use Rattle.std.specs.Prelude.{◌≡◌, codes, Some};
+ghost use Rattle.std.specs.Prelude.{◌≡◌, codes};
 ghost use Rattle.http_map.specs.HeaderMap.{get_all};
 ghost use Rattle.http_types.specs.Version.{is_below_http11};
 ghost use Rattle.model_h1.specs.Request.{Head};
@@ -9,7 +9,7 @@ ghost use Rattle.model_proxy.specs.Judged.{are_bytes_right, is_form_right, is_au
 ghost use Rattle.proxy_heads.specs.Edges.{edge_of, values_right, is_item_right};
 
 use crate::edge::Edge;
-use crate::targets::{authority_of, has_scheme, is_asterisk};
+use crate::targets::{authority_of, has_scheme, is_asterisk, names_host};
 use h1_decoder::HeadItem;
 use h1_strict::is_host;
 use http_map::HOST;
@@ -81,11 +81,4 @@ fn is_authority_right(target: &[u8]) -> bool
         Some(authority) => names_host(authority),
         None => true,
     }
-}
-
-// Whether it is a host, and isn't empty.
-fn names_host(authority: &[u8]) -> bool
-    ensures { result ≡ is_authority_right (Some authority.now) }
-{
-    !authority.is_empty() && is_host(authority)
 }

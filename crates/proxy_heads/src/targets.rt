@@ -1,31 +1,69 @@
 //! The forms of a request's target (RFC 9112, section 3.2).
-ghost use Rattle.std.specs.Prelude.{◌≡◌, ◌≤◌, length, is_some, Some, None, MatchOption};
+ghost use Rattle.std.specs.Prelude.{◌≡◌, ◌≤◌, ◌==◌, length, Some, None, MatchOption};
 ghost use Rattle.std.specs.List.{position};
 ghost use Rattle.http_uri.specs.ByteClasses.{is_scheme_byte, is_delimiter};
-ghost use Rattle.http_uri.specs.Grammar.{scheme_len, authority_len};
-ghost use Rattle.model_proxy.specs.Targets.{has_scheme, behind_http, authority_of, is_asterisk, is_servable};
+ghost use Rattle.http_uri.specs.Grammar.{scheme_len, authority_len, without_fragment};
+ghost use Rattle.model_proxy.specs.Targets.{has_scheme, behind_http, authority_of, is_asterisk, names_host, is_at_host, is_servable, has_no_path, asks_for_all};
 ghost use Rattle.proxy_heads.specs.Edges.{is_no_scheme_byte};
 
-/// Whether a server can be asked for the target: a path, a whole URI of `http`, or `*` by OPTIONS.
+use h1_strict::is_host;
+
+/// Whether a server can be asked for the target: a path, a whole URI of `http` that names a host, or `*` by OPTIONS.
 pub(crate) fn is_servable(method: &str, target: &[u8]) -> bool
     ensures { result ≡ is_servable method.now target.now }
 {
     if target.starts_with(b"/") {
         return true;
     }
-    if is_whole(target) {
+    if is_at_host(target) {
         return true;
     }
     is_asterisk(target) && method == "OPTIONS"
 }
 
-// Whether it is a whole URI of `http`.
-fn is_whole(target: &[u8]) -> bool
-    ensures { result ≡ is_some (behind_http target.now) }
+// Whether it is a whole URI of `http` that names a host.
+fn is_at_host(target: &[u8]) -> bool
+    ensures { result ≡ is_at_host (authority_of target.now) }
+{
+    match authority_of(target) {
+        Some(authority) => names_host(authority),
+        None => false,
+    }
+}
+
+/// Whether the authority is a host with or without a port, and has no user.
+pub(crate) fn names_host(authority: &[u8]) -> bool
+    ensures { result ≡ names_host authority.now }
+{
+    !authority.is_empty() && is_host(authority)
+}
+
+/// Whether the whole server is asked for: by OPTIONS of a URI that has neither a path nor a query.
+pub(crate) fn asks_for_all(method: &str, target: &[u8]) -> bool
+    ensures { result ≡ asks_for_all method.now target.now }
+{
+    method == "OPTIONS" && has_no_path(target)
+}
+
+fn has_no_path(target: &[u8]) -> bool
+    ensures { result ≡ has_no_path (behind_http target.now) }
 {
     match behind_http(target) {
-        Some(_) => true,
+        Some(rest) => {
+            let (_, tail) = rest.split_at(authority_len(rest));
+            keeps_nothing(tail)
+        }
         None => false,
+    }
+}
+
+// Whether nothing is left of it without its fragment.
+fn keeps_nothing(tail: &[u8]) -> bool
+    ensures { result ≡ (length (without_fragment tail.now) == 0) }
+{
+    match tail.first() {
+        Some(byte) => *byte == b'#',
+        None => true,
     }
 }
 

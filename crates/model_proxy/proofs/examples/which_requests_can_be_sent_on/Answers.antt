@@ -33,3 +33,7 @@ returns-clause-protocol c = refl
 pub returns-clause-no_host : goal.returns-clause-no_host
 unfolding trim_ows
 returns-clause-no_host c = refl
+
+pub returns-clause-user : goal.returns-clause-user
+unfolding trim_ows
+returns-clause-user c = refl

@@ -21,6 +21,14 @@ pub returns-clause-asterisk : goal.returns-clause-asterisk
 unfolding trim_ows date_of year_at month_at appended digits request_text
 returns-clause-asterisk c = refl
 
+pub returns-clause-all : goal.returns-clause-all
+unfolding trim_ows date_of year_at month_at appended digits request_text
+returns-clause-all c = refl
+
+pub returns-clause-not_all : goal.returns-clause-not_all
+unfolding trim_ows date_of year_at month_at appended digits request_text
+returns-clause-not_all c = refl
+
 pub returns-clause-host : goal.returns-clause-host
 unfolding trim_ows date_of year_at month_at appended digits request_text
 returns-clause-host c = refl

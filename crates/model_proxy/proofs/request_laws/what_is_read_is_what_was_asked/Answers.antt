@@ -10,7 +10,7 @@ pub returns-clause-target : goal.returns-clause-target
 returns-clause-target c s = refl
 
 pub returns-clause-path : goal.returns-clause-path
-returns-clause-path c s begins = path_kept s.head.target begins
+returns-clause-path c s begins = path_kept s.head.method s.head.target begins
 
 pub returns-clause-body : goal.returns-clause-body
 returns-clause-body c = body_read
