@@ -31,7 +31,7 @@ use Rattle.proxy_heads.specs.declared.refusal.Refusal.{Refusal}
 use Rattle.proxy_heads.specs.declared.refusal.Refusal.TheVariants.{BadHead, NotForwardable}
 use Rattle.proxy.specs.declared.proxy.Proxy.{Proxy}
 use Rattle.proxy.specs.declared.proxy.SentRequest.{SentRequest}
-use Rattle.proxy.specs.Fresh.{SendsWhereItCan, BeginsWhereItMay}
+use Rattle.proxy.specs.Fresh.{SendsWhereItCan, BeginsWhereItMay, SendsBelow}
 use Rattle.proxy.specs.Kept.{HoldsNoRequest, Runs, Goes, GoesBy}
 
 -- ---- what is put
@@ -223,13 +223,15 @@ KeepsServer old new =
 abbrev pub KeepsIdle : Proxy → Proxy → Type 0
 KeepsIdle old new = HoldsNoRequest old → (new.sent ≡ None) × KeepsServer old new
 
--- A turn. What is kept after it is what is left of all that happened; it begins where it may, and a request that waits is sent on where it can be.
+-- A turn. What is kept after it is what is left of all that happened; it begins where it may, a request that waits is sent on where it can be, and
+-- nothing is put behind more than may wait.
 pub record IsTurn (old new : Proxy) : Type 0 where
   pub goes : Goes old new
   pub begins : BeginsWhereItMay old new
   pub replies : TurnReplies old new
   pub keeps : KeepsIdle old new
   pub sends : SendsWhereItCan old new
+  pub below : SendsBelow old new
 
 -- turns one after another, if there are any
 pub data HasReplied (old : Proxy) : Proxy → Type 0 where

@@ -10,7 +10,7 @@ ghost use Rattle.proxy.specs.Served.{Serving, GoesOnServing, HasNoReply, HasNoRe
 ghost use Rattle.h1_client.specs.State as servers;
 ghost use Rattle.model_client.specs.ClientKept.{client_closing};
 ghost use Rattle.proxy.specs.Puts.{ends};
-ghost use Rattle.proxy.specs.Fresh.{is_used, is_server_used, IsToldTime, SendsOrWaits, SendsWhereItCan, ClosesOver, BeginsWhereItMay};
+ghost use Rattle.proxy.specs.Fresh.{is_used, is_server_used, IsToldTime, SendsOrWaits, SendsWhereItCan, ClosesOver, BeginsWhereItMay, AddsBelow, SendsBelow};
 ghost use Rattle.proxy.specs.Replies.{refusal_part, KeepsIdle, may_keep, ReplyIsOver, marks_of, PutsLast, TurnReplies, HasReplied, Fails, Breaks, PassesBody, PassesHead, TakesAnswer};
 ghost use Rattle.proxy.specs.Rests.{may_begin, is_over, may_turn, Settles, LeavesLess, Works, WorksBody, Turns, IsNotToEnd};
 
@@ -58,6 +58,7 @@ impl Proxy {
         ensures sends { OnOk result (SendsWhereItCan self.old self.new) }
         ensures keeps { OnOk result (KeepsIdle self.old self.new) }
         ensures no_memory_needed { may_turn self.old ≡ false → IsOk result }
+        ensures below { OnOk result (SendsBelow self.old self.new) }
     {
         if self.is_still() {
             return Ok(false);
@@ -110,6 +111,7 @@ impl Proxy {
         ensures replies { OnOk result (TurnReplies (record self.old { unsent = Some unsent }) self.new) }
         ensures sends { OnOk result (SendsOrWaits unsent (record self.old { unsent = Some unsent }) self.new) }
         ensures closes { OnOk result (ClosesOver (record self.old { unsent = Some unsent }) self.new) }
+        ensures below { OnOk result (self.old.sent ≡ None → may_turn self.old ≡ true → AddsBelow self.old.server self.new.server) }
     {
         if self.is_server_used() {
             self.server = None;
@@ -158,6 +160,7 @@ impl Proxy {
     fn tell_time(&self, server: &mut ClientConnection)
         ensures stays { ServerStays server.old server.new }
         ensures told { IsToldTime self.now.moment server.old server.new }
+        ensures waits { server.new.kept.buffered ≡ server.old.kept.buffered }
     {
         if let Some(moment) = self.moment {
             tick_server(server, moment);
@@ -174,6 +177,7 @@ impl Proxy {
         ensures replies { OnOk result (TurnReplies self.old self.new) }
         ensures keeps { OnOk result (KeepsIdle self.old self.new) }
         ensures closes { OnOk result (ClosesOver self.old self.new) }
+        ensures below { OnOk result (AddsBelow self.old.server self.new.server) }
     {
         match self.sent {
             Some(sent) => {
@@ -197,6 +201,7 @@ impl Proxy {
         ensures replies { OnOk result (TurnReplies self.old self.new) }
         ensures keeps { OnOk result (KeepsIdle self.old self.new) }
         ensures closes { OnOk result (ClosesOver self.old self.new) }
+        ensures below { OnOk result (AddsBelow self.old.server self.new.server) }
     {
         if self.is_server_over() {
             self.server = None;
@@ -216,6 +221,7 @@ impl Proxy {
         ensures serves { OnOk result (GoesOnServing self.old self.new) }
         ensures replies { OnOk result (TurnReplies self.old self.new) }
         ensures keeps { OnOk result (KeepsIdle self.old self.new) }
+        ensures below { OnOk result (AddsBelow self.old.server self.new.server) }
     {
         match next_head(&mut self.client)? {
             NextHead::Head(item) => {
@@ -238,6 +244,7 @@ impl Proxy {
         ensures works { IfOk result (λ more. Works more self.old self.new) }
         ensures serves { OnOk result (GoesOnServing self.old self.new) }
         ensures replies { OnOk result (TurnReplies self.old self.new) }
+        ensures below { OnOk result (AddsBelow self.old.server self.new.server) }
     {
         match self.server.take() {
             Some(server) => {
@@ -258,6 +265,7 @@ impl Proxy {
         ensures works { IfOk result (λ more. Works more (record self.old { server = Some server }) self.new) }
         ensures serves { OnOk result (GoesOnServing self.old self.new) }
         ensures replies { OnOk result (TurnReplies (record self.old { server = Some server }) self.new) }
+        ensures below { OnOk result (AddsBelow (Some server) self.new.server) }
     {
         if sent.is_answered {
             let moved = self.pass_piece(sent, server)?;
@@ -274,6 +282,7 @@ impl Proxy {
         ensures works { IfOk result (λ more. sent.is_answered ≡ false → Works more (record self.old { server = Some server }) self.new) }
         ensures serves { OnOk result (sent.is_answered ≡ false → GoesOnServing self.old self.new) }
         ensures replies { OnOk result (sent.is_answered ≡ false → TurnReplies (record self.old { server = Some server }) self.new) }
+        ensures below { OnOk result (AddsBelow (Some server) self.new.server) }
     {
         let mut server = server;
         match next_answer(&mut server)? {
@@ -308,6 +317,7 @@ impl Proxy {
         ensures works { OnOk result (LeavesLess 0 (record self.old { server = Some server }) self.new) }
         ensures serves { OnOk result (sent.is_answered ≡ false → GoesOnServing self.old self.new) }
         ensures replies { OnOk result (TakesAnswer sent server item self.old self.new) }
+        ensures below { OnOk result (AddsBelow (Some server) self.new.server) }
     {
         match answer_use(&item) {
             AnswerUse::Refuse => {
@@ -337,6 +347,7 @@ impl Proxy {
         ensures works { OnOk result (LeavesLess 0 (record self.old { server = Some server }) self.new) }
         ensures serves { OnOk result (HasNoReplyTo sent.is_head self.old → IsTold self.old.client → Serving self.new) }
         ensures replies { OnOk result (PassesHead sent server item self.old.client self.new) }
+        ensures below { OnOk result (AddsBelow (Some server) self.new.server) }
     {
         let status = status_of(&item);
         self.pass_head(sent, server, item)?;
@@ -355,6 +366,7 @@ impl Proxy {
         ensures works { OnOk result (LeavesLess 0 (record self.old { server = Some server }) self.new) }
         ensures serves { OnOk result (HasNoReplyTo sent.is_head self.old → IsTold self.old.client → Serving self.new) }
         ensures replies { OnOk result (PassesHead sent server item self.old.client self.new) }
+        ensures below { OnOk result (AddsBelow (Some server) self.new.server) }
     {
         let size = reply_size(sent.is_head, &item);
         let sent = answered(sent, says_close(&item));
@@ -378,6 +390,7 @@ impl Proxy {
         ensures works { IfOk result (λ more. sent.is_answered ≡ true → Works more (record self.old { server = Some server }) self.new) }
         ensures serves { OnOk result (sent.is_answered ≡ true → GoesOnServing self.old self.new) }
         ensures replies { OnOk result (sent.is_answered ≡ true → TurnReplies (record self.old { server = Some server }) self.new) }
+        ensures below { OnOk result (AddsBelow (Some server) self.new.server) }
     {
         if !self.client.can_chunk() {
             let moved = self.pass_body(sent, server)?;
@@ -417,6 +430,7 @@ impl Proxy {
         ensures serves { OnOk result (sent.is_answered ≡ true → GoesOnServing self.old self.new) }
         ensures replies { OnOk result (PutsLast [] ends self.old.client self.new.client) }
         ensures over { OnOk result (ReplyIsOver sent.is_whole sent.closes server self.new) }
+        ensures below { OnOk result (AddsBelow (Some server) self.new.server) }
     {
         leave_body(&mut self.client);
         put_end(&mut self.client)?;
@@ -432,6 +446,7 @@ impl Proxy {
         ensures serves { GoesOnServing (record self.old { sent = None }) self.new }
         ensures client { self.new.client ≡ self.old.client }
         ensures over { ReplyIsOver sent.is_whole sent.closes server self.new }
+        ensures below { AddsBelow (Some server) self.new.server }
     {
         self.sent = None;
         if may_keep(sent, &server) {
@@ -448,6 +463,7 @@ impl Proxy {
         ensures works { IfOk result (λ more. WorksBody sent server more self.old self.new) }
         ensures serves { OnOk result (GoesOnServing self.old self.new) }
         ensures replies { OnOk result (PassesBody sent server self.old.client self.new) }
+        ensures below { OnOk result (AddsBelow (Some server) self.new.server) }
     {
         if !may_send(sent, &server) {
             self.server = Some(server);
@@ -489,6 +505,7 @@ impl Proxy {
         ensures works { OnOk result (sent.is_whole ≡ false → sent.is_broken ≡ false → LeavesLess 1 (record self.old { server = Some server }) self.new) }
         ensures serves { OnOk result (GoesOnServing self.old self.new) }
         ensures replies { OnOk result (Breaks sent.is_answered sent server self.old.client self.new) }
+        ensures below { OnOk result (AddsBelow (Some server) self.new.server) }
     {
         if sent.is_answered {
             self.server = Some(server);
