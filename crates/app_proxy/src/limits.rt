@@ -1,11 +1,14 @@
 //! What the program allows its peers.
 ghost use Rattle.std.specs.Prelude.{◌≡◌};
-ghost use Rattle.app_proxy.specs.Limits.{defaults, most_clients};
+ghost use Rattle.app_proxy.specs.Limits.{defaults, most_kept, most_clients};
 
 use std::fs;
 
 /// Descriptors that are kept free beside those of clients and of connections that wait.
 const SPARE: u64 = 16;
+
+/// The most connections to the server that wait.
+const MOST_KEPT: u64 = 128;
 
 /// What the program allows its peers. Times are in milliseconds.
 #[derive(Clone, Copy, Debug)]
@@ -30,6 +33,9 @@ pub struct Limits {
 
     /// How long a client may take nothing of what waits for it.
     pub reader: u64,
+
+    /// How long a client whose input has ended is waited for until its answer begins: it may have gone.
+    pub gone: u64,
 
     /// How long the server may move nothing while it is waited for.
     pub server: u64,
@@ -60,6 +66,7 @@ impl Limits {
             stall: 30_000,
             least: 1024,
             reader: 60_000,
+            gone: 2000,
             server: 60_000,
             drain: 2000,
             linger: 2000,
@@ -84,6 +91,7 @@ impl Limits {
             "stall" => self.stall = number,
             "least" => self.least = number,
             "reader" => self.reader = number,
+            "gone" => self.gone = number,
             "server" => self.server = number,
             "drain" => self.drain = number,
             "linger" => self.linger = number,
@@ -94,15 +102,15 @@ impl Limits {
         true
     }
 
-    /// No more clients than have two descriptors each, of so many that the system gives.
+    /// No more clients than have two descriptors each, of so many that the system gives. A quarter of them at most is for
+    /// connections that wait.
     pub fn fit(&mut self, descriptors: u64)
-        ensures { self.new ≡ record self.old { clients = most_clients self.old descriptors } }
+        ensures { self.new ≡ record self.old { clients = most_clients self.old descriptors; kept = most_kept self.old descriptors } }
     {
-        let kept = self.kept.saturating_add(SPARE);
-        let left = descriptors.saturating_sub(kept) / 2;
-        if left < self.clients {
-            self.clients = left;
-        }
+        let kept = self.kept.min(MOST_KEPT.min(descriptors / 4));
+        let left = descriptors.saturating_sub(kept + SPARE) / 2;
+        self.clients = left.min(self.clients);
+        self.kept = kept;
     }
 }
 

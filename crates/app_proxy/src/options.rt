@@ -33,6 +33,7 @@ The limits, and their defaults:
   stall=30000      in so long a client that is to send
   least=1024       has to send so many bytes
   reader=60000     how long a client may take nothing of what waits for it
+  gone=2000        how long a client whose input has ended is waited for until its answer begins, since it may have gone
   server=60000     how long the server may move nothing while it is waited for
   drain=2000       how long the rest of a body is dropped behind a whole reply
   linger=2000      how long a client is waited for after the last byte was written

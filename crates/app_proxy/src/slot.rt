@@ -97,6 +97,7 @@ impl Slot {
             takes: !proxy.client_front().is_empty(),
             sends: proxy.is_to_send(),
             drains: proxy.is_draining(),
+            may_be_gone: proxy.may_be_gone(),
         };
         self.standing.tick_client(&shared.limits, awaited, uptime);
         let is_awaited = self.link.is_awaited(self.forwarder.proxy());
@@ -179,12 +180,18 @@ impl Slot {
         )
     }
 
-    // Before a request is sent on a connection to the server that was idle, it is looked whether that is still there.
+    // Before a request is sent on a connection to the server that was idle, it is looked whether that is still there, and hasn't
+    // been idle for too long.
     fn check_server(&mut self, shared: &mut Shared) -> Result<(), NoMemory> {
-        if self.forwarder.proxy().is_reusable() {
-            self.standing.server.may_read = true;
-            self.read_server(shared)?;
+        if !self.forwarder.proxy().is_reusable() {
+            return Ok(());
         }
+        if shared.uptime.saturating_sub(self.standing.used) >= shared.limits.reuse {
+            // It goes to those that wait, which are looked at as they are taken.
+            return self.give_back(shared);
+        }
+        self.standing.server.may_read = true;
+        self.read_server(shared)?;
         Ok(())
     }
 

@@ -1,6 +1,6 @@
 //! How a client and the server that is asked for it stand to their sockets.
-ghost use Rattle.std.specs.Prelude.{◌≡◌};
-ghost use Rattle.app_proxy.specs.Patience.{moved, silence, is_too_long, is_slow, paced, ticked};
+ghost use Rattle.std.specs.Prelude.{◌≡◌, ◌-◌};
+ghost use Rattle.app_proxy.specs.Patience.{moved, silence, is_too_long, waits_too_long, is_over, is_slow, no_pace, paced, ticked};
 
 use crate::limits::Limits;
 
@@ -61,10 +61,11 @@ pub enum Stage {
     Lost,
 }
 
-/// How many bytes came from a client since a moment of uptime, in milliseconds.
+/// How many bytes came from a client in a span in which it is to send.
 #[derive(Clone, Copy)]
 pub struct Pace {
-    pub since: u64,
+    /// When that began, in milliseconds of uptime; none while the client isn't to send.
+    pub since: Option<u64>,
     pub moved: u64,
 }
 
@@ -79,6 +80,9 @@ pub struct Awaited {
 
     /// It sends the rest of a body behind its reply.
     pub drains: bool,
+
+    /// Its input has ended, and no answer to its request has begun: it may have gone.
+    pub may_be_gone: bool,
 }
 
 /// How both sides stand. Times are in milliseconds of uptime.
@@ -100,6 +104,9 @@ pub struct Standing {
     /// When it last had no rest of a body to send behind its reply.
     pub drained: u64,
 
+    /// When its input hadn't ended last, or an answer had begun.
+    pub there: u64,
+
     /// When the server last gave bytes of an answer, or took some, or wasn't waited for.
     pub server_moved: u64,
 
@@ -116,25 +123,27 @@ impl Standing {
             server: Ready::unknown(),
             asked: uptime,
             client_moved: uptime,
-            pace: Pace {
-                since: uptime,
-                moved: 0,
-            },
+            pace: Pace::none(),
             drained: uptime,
+            there: uptime,
             server_moved: uptime,
             used: uptime,
         }
     }
 
-    /// The time is told, and what the client is waited for. One that takes nothing for too long, sends too little, or sends a
-    /// body's rest for too long is done with.
+    /// The time is told, and what the client is waited for. One that takes nothing for too long, sends too little, sends a
+    /// body's rest for too long, or may have gone is done with.
     pub fn tick_client(&mut self, limits: &Limits, awaited: Awaited, uptime: u64)
-        ensures stage { self.new.stage ≡ ticked limits.now self.old.stage (silence awaited.takes self.old.client_moved uptime)
-            (silence awaited.drains self.old.drained uptime) (is_slow limits.now self.old.pace awaited.sends uptime) uptime }
+        ensures stage { self.new.stage ≡ ticked limits.now self.old.stage (record {
+                silent = silence awaited.takes self.old.client_moved uptime;
+                drained = silence awaited.drains self.old.drained uptime;
+                gone = silence awaited.may_be_gone self.old.there uptime;
+            }) (is_slow limits.now self.old.pace awaited.sends uptime) uptime }
         ensures moved { self.new.client_moved ≡ moved awaited.takes self.old.client_moved uptime }
         ensures drained { self.new.drained ≡ moved awaited.drains self.old.drained uptime }
+        ensures there { self.new.there ≡ moved awaited.may_be_gone self.old.there uptime }
         ensures paced { self.new.pace ≡ paced limits.now.stall self.old.pace awaited.sends uptime }
-        ensures others { record self.new { stage = self.old.stage; client_moved = self.old.client_moved; drained = self.old.drained; pace = self.old.pace } ≡ self.old }
+        ensures others { record self.new { stage = self.old.stage; client_moved = self.old.client_moved; drained = self.old.drained; there = self.old.there; pace = self.old.pace } ≡ self.old }
     {
         let is_slow = self.pace.tick(limits, awaited.sends, uptime);
         if let Stage::Lingering(until) = self.stage
@@ -148,11 +157,26 @@ impl Standing {
         if !awaited.drains {
             self.drained = uptime;
         }
-        let is_silent = uptime.saturating_sub(self.client_moved) >= limits.reader;
-        let is_drained = uptime.saturating_sub(self.drained) >= limits.drain;
-        if is_silent || is_slow || is_drained {
+        if !awaited.may_be_gone {
+            self.there = uptime;
+        }
+        if is_slow || self.waits_too_long(limits, uptime) {
             self.stage = Stage::Lost;
         }
+    }
+
+    // Whether the client was waited for longer than it may be.
+    fn waits_too_long(&self, limits: &Limits, uptime: u64) -> bool
+        ensures { result ≡ waits_too_long limits.now (record {
+                silent = uptime - self.now.client_moved;
+                drained = uptime - self.now.drained;
+                gone = uptime - self.now.there;
+            }) }
+    {
+        let is_silent = uptime.saturating_sub(self.client_moved) >= limits.reader;
+        let is_drained = uptime.saturating_sub(self.drained) >= limits.drain;
+        let is_gone = uptime.saturating_sub(self.there) >= limits.gone;
+        is_silent || is_drained || is_gone
     }
 
     /// The time is told, and whether the server is waited for. It says whether that has taken too long.
@@ -169,6 +193,16 @@ impl Standing {
 }
 
 impl Pace {
+    /// None: the client isn't to send.
+    pub fn none() -> Pace
+        ensures { result ≡ no_pace }
+    {
+        Pace {
+            since: None,
+            moved: 0,
+        }
+    }
+
     /// So many bytes came.
     pub fn count(&mut self, count: usize) {
         self.moved = self.moved.saturating_add(count as u64);
@@ -179,19 +213,28 @@ impl Pace {
         ensures slow { result ≡ is_slow limits.now self.old is_to_send uptime }
         ensures paced { self.new ≡ paced limits.now.stall self.old is_to_send uptime }
     {
-        let fresh = Pace {
-            since: uptime,
-            moved: 0,
-        };
         if !is_to_send {
-            *self = fresh;
+            *self = Pace::none();
             return false;
         }
-        if uptime.saturating_sub(self.since) < limits.stall {
-            return false;
+        let is_over = self.is_over(limits.stall, uptime);
+        let is_slow = is_over && self.moved < limits.least;
+        if self.since.is_none() || is_over {
+            *self = Pace {
+                since: Some(uptime),
+                moved: 0,
+            };
         }
-        let is_slow = self.moved < limits.least;
-        *self = fresh;
         is_slow
+    }
+
+    // Whether its span has come to its end.
+    fn is_over(&self, stall: u64, uptime: u64) -> bool
+        ensures { result ≡ is_over stall self.now.since uptime }
+    {
+        match self.since {
+            Some(since) => uptime.saturating_sub(since) >= stall,
+            None => false,
+        }
     }
 }

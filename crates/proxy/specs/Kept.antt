@@ -214,3 +214,7 @@ was_answered (Some s) = s.is_answered
 
 abbrev pub is_answering : Proxy → Bool
 is_answering p = was_answered p.sent
+
+-- The client's input has ended while no answer to its request has begun: nothing tells such a client from one that has gone.
+abbrev pub may_be_gone : Proxy → Bool
+may_be_gone p = not (client_takes p on.eof) && (not (is_closing p) && (not (is_idle p) && not (is_answering p)))

@@ -14,7 +14,7 @@ ghost use Rattle.model_state.specs.Runs.{first_segment};
 ghost use Rattle.model_proxy.specs.Happenings.{nothing_happened};
 ghost use Rattle.proxy_heads.specs.Edges.{edge_of};
 ghost use Rattle.proxy.specs.Served.{IsServed};
-ghost use Rattle.proxy.specs.Kept.{client_of, server_of, Forwards, IsUnsent, is_closing, wants_server, server_text, server_allows, client_takes, client_room, server_room, is_idle, is_to_send, is_draining, is_reusable, is_answering};
+ghost use Rattle.proxy.specs.Kept.{client_of, server_of, Forwards, IsUnsent, is_closing, wants_server, server_text, server_allows, client_takes, client_room, server_room, is_idle, is_to_send, is_draining, is_reusable, is_answering, may_be_gone};
 
 use crate::notes::Notes;
 use h1_client::ClientConnection;
@@ -283,6 +283,20 @@ impl Proxy {
             return false;
         }
         self.is_idle() && !self.client.can_next()
+    }
+
+    /// Whether the client's input has ended while no answer to its request has begun. Nothing tells such a client from one
+    /// that has gone.
+    pub fn may_be_gone(&self) -> bool
+        ensures { result ≡ may_be_gone self.now }
+    {
+        if self.client.can_read() {
+            return false;
+        }
+        if self.is_closing() {
+            return false;
+        }
+        !self.is_idle() && !self.is_answering()
     }
 
     fn is_idle(&self) -> bool
