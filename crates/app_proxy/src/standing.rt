@@ -135,10 +135,10 @@ impl Standing {
     /// body's rest for too long, or may have gone is done with.
     pub fn tick_client(&mut self, limits: &Limits, awaited: Awaited, uptime: u64)
         ensures stage { self.new.stage ≡ ticked limits.now self.old.stage (record {
-                silent = silence awaited.takes self.old.client_moved uptime;
-                drained = silence awaited.drains self.old.drained uptime;
-                gone = silence awaited.may_be_gone self.old.there uptime;
-            }) (is_slow limits.now self.old.pace awaited.sends uptime) uptime }
+          silent = silence awaited.takes self.old.client_moved uptime;
+          drained = silence awaited.drains self.old.drained uptime;
+          gone = silence awaited.may_be_gone self.old.there uptime;
+        }) (is_slow limits.now self.old.pace awaited.sends uptime) uptime }
         ensures moved { self.new.client_moved ≡ moved awaited.takes self.old.client_moved uptime }
         ensures drained { self.new.drained ≡ moved awaited.drains self.old.drained uptime }
         ensures there { self.new.there ≡ moved awaited.may_be_gone self.old.there uptime }
@@ -168,10 +168,10 @@ impl Standing {
     // Whether the client was waited for longer than it may be.
     fn waits_too_long(&self, limits: &Limits, uptime: u64) -> bool
         ensures { result ≡ waits_too_long limits.now (record {
-                silent = uptime - self.now.client_moved;
-                drained = uptime - self.now.drained;
-                gone = uptime - self.now.there;
-            }) }
+          silent = uptime - self.now.client_moved;
+          drained = uptime - self.now.drained;
+          gone = uptime - self.now.there;
+        }) }
     {
         let is_silent = uptime.saturating_sub(self.client_moved) >= limits.reader;
         let is_drained = uptime.saturating_sub(self.drained) >= limits.drain;
