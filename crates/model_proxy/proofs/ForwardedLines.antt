@@ -158,10 +158,14 @@ own_other edge h passed name absent =
     let element = or_parts (bytes_eq name (codes "forwarded")) _ for.1 in
     let proto = or_parts (bytes_eq name (codes "x-forwarded-proto")) _ element.1 in
     let named = or_parts (bytes_eq name (codes "x-forwarded-host")) _ proto.1 in
-    skip_line name (codes "host") _ _ (eq_sym name (codes "host") host.0)
-    ∙ skip_line name (codes "via") _ _ (eq_sym name (codes "via") by.0)
-    ∙ skip_line name (codes "x-forwarded-for") _ _ (eq_sym name (codes "x-forwarded-for") for.0)
-    ∙ skip_line name (codes "forwarded") _ _ (eq_sym name (codes "forwarded") element.0)
+    let told = proto_told passed ++ host_told h passed in
+    let elements = line_of (codes "forwarded") edge.element ∷ told in
+    let addresses = line_of (codes "x-forwarded-for") edge.address ∷ elements in
+    let vias = line_of (codes "via") (via h.minor) ∷ addresses in
+    skip_line name (codes "host") (unwrap_or (named_host h) edge.host) vias (eq_sym name (codes "host") host.0)
+    ∙ skip_line name (codes "via") (via h.minor) addresses (eq_sym name (codes "via") by.0)
+    ∙ skip_line name (codes "x-forwarded-for") edge.address elements (eq_sym name (codes "x-forwarded-for") for.0)
+    ∙ skip_line name (codes "forwarded") edge.element told (eq_sym name (codes "forwarded") element.0)
     ∙ told_other name (eq_sym name (codes "x-forwarded-proto") proto.0) (eq_sym name (codes "x-forwarded-host") named.0) h passed
 
 -- what stands behind the lines that are passed on

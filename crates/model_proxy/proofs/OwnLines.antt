@@ -129,12 +129,12 @@ host_clean (Some v) other clean names = names v refl
 
 pub own_clean : (edge : Edge) (h : Head) (passed : List Header) → IsCleanEdge edge → ((v : List ℕ) → named_host h ≡ Some v → IsCleanValue v)
     → AllByRecursion IsCleanHeader (own_lines edge h passed)
-own_clean edge h passed clean names = (
-  own_line (codes "host") (unwrap_or (named_host h) edge.host) refl refl (host_clean (named_host h) edge.host clean.host names),
-  own_line (codes "via") (via h.minor) refl refl (via_clean h.minor),
-  own_line (codes "x-forwarded-for") edge.address refl refl clean.address,
-  own_line (codes "forwarded") edge.element refl refl clean.element,
-  all_both IsCleanHeader (unless_there (codes "x-forwarded-proto") (Some (codes "http")) passed) (unless_there (codes "x-forwarded-host") (named_host h) passed)
-      (unless_clean (codes "x-forwarded-proto") (Some (codes "http")) passed refl refl (λ v e. known_value (codes "http") v proto_clean e))
-      (unless_clean (codes "x-forwarded-host") (named_host h) passed refl refl names),
-)
+own_clean edge h passed clean names =
+    let host = own_line (codes "host") (unwrap_or (named_host h) edge.host) refl refl (host_clean (named_host h) edge.host clean.host names) in
+    let by = own_line (codes "via") (via h.minor) refl refl (via_clean h.minor) in
+    let for = own_line (codes "x-forwarded-for") edge.address refl refl clean.address in
+    let element = own_line (codes "forwarded") edge.element refl refl clean.element in
+    let told = all_both IsCleanHeader (unless_there (codes "x-forwarded-proto") (Some (codes "http")) passed) (unless_there (codes "x-forwarded-host") (named_host h) passed)
+    (unless_clean (codes "x-forwarded-proto") (Some (codes "http")) passed refl refl (λ v e. known_value (codes "http") v proto_clean e))
+    (unless_clean (codes "x-forwarded-host") (named_host h) passed refl refl names) in
+    (host, (by, (for, (element, told))))

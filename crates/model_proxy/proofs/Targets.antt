@@ -56,7 +56,7 @@ no_http text begins =
 
 -- where no whole server is asked for
 not_all : (method text : List ℕ) → asks_for_all method text ≡ false → target_sent method text ≡ origin_of (behind_http text) text
-not_all method text no = ap (λ (t : Bool). if t then codes "*" else origin_of (behind_http text) text) no
+not_all method text part = ap (λ (t : Bool). if t then codes "*" else origin_of (behind_http text) text) part
 
 -- and where one is
 is_all : (method text : List ℕ) → asks_for_all method text ≡ true → target_sent method text ≡ codes "*"
