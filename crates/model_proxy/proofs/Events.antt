@@ -273,12 +273,12 @@ module _ (edge : Edge) (theirs ours : Setting) where
   pub by_refused : (q : ClientRequest) (size : BodySize) (whole broken : Bool) (kept : Kept) (server : Option ClientKept)
       → KeepsBy edge theirs ours past.refused done (record { client = kept; server = server; under_way = waits q size whole broken })
       (record { client = kept; server = server; under_way = nothing })
-  by_refused q size whole broken kept server = λ history all x. marks history all all.requests refl x x.under_way
+  by_refused q size whole broken kept at = λ history all x. marks history all all.requests refl x x.under_way
     where
       marks : (history : List ProxyStep) (all : Happenings) (rs : List Request) → all.requests ≡ rs
-          → Carries edge theirs ours (record { client = kept; server = server; under_way = waits q size whole broken }) history all
-          → IsUnderWay edge (waits q size whole broken) rs server all.links
-          → (after : Happenings) × Carries edge theirs ours (record { client = kept; server = server; under_way = nothing })
+          → Carries edge theirs ours (record { client = kept; server = at; under_way = waits q size whole broken }) history all
+          → IsUnderWay edge (waits q size whole broken) rs at all.links
+          → (after : Happenings) × Carries edge theirs ours (record { client = kept; server = at; under_way = nothing })
           (record { event = past.refused; outcome = done } ∷ history) after
       marks history all [] rs_are x under = absurd under
       marks history all (r ∷ rs) rs_are x (idle, w) =

@@ -9,6 +9,7 @@ pub mod Work
 pub mod Rooms
 pub mod Served
 pub mod Fresh
+pub mod Below
 pub mod Times
 pub mod Replies
 pub mod Carried

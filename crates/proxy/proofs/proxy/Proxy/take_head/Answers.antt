@@ -10,6 +10,7 @@ use Rattle.proxy.proofs.Served.{client_serves, head_opens, noted_serves}
 use Rattle.std.proofs.Common.{sym, [], refl, inl, ◌∙◌}
 use Rattle.proxy.proofs.Replies.{head_replies, head_keeps, no_part_put, idle_cause, noted_client, noted_sent, noted_server, closed_replies}
 use Rattle.proxy.specs.Puts.{Puts, HandsNext}
+use Rattle.proxy.proofs.Below.{below_same, below_as, keeps_below}
 use Rattle.proxy.proofs.proxy.Proxy.take_head.Goals as goal
 
 pub open-requires : goal.open-requires
@@ -96,3 +97,16 @@ returns-in-Pending-clause-keeps c = λ idle. (idle.sent, inl refl)
 
 pub returns-in-Closed-clause-keeps : goal.returns-in-Closed-clause-keeps
 returns-in-Closed-clause-keeps c = λ idle. (idle.sent, inl refl)
+
+pub returns-in_ok-open-in-Head-clause-below : goal.returns-in_ok-open-in-Head-clause-below
+returns-in_ok-open-in-Head-clause-below c = keeps_below _ c.args.self.now.server _ c.in_ok-open-in-Head.ensures.keeps.1
+
+pub returns-in_ok-note_fault-in-Fault-clause-below : goal.returns-in_ok-note_fault-in-Fault-clause-below
+returns-in_ok-note_fault-in-Fault-clause-below c =
+    below_as c.args.self.now.server _ (noted_server (record c.args.self.now { client = c.next_head.new.client }) _ c.in_ok-note_fault-in-Fault.ensures.noted)
+
+pub returns-in-Pending-clause-below : goal.returns-in-Pending-clause-below
+returns-in-Pending-clause-below c = below_same c.args.self.now.server
+
+pub returns-in-Closed-clause-below : goal.returns-in-Closed-clause-below
+returns-in-Closed-clause-below c = below_same c.args.self.now.server

@@ -6,6 +6,8 @@ use Rattle.proxy.proofs.Replies.{still_replies, replies_of_unsent, waiting_keeps
 use Rattle.std.proofs.Common.{refl, inl}
 use Rattle.proxy.proofs.Fresh.{still_sends, may_of, idle_sends, sends_of_unsent, begins_by, closes_of_unsent}
 use Rattle.std.proofs.lemmas.Bool.{false≢true}
+use Rattle.proxy.proofs.Below.{still_below, turn_below}
+use Rattle.std.proofs.Common.{ap, is_some}
 use Rattle.proxy.proofs.proxy.Proxy.turn.Goals as goal
 
 pub returns-then-is_still-clause-goes : goal.returns-then-is_still-clause-goes
@@ -92,3 +94,16 @@ returns-in_err-more-in-Some-clause-no_memory_needed c = λ still.
 pub returns-in_err-more-in-None-clause-no_memory_needed : goal.returns-in_err-more-in-None-clause-no_memory_needed
 returns-in_err-more-in-None-clause-no_memory_needed c = λ still.
     absurd (false≢true (sym still ∙ may_of c.is_still.result c.args.self.now c.is_still.ensures c.if-is_still.false))
+
+pub returns-then-is_still-clause-below : goal.returns-then-is_still-clause-below
+returns-then-is_still-clause-below c = still_below c.args.self.now
+
+pub returns-in_ok-more-in-Some-clause-below : goal.returns-in_ok-more-in-Some-clause-below
+returns-in_ok-more-in-Some-clause-below c =
+    let may = may_of c.is_still.result c.args.self.now c.is_still.ensures c.if-is_still.false in
+    turn_below c.args.self.now c.send.new.self may (λ alone. c.in_ok-more-in-Some.ensures.below (alone (ap is_some (sym c.in-Some.ensures.value))) may)
+
+pub returns-in_ok-more-in-None-clause-below : goal.returns-in_ok-more-in-None-clause-below
+returns-in_ok-more-in-None-clause-below c =
+    turn_below c.args.self.now c.go_on.new.self (may_of c.is_still.result c.args.self.now c.is_still.ensures c.if-is_still.false)
+    (λ alone. c.in_ok-more-in-None.ensures.below)
