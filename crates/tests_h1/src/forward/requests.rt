@@ -47,6 +47,18 @@ fn is_sent_as(
 }
 
 #[test]
+fn options_of_a_whole_server_goes_on_as_an_asterisk(rt: HostRuntime) -> Result<(), Fail> {
+    let is_same = is_sent_as(
+        rt.alloc(),
+        false,
+        b"OPTIONS http://c:8 HTTP/1.1\r\nhost: a\r\n\r\n",
+        b"OPTIONS * HTTP/1.1\r\nhost: c:8\r\nvia: 1.1 raspcream\r\nx-forwarded-for: 192.0.2.1\r\nforwarded: for=\"192.0.2.1:4711\";proto=http\r\nx-forwarded-proto: http\r\nx-forwarded-host: c:8\r\ndate: Thu, 01 Jan 1970 00:00:00 GMT\r\n\r\n",
+    )?;
+    assert!(rt; is_same);
+    Ok(())
+}
+
+#[test]
 fn lines_for_one_connection_stay_behind(rt: HostRuntime) -> Result<(), Fail> {
     let is_same = is_sent_as(
         rt.alloc(),
