@@ -19,10 +19,10 @@ one_pull : (s : Step) (xs : List Step) → ArePulls (s ∷ []) → xs ≡ s ∷ 
 one_pull s xs pull is = subst ArePulls (sym is) pull
 
 pub drops_do : (a b : Line) → Drops a b → Doing ArePulls a b
-drops_do a b drops = record { goes = drops.goes }
+drops_do a b drops = record { goes = drops.goes; closes = drops.closes }
 
 pub do_drops : (a b : Line) → Doing ArePulls a b → Drops a b
-do_drops a b doing = record { goes = doing.goes }
+do_drops a b doing = record { goes = doing.goes; closes = doing.closes }
 
 pub does_drop : (a b : Line) → Does [] a b → Drops a b
 does_drop a b does = do_drops a b (doing_as (λ (l : List Step). l ≡ []) ArePulls a b no_pulls does)
@@ -40,7 +40,7 @@ pub drops_then : (a b c : Line) → Drops a b → Drops b c → Drops a c
 drops_then a b c first second = do_drops a c (doing_then ArePulls ArePulls ArePulls a b c pulls_both (drops_do a b first) (drops_do b c second))
 
 pub drops_follow : (a b : Line) → Drops a b → Follows a b
-drops_follow a b drops = record { goes = λ base served. (drops.goes base served).0 }
+drops_follow a b drops = record { goes = λ base served. (drops.goes base served).0; closes = drops.closes }
 
 -- what was pulled is dropped
 are_pulls : (p : Pulled) (xs : List Step) → IsPulled p xs → ArePulls xs

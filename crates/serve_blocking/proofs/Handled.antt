@@ -1,5 +1,5 @@
 -- Requests that go to the handler, one after the other, until the end.
-use Rattle.std.specs.Prelude.{◌≡◌, ℕ, Bool, true, false, if◌then◌else◌, List, [], ◌∷◌, ◌++◌, Option, Some, None, IfSome, IfOk, Result, Ok, Err, is_none, option_and_then}
+use Rattle.std.specs.Prelude.{◌≡◌, ℕ, Bool, true, false, if◌then◌else◌, List, [], ◌∷◌, ◌++◌, Option, Some, None, IfSome, IfOk, Result, Ok, Err, is_none, is_some, option_and_then}
 use Rattle.std.proofs.Common.{refl, sym, ap, subst, ◌∙◌, append_assoc, append-nil}
 use Rattle.http_config.specs.Config.{Settings}
 use Rattle.model_h1.specs.Event as on
@@ -12,7 +12,7 @@ use Rattle.h1_connection.specs.declared.event.End.{End}
 use Rattle.h1_decoder.specs.declared.decoder.HeadItem.{HeadItem}
 use Rattle.h1_strict.specs.Judgement.{status_of}
 use Rattle.serve_blocking.specs.Judged.{doubt_if}
-use Rattle.serve_blocking.specs.Served.{Line, Base, IsServed, IsServedBehind, Follows, Adds, HandsOutOne, SayHeads, Notes, is_admitted, admitted, IsHandled, Handles, IsWritten, HandlesToEnd, Hosts, HostsToEnd, socket_line}
+use Rattle.serve_blocking.specs.Served.{Line, Base, IsServed, IsServedBehind, Follows, Adds, HandsOutOne, SayHeads, Notes, is_admitted, admitted, IsHandled, Handles, IsWritten, HandlesToEnd, Hosts, HostsToEnd, opened, socket_line}
 use Rattle.serve_blocking.proofs.Followed.{behind_then}
 
 -- ---- lists that grow
@@ -93,18 +93,36 @@ handles_then a b c was now handles follows = record {
       };
 }
 
+-- the same behind the same trace, with a body that isn't wanted yet, and with what its answer says
+abbrev behind_opened : (base : Base) (before : List Step) (a : Line) (wanted closes : Bool) → IsServedBehind base before a
+    → IsServedBehind base before (record a { wanted = wanted; closes = closes })
+behind_opened base before a wanted closes x = record {
+  more = x.more;
+  served = record {
+    trace = x.served.trace;
+    stands = x.served.stands;
+    came = x.served.came;
+    went = x.served.went;
+    handed = x.served.handed;
+    judges = x.served.judges;
+    ended = x.served.ended;
+  };
+  longer = x.longer;
+}
+
 -- one request
 pub handles_one : (a b c : Line) (was now : Option (List HeadItem)) (item : HeadItem) → HandsOutOne a b item
-    → Notes was now (admitted b.judges (item ∷ [])) → Follows b c → Handles a was c now
+    → Notes was now (admitted b.judges (item ∷ [])) → Follows (opened b item) c → Handles a was c now
 handles_one a b c was now item one noted follows = record {
   goes = λ base served.
-      let (h, says, y) = one.goes base served in
+      let (h, says, x) = one.goes base served in
+      let y = behind_opened (record base { handed = base.handed ++ (h ∷ []) }) served.trace b false (is_some (doubt_if b.judges item)) x in
       record {
         heads = h ∷ [];
         items = item ∷ [];
         said = (says, tt);
         noted = subst (λ (j : Bool). Notes was now (admitted j (item ∷ []))) y.served.judges noted;
-        behind = behind_then _ _ served.trace b c y (follows.goes (record base { handed = base.handed ++ (h ∷ []) }) y.served);
+        behind = behind_then _ _ served.trace (opened b item) c y (follows.goes (record base { handed = base.handed ++ (h ∷ []) }) y.served);
       };
 }
 

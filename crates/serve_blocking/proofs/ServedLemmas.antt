@@ -125,31 +125,32 @@ keeps_given old new given = subst (λ (l : Option (List ℕ)). Appends old.given
 
 -- an event with this outcome, which hands out no request
 pub adds_by : (old new : Line) (e : Event) (o : Outcome) (came went : List ℕ) → GoesOn old.state e (Is o) new.state → Moves e o came went []
-    → Consumes old.left new.left came → Appends old.given new.given went → new.judges ≡ old.judges → new.ended ≡ given_by o old.ended → Adds e o old new
-adds_by old new e o came went goes moves lost got judges ended = record {
+    → Consumes old.left new.left came → Appends old.given new.given went → new.judges ≡ old.judges → new.closes ≡ old.closes → new.ended ≡ given_by o old.ended → Adds e o old new
+adds_by old new e o came went goes moves lost got judges closes ended = record {
   goes = λ base served.
       let (out, says, is, stands, marked, counted) = goes served.trace served.stands in
       step_behind base old new e o came went [] base.handed served
       (subst (λ (x : Outcome). Stands new.state (record { event = e; outcome = x } ∷ served.trace)) says stands)
       moves (append-nil base.handed) lost got judges ended;
+  closes = closes;
 }
 
 -- the same of one that neither takes nor writes bytes
 pub quietly_adds : (old new : Line) (e : Event) (o : Outcome) → GoesOn old.state e (Is o) new.state → Moves e o [] [] []
-    → new.left ≡ old.left → new.given ≡ old.given → new.judges ≡ old.judges → new.ended ≡ given_by o old.ended → Adds e o old new
-quietly_adds old new e o goes moves left given judges ended =
-    adds_by old new e o [] [] goes moves (keeps_left old new left) (keeps_given old new given) judges ended
+    → new.left ≡ old.left → new.given ≡ old.given → new.judges ≡ old.judges → new.closes ≡ old.closes → new.ended ≡ given_by o old.ended → Adds e o old new
+quietly_adds old new e o goes moves left given judges closes ended =
+    adds_by old new e o [] [] goes moves (keeps_left old new left) (keeps_given old new given) judges closes ended
 
 -- the same of one that isn't done for a request
 pub quietly_waits : (was old new : Line) (e : Event) (o : Outcome) → old ≡ was → is_act e o ≡ false → GoesOn old.state e (Is o) new.state → Moves e o [] [] []
-    → new.left ≡ old.left → new.given ≡ old.given → new.judges ≡ old.judges → new.ended ≡ given_by o old.ended → new.wanted ≡ old.wanted → Waits was new
-quietly_waits was old new e o seen fails goes moves left given judges ended wanted =
-    seen_waits was old new seen (does_wait old new (adds_none e o old new fails (quietly_adds old new e o goes moves left given judges ended)) wanted)
+    → new.left ≡ old.left → new.given ≡ old.given → new.judges ≡ old.judges → new.closes ≡ old.closes → new.ended ≡ given_by o old.ended → new.wanted ≡ old.wanted → Waits was new
+quietly_waits was old new e o seen fails goes moves left given judges closes ended wanted =
+    seen_waits was old new seen (does_wait old new (adds_none e o old new fails (quietly_adds old new e o goes moves left given judges closes ended)) wanted)
 
 -- no event
-pub stays : (old new : Line) → new.state ≡ old.state → Consumes old.left new.left [] → Appends old.given new.given [] → new.judges ≡ old.judges
+pub stays : (old new : Line) → new.state ≡ old.state → Consumes old.left new.left [] → Appends old.given new.given [] → new.judges ≡ old.judges → new.closes ≡ old.closes
     → new.ended ≡ old.ended → Does [] old new
-stays old new state lost got judges ended = record {
+stays old new state lost got judges closes ended = record {
   goes = λ base served. (
     record {
       more = [];
@@ -166,6 +167,7 @@ stays old new state lost got judges ended = record {
     },
     acts_none,
   );
+  closes = closes;
 }
 
 -- ---- what each event moves
@@ -197,11 +199,11 @@ read_moves bytes o is = subst (λ (o : Outcome). Moves (on.read bytes) o bytes [
 
 -- bytes came out of the source, and were read
 pub read_in : (old new : Line) (bytes : List ℕ) → Consumes old.left new.left bytes → ReadsIn old.state bytes new.state → new.given ≡ old.given
-    → new.judges ≡ old.judges → new.ended ≡ old.ended → Does [] old new
-read_in old new [] lost same given judges ended = stays old new same lost (keeps_given old new given) judges ended
-read_in old new (b ∷ bytes) lost goes given judges ended =
+    → new.judges ≡ old.judges → new.closes ≡ old.closes → new.ended ≡ old.ended → Does [] old new
+read_in old new [] lost same given judges closes ended = stays old new same lost (keeps_given old new given) judges closes ended
+read_in old new (b ∷ bytes) lost goes given judges closes ended =
     adds_none (on.read (b ∷ bytes)) (on.took (length (b ∷ bytes))) old new refl
-    (adds_by old new (on.read (b ∷ bytes)) (on.took (length (b ∷ bytes))) (b ∷ bytes) [] goes (read_moves (b ∷ bytes) _ refl) lost (keeps_given old new given) judges ended)
+    (adds_by old new (on.read (b ∷ bytes)) (on.took (length (b ∷ bytes))) (b ∷ bytes) [] goes (read_moves (b ∷ bytes) _ refl) lost (keeps_given old new given) judges closes ended)
 
 -- a read that failed leaves what was left, and another error asks for nothing
 pub kept_left : (e : ReadFromError) (a b : Option (List ℕ)) → (e ≡ read_error.Failed → Keeps a b) → ((e ≡ read_error.Failed → ⊥) → b ≡ a) → Keeps a b
@@ -214,10 +216,10 @@ gave_moves count bytes o is = subst (λ (o : Outcome). Moves (on.write count) o 
 
 -- bytes that waited went into the sink
 written_out : (old new : Line) (count : ℕ) (bytes : List ℕ) → GoesOn old.state (on.write count) (Is (on.gave bytes)) new.state → Appends old.given new.given bytes
-    → new.left ≡ old.left → new.judges ≡ old.judges → new.ended ≡ old.ended → Does [] old new
-written_out old new count bytes goes got left judges ended =
+    → new.left ≡ old.left → new.judges ≡ old.judges → new.closes ≡ old.closes → new.ended ≡ old.ended → Does [] old new
+written_out old new count bytes goes got left judges closes ended =
     adds_none (on.write count) (on.gave bytes) old new refl
-    (adds_by old new (on.write count) (on.gave bytes) [] bytes goes (gave_moves count bytes _ refl) (keeps_left old new left) got judges ended)
+    (adds_by old new (on.write count) (on.gave bytes) [] bytes goes (gave_moves count bytes _ refl) (keeps_left old new left) got judges closes ended)
 
 -- of what a value is seen as
 seen_follows : (was old new : Line) → old ≡ was → Follows old new → Follows was new
@@ -227,16 +229,16 @@ pub seen_adds : (was old new : Line) (e : Event) (o : Outcome) → old ≡ was �
 seen_adds was old new e o is adds = subst (λ (l : Line). Adds e o l new) is adds
 
 -- a read or a write has failed
-pub failed : (was old new : Line) → old ≡ was → new.state ≡ old.state → Keeps old.left new.left → Keeps old.given new.given → new.judges ≡ old.judges
+pub failed : (was old new : Line) → old ≡ was → new.state ≡ old.state → Keeps old.left new.left → Keeps old.given new.given → new.judges ≡ old.judges → new.closes ≡ old.closes
     → new.ended ≡ old.ended → Does [] was new
-failed was old new seen state left given judges ended =
-    seen_doing (λ (l : List Step). l ≡ []) was old new seen (stays old new state (consumes_none _ _ left) (appends_none _ _ given) judges ended)
+failed was old new seen state left given judges closes ended =
+    seen_doing (λ (l : List Step). l ≡ []) was old new seen (stays old new state (consumes_none _ _ left) (appends_none _ _ given) judges closes ended)
 
 -- nothing has changed
-pub unchanged : (was old new : Line) → old ≡ was → new.state ≡ old.state → new.left ≡ old.left → new.given ≡ old.given → new.judges ≡ old.judges
+pub unchanged : (was old new : Line) → old ≡ was → new.state ≡ old.state → new.left ≡ old.left → new.given ≡ old.given → new.judges ≡ old.judges → new.closes ≡ old.closes
     → new.ended ≡ old.ended → Does [] was new
-unchanged was old new seen state left given judges ended =
-    failed was old new seen state (keeps_equal _ _ left) (keeps_equal _ _ given) judges ended
+unchanged was old new seen state left given judges closes ended =
+    failed was old new seen state (keeps_equal _ _ left) (keeps_equal _ _ given) judges closes ended
 
 -- ---- a stretch of what waits
 
@@ -264,8 +266,8 @@ given_behind_head h item b new o is body says =
     is ∙ ap (λ (k : BodyKind). not (has_body k)) body ∙ sym (ap (λ (x : Outcome). given_by x b) says)
 
 pub handed_out : (was old new : Line) (kind : NextKind) (item : HeadItem) → old ≡ was → GoesOn old.state on.next (SaysNext (with_head item kind)) new.state
-    → new.left ≡ old.left → new.given ≡ old.given → new.judges ≡ old.judges → new.ended ≡ given_after kind item old.ended → HandsOut was new kind item
-handed_out was old new next_kind.Head item seen goes left given judges ended = record {
+    → new.left ≡ old.left → new.given ≡ old.given → new.judges ≡ old.judges → new.closes ≡ old.closes → new.ended ≡ given_after kind item old.ended → HandsOut was new kind item
+handed_out was old new next_kind.Head item seen goes left given judges closes ended = record {
   head = λ is. subst (λ (l : Line). HandsOutOne l new item) seen (record {
     goes = λ base served.
         let (o, says, is, stands, marked, counted) = goes served.trace served.stands in (
@@ -280,23 +282,23 @@ handed_out was old new next_kind.Head item seen goes left given judges ended = r
   pending = λ is. absurd (cc is);
   closed = λ end is. absurd (cc is);
 }
-handed_out was old new (next_kind.Fault fault) item seen goes left given judges ended = record {
+handed_out was old new (next_kind.Fault fault) item seen goes left given judges closes ended = record {
   head = λ is. absurd (cc is);
   fault = λ f is.
       seen_follows was old new seen
-      (adds_follow _ _ old new (quietly_adds old new on.next (on.fault (fault_of fault)) goes (fault_moves (fault_of fault) _ refl) left given judges ended));
+      (adds_follow _ _ old new (quietly_adds old new on.next (on.fault (fault_of fault)) goes (fault_moves (fault_of fault) _ refl) left given judges closes ended));
   pending = λ is. absurd (cc is);
   closed = λ end is. absurd (cc is);
 }
-handed_out was old new next_kind.Pending item seen goes left given judges ended = record {
+handed_out was old new next_kind.Pending item seen goes left given judges closes ended = record {
   head = λ is. absurd (cc is);
   fault = λ f is. absurd (cc is);
   pending = λ is.
       seen_follows was old new seen
-      (adds_follow _ _ old new (quietly_adds old new on.next on.pending goes (pending_moves _ refl) left given judges ended));
+      (adds_follow _ _ old new (quietly_adds old new on.next on.pending goes (pending_moves _ refl) left given judges closes ended));
   closed = λ end is. absurd (cc is);
 }
-handed_out was old new (next_kind.Closed end) item seen goes left given judges ended = record {
+handed_out was old new (next_kind.Closed end) item seen goes left given judges closes ended = record {
   head = λ is. absurd (cc is);
   fault = λ f is. absurd (cc is);
   pending = λ is. absurd (cc is);
@@ -304,32 +306,32 @@ handed_out was old new (next_kind.Closed end) item seen goes left given judges e
       let same : end ≡ e = cc is in
       subst (λ (x : End). Adds on.next (on.closed (end_of x)) was new) same
       (seen_adds was old new on.next (on.closed (end_of end)) seen
-      (quietly_adds old new on.next (on.closed (end_of end)) goes (closed_moves (end_of end) _ refl) left given judges ended));
+      (quietly_adds old new on.next (on.closed (end_of end)) goes (closed_moves (end_of end) _ refl) left given judges closes ended));
 }
 
 -- the first bytes of a stretch of what waits went into the sink
 pub stretch_written : (old new : Line) (count : ℕ) (front rest waiting : List ℕ) → count ≤ length front → front ++ rest ≡ waiting
     → GoesOn old.state (on.write count) (Is (on.gave (take count waiting))) new.state → Appends old.given new.given (take count front) → new.left ≡ old.left
-    → new.judges ≡ old.judges → new.ended ≡ old.ended → Does [] old new
-stretch_written old new count front rest waiting within is goes got left judges ended =
+    → new.judges ≡ old.judges → new.closes ≡ old.closes → new.ended ≡ old.ended → Does [] old new
+stretch_written old new count front rest waiting within is goes got left judges closes ended =
     written_out old new count (take count waiting) goes
-    (subst (λ (l : List ℕ). Appends old.given new.given l) (taken_first count front rest waiting within is) got) left judges ended
+    (subst (λ (l : List ℕ). Appends old.given new.given l) (taken_first count front rest waiting within is) got) left judges closes ended
 
 -- ---- what is pulled
 
 -- a pull with this outcome, which gave something
 pull_does : (was old new : Line) (o : Outcome) → old ≡ was → is_act on.pull o ≡ true → step_taken on.pull o ≡ [] → step_written o ≡ [] → head_in o ≡ []
-    → GoesOn old.state on.pull (Is o) new.state → new.left ≡ old.left → new.given ≡ old.given → new.judges ≡ old.judges → new.ended ≡ given_by o old.ended
+    → GoesOn old.state on.pull (Is o) new.state → new.left ≡ old.left → new.given ≡ old.given → new.judges ≡ old.judges → new.closes ≡ old.closes → new.ended ≡ given_by o old.ended
     → Does (record { event = on.pull; outcome = o } ∷ []) was new
-pull_does was old new o seen act takes writes hands goes left given judges ended =
+pull_does was old new o seen act takes writes hands goes left given judges closes ended =
     seen_doing (λ (l : List Step). l ≡ record { event = on.pull; outcome = o } ∷ []) was old new seen
-    (adds_does on.pull o old new act (quietly_adds old new on.pull o goes (pulled_moves o takes writes hands) left given judges ended))
+    (adds_does on.pull o old new act (quietly_adds old new on.pull o goes (pulled_moves o takes writes hands) left given judges closes ended))
 
 pub pulls_here : (was old new : Line) (p : Pulled) → old ≡ was → GoesOn old.state on.pull (SaysPulled p) new.state → new.left ≡ old.left → new.given ≡ old.given
-    → new.judges ≡ old.judges → new.ended ≡ given_behind p old.ended → Pulls p was new
-pulls_here was old new (pulled.Bytes bytes) seen goes left given judges ended =
-    pull_does was old new (on.bytes bytes) seen refl refl refl refl goes left given judges ended
-pulls_here was old new (pulled.Trailers trailers) seen goes left given judges ended =
+    → new.judges ≡ old.judges → new.closes ≡ old.closes → new.ended ≡ given_behind p old.ended → Pulls p was new
+pulls_here was old new (pulled.Bytes bytes) seen goes left given judges closes ended =
+    pull_does was old new (on.bytes bytes) seen refl refl refl refl goes left given judges closes ended
+pulls_here was old new (pulled.Trailers trailers) seen goes left given judges closes ended =
     seen_doing (IsPulled (pulled.Trailers trailers)) was old new seen (record {
       goes = λ base served.
           let (o, says, is, stands, marked, counted) = goes served.trace served.stands in
@@ -337,11 +339,12 @@ pulls_here was old new (pulled.Trailers trailers) seen goes left given judges en
           (subst (λ (y : Outcome). Stands new.state (record { event = on.pull; outcome = y } ∷ served.trace)) says.1 stands)
           (pulled_moves (on.trailers says.0) refl refl refl) (append-nil base.handed) (keeps_left old new left) (keeps_given old new given) judges ended in
           (x.0, (says.0, says.2, ap acts x.1 ∙ acts_one on.pull (on.trailers says.0) refl));
+      closes = closes;
     })
-pulls_here was old new pulled.End seen goes left given judges ended =
-    pull_does was old new on.body_ended seen refl refl refl refl goes left given judges ended
-pulls_here was old new (pulled.Broken fault) seen goes left given judges ended =
-    pull_does was old new (on.broken_by (broken_of fault)) seen refl refl refl refl goes left given judges ended
-pulls_here was old new pulled.Pending seen goes left given judges ended =
+pulls_here was old new pulled.End seen goes left given judges closes ended =
+    pull_does was old new on.body_ended seen refl refl refl refl goes left given judges closes ended
+pulls_here was old new (pulled.Broken fault) seen goes left given judges closes ended =
+    pull_does was old new (on.broken_by (broken_of fault)) seen refl refl refl refl goes left given judges closes ended
+pulls_here was old new pulled.Pending seen goes left given judges closes ended =
     seen_doing (λ (l : List Step). l ≡ []) was old new seen
-    (adds_none on.pull on.pending old new refl (quietly_adds old new on.pull on.pending goes (pulled_moves on.pending refl refl refl) left given judges ended))
+    (adds_none on.pull on.pending old new refl (quietly_adds old new on.pull on.pending goes (pulled_moves on.pending refl refl refl) left given judges closes ended))

@@ -34,16 +34,20 @@ doing_then P Q R a b c both first second = record {
       let x = first.goes base served in
       let y = second.goes base x.0.served in
       (behind_then base base served.trace b c x.0 y.0, subst R (sym (acts_both y.0.more x.0.more)) (both (acts x.0.more) (acts y.0.more) x.1 y.1));
+  closes = second.closes ∙ first.closes;
 }
 
 pub doing_as : (P Q : List Step → Type 0) (a b : Line) → ((xs : List Step) → P xs → Q xs) → Doing P a b → Doing Q a b
-doing_as P Q a b as_ doing = record { goes = λ base served. let x = doing.goes base served in (x.0, as_ (acts x.0.more) x.1) }
+doing_as P Q a b as_ doing = record {
+  goes = λ base served. let x = doing.goes base served in (x.0, as_ (acts x.0.more) x.1);
+  closes = doing.closes;
+}
 
 pub doing_follow : (P : List Step → Type 0) (a b : Line) → Doing P a b → Follows a b
-doing_follow P a b doing = record { goes = λ base served. (doing.goes base served).0 }
+doing_follow P a b doing = record { goes = λ base served. (doing.goes base served).0; closes = doing.closes }
 
 pub does_none : (a : Line) → Does [] a a
-does_none a = record { goes = λ base served. (record { more = []; served = served; longer = refl }, acts_none) }
+does_none a = record { goes = λ base served. (record { more = []; served = served; longer = refl }, acts_none); closes = refl }
 
 pub does_equal : (a b : Line) → b ≡ a → Does [] a b
 does_equal a b same = subst (λ (l : Line). Does [] a l) (sym same) (does_none a)
@@ -55,10 +59,10 @@ seen_doing P was old new is doing = subst (λ (l : Line). Doing P l new) is doin
 -- ---- while nothing is done
 
 pub waits_do : (a b : Line) → Waits a b → Does [] a b
-waits_do a b waits = record { goes = waits.goes }
+waits_do a b waits = record { goes = waits.goes; closes = waits.closes }
 
 pub does_wait : (a b : Line) → Does [] a b → b.wanted ≡ a.wanted → Waits a b
-does_wait a b does wanted = record { goes = does.goes; wanted = wanted }
+does_wait a b does wanted = record { goes = does.goes; closes = does.closes; wanted = wanted }
 
 pub waits_none : (a : Line) → Waits a a
 waits_none a = does_wait a a (does_none a) refl
@@ -79,7 +83,7 @@ pub waits_then : (a b c : Line) → Waits a b → Waits b c → Waits a c
 waits_then a b c first second = does_wait a c (then_doing (λ (l : List Step). l ≡ []) a b c first (waits_do b c second)) (second.wanted ∙ first.wanted)
 
 pub waits_follow : (a b : Line) → Waits a b → Follows a b
-waits_follow a b waits = record { goes = λ base served. (waits.goes base served).0 }
+waits_follow a b waits = record { goes = λ base served. (waits.goes base served).0; closes = waits.closes }
 
 -- the same, of what a value is seen as
 pub seen_waits : (was old new : Line) → old ≡ was → Waits old new → Waits was new
@@ -88,7 +92,13 @@ seen_waits was old new is waits = subst (λ (l : Line). Waits l new) is waits
 -- ---- one event
 
 pub adds_does : (e : Event) (o : Outcome) (a b : Line) → is_act e o ≡ true → Adds e o a b → Does (record { event = e; outcome = o } ∷ []) a b
-adds_does e o a b is adds = record { goes = λ base served. let x = adds.goes base served in (x.0, ap acts x.1 ∙ acts_one e o is) }
+adds_does e o a b is adds = record {
+  goes = λ base served. let x = adds.goes base served in (x.0, ap acts x.1 ∙ acts_one e o is);
+  closes = adds.closes;
+}
 
 pub adds_none : (e : Event) (o : Outcome) (a b : Line) → is_act e o ≡ false → Adds e o a b → Does [] a b
-adds_none e o a b is adds = record { goes = λ base served. let x = adds.goes base served in (x.0, ap acts x.1 ∙ acts_skip e o is) }
+adds_none e o a b is adds = record {
+  goes = λ base served. let x = adds.goes base served in (x.0, ap acts x.1 ∙ acts_skip e o is);
+  closes = adds.closes;
+}

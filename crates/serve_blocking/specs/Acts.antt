@@ -27,21 +27,19 @@ abbrev pub is_pending : Outcome → Bool
 is_pending on.pending = true
 is_pending _ = false
 
--- While a server waits it reads, writes and tells the time, it asks for what hasn't come, and it says that a connection
--- is to end soon. All else is done for a request.
+-- While a server waits it reads, writes and tells the time, and it asks for what hasn't come. All else is an act.
 abbrev pub is_act : Event → Outcome → Bool
 is_act (on.read bytes) outcome = false
 is_act on.eof outcome = false
 is_act (on.write count) outcome = false
 is_act (on.tick ms) outcome = false
-is_act on.drain outcome = false
 is_act on.pull outcome = not (is_pending outcome)
 is_act event outcome = true
 
 abbrev pub act_in : Step → List Step
 act_in s = if is_act s.event s.outcome then s ∷ [] else []
 
--- what these steps did for a request, the oldest first
+-- the acts among these steps, the oldest first
 unfoldable pub acts : List Step → List Step
 acts [] = []
 acts (s ∷ before) = acts before ++ act_in s
@@ -58,17 +56,20 @@ may state event = allowed_by (setting_of state.settings) state.kept event
 abbrev pub where_may : State → Event → List Step
 where_may state event = if may state event then step event ∷ [] else []
 
--- what is served goes on, no request is handed out, and what is done for the open request is such
+-- What is served goes on, no request is handed out, and what is done is such. Whether the open request's answer ends the
+-- connection stays as it is.
 pub record Doing (Such : List Step → Type 0) (old new : Line) : Type 0 where
   pub goes : (base : Base) (served : IsServed base old) → (behind : IsServedBehind base served.trace new) × Such (acts behind.more)
+  pub closes : new.closes ≡ old.closes
 
--- exactly these steps are done for the open request
+-- exactly these steps are done
 abbrev pub Does : List Step → Line → Line → Type 0
 Does steps old new = Doing (λ made. made ≡ steps) old new
 
--- nothing is done for the open request, and its body is as wanted as before
+-- nothing is done, and the open request's body is as wanted as before
 pub record Waits (old new : Line) : Type 0 where
   pub goes : (base : Base) (served : IsServed base old) → (behind : IsServedBehind base served.trace new) × (acts behind.more ≡ [])
+  pub closes : new.closes ≡ old.closes
   pub wanted : new.wanted ≡ old.wanted
 
 -- the connection is lost, it stalls, or memory has run out
@@ -99,6 +100,7 @@ IsPassed line = (line.ended ≡ true) ⊎ (may line.state on.drop_body ≡ false
 -- nothing is done but that a body is pulled, and dropped
 pub record Drops (old new : Line) : Type 0 where
   pub goes : (base : Base) (served : IsServed base old) → (behind : IsServedBehind base served.trace new) × ArePulls (acts behind.more)
+  pub closes : new.closes ≡ old.closes
 
 -- the pull that gave this, and none where nothing was there
 abbrev pub IsPulled : Pulled → List Step → Type 0

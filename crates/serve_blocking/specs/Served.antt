@@ -1,6 +1,6 @@
 -- What a connection that is served stands for: what came out of its source, what went into its sink, which requests were
 -- handed out, and which of them the handler was given.
-use Rattle.std.specs.Prelude.{◌≡◌, ℕ, Bool, true, false, not, List, [], ◌∷◌, ◌++◌, if◌then◌else◌, Option, Some, None, is_none, option_and_then, ⊤}
+use Rattle.std.specs.Prelude.{◌≡◌, ℕ, Bool, true, false, not, List, [], ◌∷◌, ◌++◌, if◌then◌else◌, Option, Some, None, is_none, is_some, option_and_then, ⊤}
 use Rattle.std.specs.Io.KnownBytes.{Consumes, Appends}
 use Rattle.http_config.specs.Config.{Settings}
 use Rattle.model_h1.specs.Event.{Event, Outcome}
@@ -82,9 +82,10 @@ pub record IsServedBehind (base : Base) (before : List Step) (line : Line) : Typ
   pub served : IsServed base line
   pub longer : served.trace ≡ more ++ before
 
--- what is served goes on, and no request is handed out
+-- what is served goes on, no request is handed out, and whether the open request's answer ends the connection stays as it is
 pub record Follows (old new : Line) : Type 0 where
   pub goes : (base : Base) (served : IsServed base old) → IsServedBehind base served.trace new
+  pub closes : new.closes ≡ old.closes
 
 -- ---- one event
 
@@ -92,6 +93,7 @@ pub record Follows (old new : Line) : Type 0 where
 pub record Adds (event : Event) (outcome : Outcome) (old new : Line) : Type 0 where
   pub goes : (base : Base) (served : IsServed base old)
       → (behind : IsServedBehind base served.trace new) × (behind.more ≡ record { event = event; outcome = outcome } ∷ [])
+  pub closes : new.closes ≡ old.closes
 
 -- ---- answers
 
@@ -100,6 +102,11 @@ abbrev pub MayAnswer : State → Type 0
 MayAnswer state = (head : _) (size : _) → IsAllowed state (on.answer head size)
 
 -- ---- requests
+
+-- A connection whose next request has this head: its body isn't wanted yet, and where there is a doubt about the head, the
+-- connection ends with its answer.
+abbrev pub opened : Line → HeadItem → Line
+opened line item = record line { wanted = false; closes = is_some (doubt_if line.judges item) }
 
 -- the items say the heads, one by one
 abbrev pub SayHeads : List HeadItem → List Head → Type 0

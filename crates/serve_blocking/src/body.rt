@@ -233,8 +233,7 @@ impl<S: TimedSource, K: TimedSink> Body<S, K> {
     // A request was handed out, whose body ends so, and with whose answer the connection ends or not. The body's bytes
     // are waited for from now on.
     pub(crate) fn begin_request(&mut self, kind: BodyKind, closes: bool)
-        ensures same { self.new ≡ record self.old { wanted = false; closes = closes } }
-        ensures follows { Follows self.old self.new }
+        ensures { self.new ≡ record self.old { wanted = false; closes = closes } }
     {
         self.kind = kind;
         self.closes = closes;

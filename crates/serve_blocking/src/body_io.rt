@@ -2,8 +2,8 @@
 ghost use Rattle.std.specs.Prelude.{◌≡◌, ℕ, IsTrue, true, false, IfErr, OnOk};
 ghost use Rattle.model_h1.specs.Event as on;
 ghost use Rattle.h1_connection.specs.State.{IsAllowed};
-ghost use Rattle.serve_blocking.specs.Acts.{IsFlushed, Waits, is_loss};
-ghost use Rattle.serve_blocking.specs.Served.{IsWritten};
+ghost use Rattle.serve_blocking.specs.Acts.{Does, IsFlushed, Waits, is_loss, where_may};
+ghost use Rattle.serve_blocking.specs.Served.{Follows, IsWritten};
 
 use crate::pace::Pace;
 use crate::{Body, HandleError};
@@ -137,13 +137,18 @@ impl<S: TimedSource, K: TimedSink> Body<S, K> {
     }
 
     /// Where the server is to end, no further request is taken.
-    #[tactic(auto, using(crate::proofs::Waited::waits_none, crate::proofs::Waited::waits_then))]
     pub(crate) fn drain_where(&mut self, is_ending: bool)
-        ensures waits { Waits self.old self.new }
+        ensures ends { is_ending ≡ true → Does (where_may self.old.state on.drain) self.old self.new }
+        ensures stays { is_ending ≡ false → self.new ≡ self.old }
+        ensures follows { Follows self.old self.new }
     {
-        if is_ending && self.connection.can_drain() {
-            self.drain();
+        if !is_ending {
+            return;
         }
+        if !self.connection.can_drain() {
+            return;
+        }
+        self.drain();
     }
 
     /// Whether all that was to be written was written.

@@ -6,7 +6,7 @@ ghost use Rattle.h1_encoder.specs.Meaning.{answer_of};
 ghost use Rattle.h1_strict.specs.Judgement.{status_of};
 ghost use Rattle.serve_blocking.specs.Acts.{Answers, Completes};
 ghost use Rattle.serve_blocking.specs.Judged.{doubt_if, status_after};
-ghost use Rattle.serve_blocking.specs.Served.{Follows, Handles, HandlesToEnd, Hosts, HostsToEnd, MayAnswer, Notes, admitted};
+ghost use Rattle.serve_blocking.specs.Served.{Follows, Handles, HandlesToEnd, Hosts, HostsToEnd, MayAnswer, Notes, admitted, opened};
 
 use crate::{Answer, Body, HandleError, Handler, Incoming, Limits};
 use h1_connection::{End, NextKind};
@@ -129,7 +129,6 @@ fn turn<S: TimedSource, K: TimedSink, H: Handler>(
 
 // Takes a request that was handed out: it goes to the handler, and is answered; or where its head is refused, it is
 // answered and no handler sees it.
-#[tactic(auto, using(crate::proofs::Followed::follows_then, crate::proofs::Handled::notes_refused, crate::proofs::Handled::notes_admitted))]
 fn take<S: TimedSource, K: TimedSink, H: Handler>(
     alloc: Global,
     body: &mut Body<S, K>,
@@ -138,9 +137,9 @@ fn take<S: TimedSource, K: TimedSink, H: Handler>(
     handler: &mut H,
 ) -> Result<(), HandleError>
     ensures handled { Notes (H.handled handler.old) (H.handled handler.new) (admitted body.old.judges (item.now ∷ [])) }
-    ensures follows { Follows body.old body.new }
-    ensures refused { IfSome (option_and_then status_of (doubt_if body.old.judges item.now)) (λ status. OnOk result (Answers (answer_of (fresh_response status)) [] (record body.old { wanted = false; closes = true }) body.new)) }
-    ensures completed { IfNone (option_and_then status_of (doubt_if body.old.judges item.now)) (OnOk result (Completes body.old body.new)) }
+    ensures follows { Follows (opened body.old item.now) body.new }
+    ensures refused { IfSome (option_and_then status_of (doubt_if body.old.judges item.now)) (λ status. OnOk result (Answers (answer_of (fresh_response status)) [] (record (opened body.old item.now) { closes = true }) body.new)) }
+    ensures completed { IfNone (option_and_then status_of (doubt_if body.old.judges item.now)) (OnOk result (Completes (opened body.old item.now) body.new)) }
 {
     let doubt = judged(item, body.limits.judges_heads);
     body.begin_request(item.body, doubt.is_some());

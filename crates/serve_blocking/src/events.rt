@@ -1,5 +1,6 @@
 //! What may happen to a connection that is served, each with what it leaves.
 ghost use Rattle.std.specs.Prelude.{◌≡◌, [], ◌∷◌, ℕ, Bool, not, IfOk, OnOk, OnErr};
+ghost use Rattle.std.specs.Io.KnownBytes.{IsAtEnd};
 ghost use Rattle.h1_encoder.specs.Meaning.{answer_of, size_of};
 ghost use Rattle.model_h1.specs.Event as on;
 ghost use Rattle.model_h1.specs.Request.{has_body};
@@ -29,7 +30,7 @@ impl<S: TimedSource, K: TimedSink> Body<S, K> {
     pub(crate) fn read_bytes(&mut self) -> Result<usize, ReadFromError>
         requires can_read { IsAllowed self.old.state (on.read []) }
         ensures waits { Waits self.old self.new }
-        ensures end { IfOk result (λ count. count ≡ 0 → self.new.state ≡ self.old.state) }
+        ensures end { IfOk result (λ count. count ≡ 0 → (self.new.state ≡ self.old.state) × IsAtEnd self.new.left) }
     {
         let count = self.connection.read_from(&mut self.source)?;
         Ok(count)
@@ -38,6 +39,7 @@ impl<S: TimedSource, K: TimedSink> Body<S, K> {
     /// The source has ended.
     pub(crate) fn end_input(&mut self)
         requires can_read { IsAllowed self.old.state on.eof }
+        requires at_end { IsAtEnd self.old.left }
         ensures waits { Waits self.old self.new }
     {
         self.connection.eof();
@@ -139,7 +141,7 @@ impl<S: TimedSource, K: TimedSink> Body<S, K> {
     /// No further request is to be taken.
     pub(crate) fn drain(&mut self)
         requires can_drain { IsAllowed self.old.state on.drain }
-        ensures waits { Waits self.old self.new }
+        ensures adds { Adds on.drain on.done self.old self.new }
     {
         self.connection.drain();
     }

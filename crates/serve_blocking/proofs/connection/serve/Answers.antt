@@ -10,7 +10,7 @@ loop-init g c = record { handles = handles_none _ _ }
 
 pub loop-preserved : goal.loop-preserved
 loop-preserved g c = record {
-  handles = handles_then _ _ _ _ _ (handles_both _ _ _ _ _ _ c.loop.invariant.handles c.in_ok-end.ensures.handles) (waits_follow _ _ c.drain_where.ensures.waits);
+  handles = handles_then _ _ _ _ _ (handles_both _ _ _ _ _ _ c.loop.invariant.handles c.in_ok-end.ensures.handles) c.drain_where.ensures.follows;
 }
 
 pub returns-in_err-end-clause-handles : goal.returns-in_err-end-clause-handles

@@ -6,5 +6,5 @@ use Rattle.serve_blocking.proofs.body.Body.break_answer.Goals as goal
 pub returns : goal.returns
 returns g c = record {
   adds = seen_adds _ _ _ _ _ c.self.view_is
-      (quietly_adds _ _ on.body_error on.done c.fail_answer.ensures.stands (done_moves on.body_error refl on.done refl) refl refl refl refl);
+      (quietly_adds _ _ on.body_error on.done c.fail_answer.ensures.stands (done_moves on.body_error refl on.done refl) refl refl refl refl refl);
 }

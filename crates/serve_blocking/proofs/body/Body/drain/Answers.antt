@@ -1,9 +1,10 @@
 use Rattle.std.proofs.Common.{refl}
 use Rattle.model_h1.specs.Event as on
-use Rattle.serve_blocking.proofs.ServedLemmas.{quietly_waits, done_moves}
+use Rattle.serve_blocking.proofs.ServedLemmas.{quietly_adds, done_moves, seen_adds}
 use Rattle.serve_blocking.proofs.body.Body.drain.Goals as goal
 
 pub returns : goal.returns
 returns g c = record {
-  waits = quietly_waits _ _ _ on.drain on.done c.self.view_is refl c.drain.ensures.stands (done_moves on.drain refl on.done refl) refl refl refl refl refl;
+  adds = seen_adds _ _ _ _ _ c.self.view_is
+      (quietly_adds _ _ on.drain on.done c.drain.ensures.stands (done_moves on.drain refl on.done refl) refl refl refl refl refl);
 }

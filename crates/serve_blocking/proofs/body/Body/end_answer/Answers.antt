@@ -6,4 +6,4 @@ use Rattle.serve_blocking.proofs.body.Body.end_answer.Goals as goal
 pub returns-clause-adds : goal.returns-clause-adds
 returns-clause-adds g c =
     seen_adds _ _ _ _ _ c.self.view_is
-    (quietly_adds _ _ on.body_end on.done c.in_ok-end_answer.ensures.stands (done_moves on.body_end refl on.done refl) refl refl refl refl)
+    (quietly_adds _ _ on.body_end on.done c.in_ok-end_answer.ensures.stands (done_moves on.body_end refl on.done refl) refl refl refl refl refl)

@@ -6,4 +6,4 @@ use Rattle.serve_blocking.proofs.body.Body.hand_in.Goals as goal
 pub returns-clause-adds : goal.returns-clause-adds
 returns-clause-adds g c =
     seen_adds _ _ _ _ _ c.self.view_is
-    (quietly_adds _ _ (on.chunk c.args.bytes.now) on.done c.in_ok-chunk.ensures.stands (done_moves (on.chunk c.args.bytes.now) refl on.done refl) refl refl refl refl)
+    (quietly_adds _ _ (on.chunk c.args.bytes.now) on.done c.in_ok-chunk.ensures.stands (done_moves (on.chunk c.args.bytes.now) refl on.done refl) refl refl refl refl refl)

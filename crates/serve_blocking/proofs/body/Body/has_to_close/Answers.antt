@@ -8,19 +8,19 @@ use Rattle.serve_blocking.proofs.Settled.{never, passed_where}
 use Rattle.serve_blocking.proofs.body.Body.has_to_close.Goals as goal
 
 pub returns-then-closes-clause-drops : goal.returns-then-closes-clause-drops
-returns-then-closes-clause-drops g c = does_drop _ _ (unchanged _ _ _ c.self.view_is refl refl refl refl refl)
+returns-then-closes-clause-drops g c = does_drop _ _ (unchanged _ _ _ c.self.view_is refl refl refl refl refl refl)
 
 pub returns-then-closes-clause-stays : goal.returns-then-closes-clause-stays
 returns-then-closes-clause-stays g c = λ fails left. absurd (cc (ap (λ (l : Line). l.closes) c.self.view_is, fails, c.if-closes.true))
 
 pub returns-then-is_wanted-clause-drops : goal.returns-then-is_wanted-clause-drops
-returns-then-is_wanted-clause-drops g c = does_drop _ _ (unchanged _ _ _ c.self.view_is refl refl refl refl refl)
+returns-then-is_wanted-clause-drops g c = does_drop _ _ (unchanged _ _ _ c.self.view_is refl refl refl refl refl refl)
 
 pub returns-then-is_wanted-clause-closes : goal.returns-then-is_wanted-clause-closes
 returns-then-is_wanted-clause-closes g c = λ holds. absurd (cc (ap (λ (l : Line). l.closes) c.self.view_is, holds, c.if-closes.false))
 
 pub returns-then-not-can_pull-clause-drops : goal.returns-then-not-can_pull-clause-drops
-returns-then-not-can_pull-clause-drops g c = does_drop _ _ (unchanged _ _ _ c.self.view_is refl refl refl refl refl)
+returns-then-not-can_pull-clause-drops g c = does_drop _ _ (unchanged _ _ _ c.self.view_is refl refl refl refl refl refl)
 
 pub returns-then-not-can_pull-clause-closes : goal.returns-then-not-can_pull-clause-closes
 returns-then-not-can_pull-clause-closes g c = λ holds. absurd (cc (ap (λ (l : Line). l.closes) c.self.view_is, holds, c.if-closes.false))

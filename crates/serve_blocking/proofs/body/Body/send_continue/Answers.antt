@@ -11,7 +11,7 @@ pub returns-clause-does : goal.returns-clause-does
 returns-clause-does g c =
     seen_doing (λ (l : List Step). l ≡ step on.send_continue ∷ []) _ _ _ c.self.view_is
     (adds_does on.send_continue on.done _ _ refl
-    (quietly_adds _ _ on.send_continue on.done c.in_ok-send_continue.ensures.stands (done_moves on.send_continue refl on.done refl) refl refl refl refl))
+    (quietly_adds _ _ on.send_continue on.done c.in_ok-send_continue.ensures.stands (done_moves on.send_continue refl on.done refl) refl refl refl refl refl))
 
 pub returns-clause-wanted : goal.returns-clause-wanted
 returns-clause-wanted g c = ap (λ (l : Line). l.wanted) c.self.view_is

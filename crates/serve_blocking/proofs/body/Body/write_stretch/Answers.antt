@@ -15,5 +15,5 @@ returns g c = record {
 
 pub returns-in_err-count : goal.returns-in_err-count
 returns-in_err-count g c = record {
-  waits = does_wait _ _ (failed _ _ _ c.self.view_is refl (keeps_equal _ _ refl) c.in_err-count.ensures.bytes refl refl) (ap (λ (l : Line). l.wanted) c.self.view_is);
+  waits = does_wait _ _ (failed _ _ _ c.self.view_is refl (keeps_equal _ _ refl) c.in_err-count.ensures.bytes refl refl refl) (ap (λ (l : Line). l.wanted) c.self.view_is);
 }
