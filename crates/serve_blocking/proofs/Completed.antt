@@ -43,7 +43,7 @@ pub refused_here : (old marked new : Line) (item : HeadItem) (status : ℕ) (hea
     → IfSome (option_and_then status_of (doubt_if old.judges item)) (λ s. OnOk r (Answers (answer_of (fresh_response s)) [] (record (opened old item) { closes = true }) new))
 refused_here old marked new item status head r is same head_is answers =
     let closed : marked ≡ record (opened old item) { closes = true } =
-        same ∙ ap (λ (b : Bool). record old { wanted = false; closes = b }) (some_doubt (doubt_if old.judges item) status is) in
+    same ∙ ap (λ (b : Bool). record old { wanted = false; closes = b }) (some_doubt (doubt_if old.judges item) status is) in
     subst (λ (x : Option ℕ). IfSome x (λ s. OnOk r (Answers (answer_of (fresh_response s)) [] (record (opened old item) { closes = true }) new))) (sym is)
     (subst (λ (h : ResponseParts). OnOk r (Answers (answer_of h) [] (record (opened old item) { closes = true }) new)) head_is
     (subst (λ (l : Line). OnOk r (Answers (answer_of head) [] l new)) closed answers))
