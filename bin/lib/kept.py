@@ -11,8 +11,6 @@ import sys
 
 def load_rt():
     file = os.path.realpath(shutil.which("rt"))
-    if not os.path.isfile(f"{os.path.dirname(file)}/rtlib.py"):
-        file = "/opt/rattle/bin/rt"
     sys.path.insert(0, os.path.dirname(file))
     loader = importlib.machinery.SourceFileLoader("rt_command", file)
     module = importlib.util.module_from_spec(importlib.util.spec_from_loader("rt_command", loader))
