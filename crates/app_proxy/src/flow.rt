@@ -44,6 +44,7 @@ fn follow_client(
     match came {
         TakenIn::Bytes(count) => {
             standing.asked = uptime;
+            standing.pace.count(count);
             standing.client.read_some(count, limit);
             Ok(true)
         }

@@ -64,7 +64,10 @@ impl Link {
         shared: &mut Shared,
         token: usize,
     ) -> Result<(), NoMemory> {
-        match shared.upstream.begin(&shared.poll, token) {
+        let begun = shared
+            .upstream
+            .begin(&shared.poll, token, &shared.limits, shared.uptime);
+        match begun {
             Begun::Open(stream) => {
                 standing.server.may_write = true;
                 *self = Link::Open(stream);
@@ -154,11 +157,13 @@ impl Link {
         break_off(forwarder, standing)
     }
 
-    /// Gives a connection on which nothing is under way back. The forwarder is told that it has ended.
+    /// Gives a connection on which nothing is under way back, which was last in use at this moment of uptime. The forwarder is
+    /// told that it has ended.
     pub fn give_back(
         &mut self,
         forwarder: &mut Forwarder,
         shared: &mut Shared,
+        used: u64,
     ) -> Result<(), NoMemory>
         ensures { OnOk result (GivesBack self.old self.new forwarder.old forwarder.new) }
     {
@@ -167,7 +172,11 @@ impl Link {
         }
         forwarder.server_eof()?;
         match mem::replace(self, Link::None) {
-            Link::Open(stream) => shared.upstream.keep(&shared.poll, stream),
+            Link::Open(stream) => {
+                shared
+                    .upstream
+                    .keep(&shared.poll, stream, &shared.limits, used)
+            }
             Link::None | Link::Connecting(_) => Ok(()),
         }
     }

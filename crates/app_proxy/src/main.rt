@@ -3,6 +3,7 @@
 
 mod access;
 mod flow;
+mod limits;
 mod line;
 mod link;
 mod options;
@@ -15,9 +16,10 @@ mod token;
 mod upstream;
 
 use crate::access::AccessLog;
+use crate::limits::{Limits, descriptors};
 use crate::options::{Command, HELP, Options, VERSION};
-use crate::server::{ServeError, Server};
-use http_types::{ServiceConfig, ServiceConfigBuilder};
+use crate::server::{ServeError, Server, Target};
+use http_types::{KeepAlive, ServiceConfig, ServiceConfigBuilder};
 use std::alloc::Global;
 use std::io::ErrorKind;
 use std::net::{SocketAddr, TcpListener};
@@ -33,9 +35,6 @@ const NO_PORT: u8 = 4;
 
 /// Memory has run out.
 const NO_MEMORY: u8 = 5;
-
-/// How long a peer may take for what is left once its connection ends, in milliseconds.
-const DISCONNECT_TIMEOUT: u64 = 10_000;
 
 fn main(rt: HostRuntime) -> ExitCode {
     let alloc = rt.alloc();
@@ -99,14 +98,25 @@ fn run(
 ) -> Result<(), ServeError> {
     let listener = mio::net::TcpListener::from_std(listener);
     let log = AccessLog::new(rt, options.is_quiet);
-    let mut forwarder = Server::new(rt, config(), listener, server, log)?;
+    let target = Target {
+        server,
+        trusts_clients: options.trusts_clients,
+        is_lax: options.is_lax,
+    };
+    let mut limits = options.limits;
+    if let Some(count) = descriptors(rt) {
+        limits.fit(count);
+    }
+    let mut forwarder = Server::new(rt, config(&limits), listener, target, limits, log)?;
     forwarder.run(!options.ignores_input)
 }
 
 // The settings of each connection.
-fn config() -> ServiceConfig {
+fn config(limits: &Limits) -> ServiceConfig {
     ServiceConfigBuilder::new()
-        .client_disconnect_timeout(DISCONNECT_TIMEOUT)
+        .client_request_timeout(limits.head)
+        .keep_alive(KeepAlive::Timeout(limits.idle))
+        .client_disconnect_timeout(limits.end)
         .build()
 }
 

@@ -1,4 +1,5 @@
 //! The words that the program is started with.
+use crate::limits::Limits;
 use std::net::{IpAddr, Ipv4Addr, SocketAddr};
 use thiserror::Error;
 
@@ -12,15 +13,39 @@ A reverse proxy for HTTP/1: what clients ask on this port is asked of one server
   SERVER           the server's port on this machine, or its address and port, as 127.0.0.1:8080 or [::1]:8080
   --bind ADDRESS   the address to listen on, of IPv4 or IPv6: 127.0.0.1 by default, which only this machine reaches;
                    0.0.0.0 and :: are all
+  --trust-forwarded
+                   keep what clients say of earlier clients (X-Forwarded-For, X-Forwarded-Proto, X-Forwarded-Host and
+                   Forwarded), behind another proxy; by default it is replaced
+  --lax            take heads that RFC 9112 refuses, as those without Host
+  --limit NAME=NUMBER
+                   another limit than the default, once for each; times are in milliseconds
   --quiet          write no line for each reply
   --ignore-input   go on where the standard input ends, as that of a service does at once
   --help           print this and end
   --version        print the version and end
 
-It ends where the standard input ends. At most 10000 clients are there at once. A request gets 501 where it can't be sent on
-(CONNECT, another protocol, a target that is no path), 502 where the server isn't to be had, answers badly or sends nothing
-for 60 seconds, and 400 or 431 where it is malformed or too large. Messages are written anew from what was read: no client
-makes the server see a request that wasn't one.
+The limits, and their defaults:
+
+  clients=10000    the most clients at once; fewer where the system gives too few descriptors, of which each has two
+  kept=128         the most connections to the server that wait to be used again
+  head=5000        how long a client's first head may take
+  idle=5000        how long a client may send nothing before its next head
+  stall=30000      in so long a client that is to send
+  least=1024       has to send so many bytes
+  reader=60000     how long a client may take nothing of what waits for it
+  gone=2000        how long a client whose input has ended is waited for until its answer begins, since it may have gone
+  server=60000     how long the server may move nothing while it is waited for
+  drain=2000       how long the rest of a body is dropped behind a whole reply
+  linger=2000      how long a client is waited for after the last byte was written
+  end=10000        how long a connection that ends has for what is left to write
+  reuse=4000       how long a connection to the server may be idle and still be used again
+
+It ends where the standard input ends. A request gets 501 where it can't be sent on
+(CONNECT, another protocol, a target of another scheme than http), 502 where the server isn't to be had, answers badly or
+sends nothing for too long, and 400 or 431 where it is malformed or too large, or its Host or its target isn't one by
+RFC 9112. Messages are written anew from what was read: no client makes the server see a request that wasn't one. The server
+is told the host, the client's address (X-Forwarded-For, X-Forwarded-Proto, X-Forwarded-Host, Forwarded) and who passes the
+request on (Via), as a client is of an answer.
 
 For each reply a line is written: the client's address, the date, the request and the status.
 
@@ -40,6 +65,14 @@ pub struct Options<'a> {
     pub port: u16,
     pub server: &'a str,
     pub address: &'a str,
+
+    /// What clients say of earlier clients goes on.
+    pub trusts_clients: bool,
+
+    /// Heads are taken that RFC 9112 refuses.
+    pub is_lax: bool,
+
+    pub limits: Limits,
 
     /// No line is written for a client.
     pub is_quiet: bool,
@@ -73,6 +106,9 @@ pub enum UsageError {
     #[error("--bind wants an address")]
     Bind,
 
+    #[error("--limit wants NAME=NUMBER")]
+    Limit,
+
     #[error("there is no such option")]
     Option,
 }
@@ -82,6 +118,9 @@ pub fn read(words: &[String]) -> Result<Command<'_>, UsageError> {
     let mut port = None;
     let mut server = None;
     let mut address = None;
+    let mut trusts_clients = false;
+    let mut is_lax = false;
+    let mut limits = Limits::new();
     let mut is_quiet = false;
     let mut ignores_input = false;
     let mut rest = words.iter();
@@ -89,8 +128,16 @@ pub fn read(words: &[String]) -> Result<Command<'_>, UsageError> {
         match word.as_str() {
             "--help" | "-h" => return Ok(Command::Help),
             "--version" => return Ok(Command::Version),
+            "--trust-forwarded" => trusts_clients = true,
+            "--lax" => is_lax = true,
             "--quiet" => is_quiet = true,
             "--ignore-input" => ignores_input = true,
+            "--limit" => {
+                let word = rest.next().ok_or(UsageError::Limit)?;
+                if !limits.set(word.as_str()) {
+                    return Err(UsageError::Limit);
+                }
+            }
             "--bind" => address = Some(rest.next().ok_or(UsageError::Bind)?.as_str()),
             option if option.starts_with('-') => return Err(UsageError::Option),
             text if port.is_none() => {
@@ -107,6 +154,9 @@ pub fn read(words: &[String]) -> Result<Command<'_>, UsageError> {
         port,
         server,
         address: address.unwrap_or("127.0.0.1"),
+        trusts_clients,
+        is_lax,
+        limits,
         is_quiet,
         ignores_input,
     }))

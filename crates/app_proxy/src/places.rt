@@ -65,17 +65,20 @@ impl Places {
         self.due.is_empty()
     }
 
-    /// Whether one is free.
-    pub fn have_room(&self) -> bool {
-        !self.free.is_empty() || self.places.len() < MOST
+    /// Whether one is free, of so many.
+    pub fn have_room(&self, most: u64) -> bool {
+        !self.free.is_empty() || (self.places.len() < MOST && (self.places.len() as u64) < most)
     }
 
-    /// Takes a place that is free, where there is one, and tells its number.
-    pub fn reserve(&mut self) -> Result<Option<usize>, NoMemory> {
+    /// Takes a place that is free, where there is one, of so many, and tells its number.
+    pub fn reserve(&mut self, most: u64) -> Result<Option<usize>, NoMemory> {
         if let Some(number) = self.free.pop() {
             return Ok(Some(number));
         }
         let number = self.places.len();
+        if number as u64 >= most {
+            return Ok(None);
+        }
         if number >= MOST {
             return Ok(None);
         }

@@ -1,6 +1,7 @@
 //! Connections to the server that wait to be used again.
-ghost use Rattle.std.specs.Prelude.{◌≡◌, ◌<◌, ◌++◌, ◌∷◌, [], true, false, IsTrue, IfSome, OnOk, length};
+ghost use Rattle.std.specs.Prelude.{◌≡◌, ◌<◌, ◌≤◌, ◌++◌, ◌∷◌, [], true, false, IsTrue, IfSome, OnOk, length, min};
 ghost use Rattle.std.specs.Io.KnownBytes.{Keeps};
+ghost use Rattle.app_proxy.specs.Pool.{may_reuse};
 
 use http_types::{NoMemory, Source};
 use mio::net::TcpStream;
@@ -15,16 +16,21 @@ const MOST: usize = 128;
 #[derive(Drop)]
 pub struct Idle {
     stream: TcpStream,
+
+    // When it was last in use, in milliseconds of uptime.
+    since: u64,
     is_quiet: bool,
 }
 
 impl Idle {
-    /// One that wasn't looked at.
-    pub fn new(stream: TcpStream) -> Idle
-        ensures { result.is_quiet ≡ false }
+    /// One that wasn't looked at, and was last in use at this moment of uptime.
+    pub fn new(stream: TcpStream, since: u64) -> Idle
+        ensures quiet { result.is_quiet ≡ false }
+        ensures since { result.since ≡ since }
     {
         Idle {
             stream,
+            since,
             is_quiet: false,
         }
     }
@@ -39,6 +45,13 @@ impl Idle {
     fn look(&mut self) {
         let mut source = Incoming::new(&self.stream);
         self.is_quiet = is_quiet(&mut source);
+    }
+
+    // Whether it may be used again at this moment, where it may be idle for so long.
+    fn may_serve(&self, reuse: u64, uptime: u64) -> bool
+        ensures { result ≡ may_reuse reuse uptime self.now }
+    {
+        self.is_quiet && uptime.saturating_sub(self.since) < reuse
     }
 }
 
@@ -80,26 +93,31 @@ impl Pool {
         }
     }
 
-    /// Has one more wait, where there is a place; else it is closed.
-    pub fn keep(&mut self, idle: Idle) -> Result<(), NoMemory>
-        ensures kept { OnOk result (length self.old < 128 → self.new ≡ self.old ++ idle ∷ []) }
-        ensures full { OnOk result (length self.old ≡ 128 → self.new ≡ self.old) }
+    /// Has one more wait, where there is a place, of so many; else it is closed.
+    pub fn keep(&mut self, idle: Idle, most: u64) -> Result<(), NoMemory>
+        ensures kept { OnOk result (length self.old < min most 128 → self.new ≡ self.old ++ idle ∷ []) }
+        ensures full { OnOk result (min most 128 ≤ length self.old → self.new ≡ self.old) }
     {
-        if self.idle.len() >= MOST {
+        let count = self.idle.len();
+        if count >= MOST {
+            return Ok(());
+        }
+        if count as u64 >= most {
             return Ok(());
         }
         self.idle.push(idle)?;
         Ok(())
     }
 
-    /// The one that was used last of those that are still there. The others that are looked at are closed.
-    pub fn take(&mut self) -> Option<Idle>
-        ensures { IfSome result (λ idle. idle.is_quiet ≡ true) }
+    /// The one that was used last of those that are still there and haven't been idle for so long. The others that are looked
+    /// at are closed. The moment is of uptime.
+    pub fn take(&mut self, reuse: u64, uptime: u64) -> Option<Idle>
+        ensures { IfSome result (λ idle. may_reuse reuse uptime idle ≡ true) }
     {
         for _ in 0..MOST {
             let mut idle = self.take_last()?;
             idle.look();
-            if idle.is_quiet {
+            if idle.may_serve(reuse, uptime) {
                 return Some(idle);
             }
         }
@@ -111,26 +129,27 @@ impl Pool {
         self.idle.pop()
     }
 
-    /// Closes those on which something came, or which the server has closed.
-    pub fn sweep(&mut self) {
+    /// Closes those on which something came, which the server has closed, or which have been idle for so long.
+    pub fn sweep(&mut self, reuse: u64, uptime: u64) {
         let mut place: usize = 0;
         for _ in 0..MOST {
-            if self.check(place) {
+            if self.check(place, reuse, uptime) {
                 place = place.saturating_add(1);
             }
         }
     }
 
-    // Closes the one at this place where something came on it, and says whether it still waits.
-    fn check(&mut self, place: usize) -> bool {
+    // Closes the one at this place where it may not be used again, and says whether it still waits.
+    fn check(&mut self, place: usize, reuse: u64, uptime: u64) -> bool {
         let Some(idle) = self.idle.get_mut(place) else {
             return false;
         };
         idle.look();
-        let is_quiet = idle.is_quiet;
-        if !is_quiet {
-            self.idle.swap_remove(place);
+        let waits = idle.may_serve(reuse, uptime);
+        if !waits {
+            // The order is that of their use.
+            self.idle.remove(place);
         }
-        is_quiet
+        waits
     }
 }

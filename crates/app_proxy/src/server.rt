@@ -1,5 +1,6 @@
 //! The loop: it waits until a socket is ready, and gives a round to each client for whom something may move.
 use crate::access::AccessLog;
+use crate::limits::Limits;
 use crate::places::Places;
 use crate::slot::{Shared, Slot};
 use crate::standing::Ready;
@@ -10,7 +11,7 @@ use mio::net::{TcpListener, TcpStream};
 use mio::unix::SourceFd;
 use mio::{Events, Interest, Poll, Token};
 use net_sockets::{moment, uptime};
-use proxy_loop::{Forwarder, NoMemory, ServiceConfig};
+use proxy_loop::{Edge, Forwarder, NoMemory, ProxyConfig, ServiceConfig};
 use std::alloc::Global;
 use std::io::{ErrorKind, Read};
 use std::net::SocketAddr;
@@ -48,12 +49,25 @@ impl From<NoMemory> for ServeError {
     }
 }
 
+/// Where clients go, and how their heads are judged.
+#[derive(Clone, Copy)]
+pub struct Target {
+    pub server: SocketAddr,
+
+    /// What a client says of earlier clients goes on.
+    pub trusts_clients: bool,
+
+    /// Heads are taken that RFC 9112 refuses.
+    pub is_lax: bool,
+}
+
 /// The clients, and what listens for them.
 #[derive(Drop)]
 pub struct Server {
     rt: HostRuntime,
     alloc: Global,
     config: ServiceConfig,
+    target: Target,
     listener: TcpListener,
     shared: Shared,
     places: Places,
@@ -69,7 +83,8 @@ impl Server {
         rt: HostRuntime,
         config: ServiceConfig,
         mut listener: TcpListener,
-        server: SocketAddr,
+        target: Target,
+        limits: Limits,
         log: AccessLog,
     ) -> Result<Server, ServeError> {
         let alloc = rt.alloc();
@@ -85,7 +100,8 @@ impl Server {
         }
         let shared = Shared {
             poll,
-            upstream: Upstream::new(rt, alloc, server),
+            upstream: Upstream::new(rt, alloc, target.server),
+            limits,
             room: Vec::from_elem(alloc, 0, READ_SIZE)?,
             uptime: 0,
         };
@@ -93,6 +109,7 @@ impl Server {
             rt,
             alloc,
             config,
+            target,
             listener,
             shared,
             places: Places::new(alloc),
@@ -139,7 +156,8 @@ impl Server {
 
     // Whether nothing may move at once: nobody gets a round, and no client that waits could come in.
     fn is_at_rest(&self) -> bool {
-        self.places.are_at_rest() && !(self.may_accept && self.places.have_room())
+        let most = self.shared.limits.clients;
+        self.places.are_at_rest() && !(self.may_accept && self.places.have_room(most))
     }
 
     // What is ready is noted.
@@ -180,7 +198,8 @@ impl Server {
         // Descriptors may be free again.
         self.may_accept = true;
         self.log.set_moment(moment)?;
-        self.shared.upstream.sweep();
+        let shared = &mut self.shared;
+        shared.upstream.sweep(&shared.limits, shared.uptime);
         self.places.tick(&mut self.shared, moment)
     }
 
@@ -189,7 +208,7 @@ impl Server {
             if !self.may_accept {
                 break;
             }
-            let Some(number) = self.places.reserve()? else {
+            let Some(number) = self.places.reserve(self.shared.limits.clients)? else {
                 break;
             };
             self.accept_one(number, moment)?;
@@ -202,7 +221,7 @@ impl Server {
         let Some((stream, peer)) = self.next_client(number) else {
             return self.places.release(number);
         };
-        let forwarder = self.new_forwarder(moment)?;
+        let forwarder = self.new_forwarder(peer, moment)?;
         let slot = Slot::new(forwarder, stream, peer, self.shared.uptime);
         self.places.put(number, slot)
     }
@@ -216,9 +235,16 @@ impl Server {
         None
     }
 
-    // A forwarder that knows the time.
-    fn new_forwarder(&self, moment: u64) -> Result<Forwarder, NoMemory> {
-        let mut forwarder = Forwarder::new(self.alloc, self.config);
+    // A forwarder that knows the client and the time.
+    fn new_forwarder(&self, peer: SocketAddr, moment: u64) -> Result<Forwarder, NoMemory> {
+        let mut edge = Edge::new(self.alloc, peer, self.target.server)?;
+        edge.trusts_client = self.target.trusts_clients;
+        edge.is_lax = self.target.is_lax;
+        let config = ProxyConfig {
+            connections: self.config,
+            edge,
+        };
+        let mut forwarder = Forwarder::new(self.alloc, config);
         if !self.log.is_quiet() {
             forwarder.note_replies();
         }

@@ -1,7 +1,8 @@
 //! One client: its socket, the one to the server, and the forwarder between them.
 use crate::flow::{hear_client, tell_client};
+use crate::limits::Limits;
 use crate::link::Link;
-use crate::standing::{Ready, Stage, Standing};
+use crate::standing::{Awaited, Ready, Stage, Standing};
 use crate::upstream::Upstream;
 use http_types::Source;
 use mio::Poll;
@@ -13,9 +14,6 @@ use std::net::{Shutdown, SocketAddr};
 /// The most times that each direction is tried in a round, so that one who speaks a lot holds up nobody.
 const TRIES: u32 = 16;
 
-/// How long a client is waited for after the last byte was written, in milliseconds.
-const LINGER: u64 = 2000;
-
 /// How long a connection to the server waits for the same client's next request, in milliseconds.
 const KEPT: u64 = 1000;
 
@@ -24,6 +22,7 @@ const KEPT: u64 = 1000;
 pub struct Shared {
     pub poll: Poll,
     pub upstream: Upstream,
+    pub limits: Limits,
 
     /// What is read stands here until it is told.
     pub room: Vec<u8>,
@@ -93,10 +92,19 @@ impl Slot {
         if self.forwarder.tick(moment)? == Some(Expiry::Abandoned) {
             self.standing.stage = Stage::Lost;
         }
-        let waits = !self.forwarder.proxy().client_front().is_empty();
-        self.standing.tick_client(waits, uptime);
+        let proxy = self.forwarder.proxy();
+        let awaited = Awaited {
+            takes: !proxy.client_front().is_empty(),
+            sends: proxy.is_to_send(),
+            drains: proxy.is_draining(),
+            may_be_gone: proxy.may_be_gone(),
+        };
+        self.standing.tick_client(&shared.limits, awaited, uptime);
         let is_awaited = self.link.is_awaited(self.forwarder.proxy());
-        if self.standing.tick_server(is_awaited, uptime) {
+        if self
+            .standing
+            .tick_server(&shared.limits, is_awaited, uptime)
+        {
             self.link.give_up(&mut self.forwarder, &mut self.standing)?;
         }
         if uptime.saturating_sub(self.standing.asked) < KEPT {
@@ -107,7 +115,8 @@ impl Slot {
 
     /// Gives a connection to the server on which nothing is under way back.
     pub fn give_back(&mut self, shared: &mut Shared) -> Result<(), NoMemory> {
-        self.link.give_back(&mut self.forwarder, shared)
+        self.link
+            .give_back(&mut self.forwarder, shared, self.standing.used)
     }
 
     // ---- a round
@@ -116,8 +125,11 @@ impl Slot {
     pub fn go_round(&mut self, shared: &mut Shared, token: usize) -> Result<Round, NoMemory> {
         for _ in 0..TRIES {
             let moved = self.pass(shared, token)?;
+            if !self.forwarder.proxy().is_reusable() {
+                self.standing.used = shared.uptime;
+            }
             self.link.close_unused(self.forwarder.proxy());
-            if self.is_over(shared.uptime) {
+            if self.is_over(shared) {
                 return Ok(Round::Over);
             }
             if !moved {
@@ -168,12 +180,18 @@ impl Slot {
         )
     }
 
-    // Before a request is sent on a connection to the server that was idle, it is looked whether that is still there.
+    // Before a request is sent on a connection to the server that was idle, it is looked whether that is still there, and hasn't
+    // been idle for too long.
     fn check_server(&mut self, shared: &mut Shared) -> Result<(), NoMemory> {
-        if self.forwarder.proxy().is_reusable() {
-            self.standing.server.may_read = true;
-            self.read_server(shared)?;
+        if !self.forwarder.proxy().is_reusable() {
+            return Ok(());
         }
+        if shared.uptime.saturating_sub(self.standing.used) >= shared.limits.reuse {
+            // It goes to those that wait, which are looked at as they are taken.
+            return self.give_back(shared);
+        }
+        self.standing.server.may_read = true;
+        self.read_server(shared)?;
         Ok(())
     }
 
@@ -203,11 +221,11 @@ impl Slot {
     }
 
     // Whether the client is done with. Once all was written its end is waited for.
-    fn is_over(&mut self, uptime: u64) -> bool {
+    fn is_over(&mut self, shared: &Shared) -> bool {
         match self.standing.stage {
             Stage::Lost => true,
             Stage::Lingering(_) => false,
-            Stage::Open => self.has_ended() && !self.begins_to_linger(uptime),
+            Stage::Open => self.has_ended() && !self.begins_to_linger(shared),
         }
     }
 
@@ -218,11 +236,12 @@ impl Slot {
     }
 
     // No more is written to it, and its end is waited for, where that can be told.
-    fn begins_to_linger(&mut self, uptime: u64) -> bool {
+    fn begins_to_linger(&mut self, shared: &Shared) -> bool {
         if self.client.shutdown(Shutdown::Write).is_err() {
             return false;
         }
-        self.standing.stage = Stage::Lingering(uptime.saturating_add(LINGER));
+        let until = shared.uptime.saturating_add(shared.limits.linger);
+        self.standing.stage = Stage::Lingering(until);
         self.standing.client.may_read = true;
         true
     }

@@ -1,4 +1,5 @@
 //! Connections to the server: new ones, and those that wait to be used again.
+use crate::limits::Limits;
 use crate::pool::{Idle, Pool};
 use http_types::NoMemory;
 use mio::net::TcpStream;
@@ -37,9 +38,9 @@ impl Upstream {
         }
     }
 
-    /// A connection whose readiness is told under this token.
-    pub fn begin(&mut self, poll: &Poll, token: usize) -> Begun {
-        if let Some(idle) = self.pool.take() {
+    /// A connection whose readiness is told under this token. The moment is of uptime.
+    pub fn begin(&mut self, poll: &Poll, token: usize, limits: &Limits, uptime: u64) -> Begun {
+        if let Some(idle) = self.pool.take(limits.reuse, uptime) {
             let mut stream = idle.into_stream();
             if register(poll, &mut stream, token) {
                 return Begun::Open(stream);
@@ -61,17 +62,24 @@ impl Upstream {
         Begun::None
     }
 
-    /// Keeps a connection on which nothing is under way, where there is a place.
-    pub fn keep(&mut self, poll: &Poll, mut stream: TcpStream) -> Result<(), NoMemory> {
+    /// Keeps a connection on which nothing is under way, where there is a place. It was last in use at this moment.
+    pub fn keep(
+        &mut self,
+        poll: &Poll,
+        mut stream: TcpStream,
+        limits: &Limits,
+        since: u64,
+    ) -> Result<(), NoMemory> {
         if poll.registry().deregister(&mut stream).is_err() {
             return Ok(());
         }
-        self.pool.keep(Idle::new(stream))
+        self.pool.keep(Idle::new(stream, since), limits.kept)
     }
 
-    /// Closes those of the connections that wait on which something came, or which the server has closed.
-    pub fn sweep(&mut self) {
-        self.pool.sweep();
+    /// Closes those of the connections that wait on which something came, which the server has closed, or which have been idle
+    /// for too long.
+    pub fn sweep(&mut self, limits: &Limits, uptime: u64) {
+        self.pool.sweep(limits.reuse, uptime);
     }
 }
 

@@ -4,7 +4,7 @@ ghost use Rattle.std.specs.List.{list_any};
 ghost use Rattle.h1_strict.specs.Host.{is_mark, is_name_byte, begins_with_hex, is_port, is_named_host, is_address_byte, is_port_part, is_address_host, is_bracketed, is_host, has_port};
 
 /// Whether the text is a host, with or without a port, and no port alone.
-pub(crate) fn is_host(text: &[u8]) -> bool
+pub fn is_host(text: &[u8]) -> bool
     ensures { result ≡ is_host text.now }
 {
     match text.split_first() {

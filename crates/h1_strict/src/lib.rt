@@ -25,3 +25,4 @@ mod options;
 
 pub use check::check_head;
 pub use doubt::HeadDoubt;
+pub use host::is_host;

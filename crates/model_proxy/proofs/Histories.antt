@@ -14,8 +14,8 @@ use Rattle.model_h1.specs.OutcomeTable.{outcome_of, run_left}
 use Rattle.model_h1.specs.Laws.ExampleTraces.{usual}
 use Rattle.model_h1.proofs.PastLemmas.{Legal}
 use Rattle.model_h1.proofs.ExampleLemmas.{nothing_behind}
-use Rattle.model_h1.proofs.ExampleParses.{get_parsed, socket_parsed, broken_parsed}
-use Rattle.model_proxy.specs.Laws.Histories.{refused_past, whole_past, unforwardable_past, broken_past}
+use Rattle.model_h1.proofs.ExampleParses.{get_parsed, close_parsed, socket_parsed, broken_parsed}
+use Rattle.model_proxy.specs.Laws.Histories.{refused_past, whole_past, hostless_past, unforwardable_past, broken_past}
 
 pub refused_legal : Legal usual refused_past
 unfolding taken accepted request since_head answered answer_len place_behind pulled_to told closing is_allowed outcome_of last_tick first_tick written step_text text head_text date_of year_at month_at appended digits
@@ -61,6 +61,25 @@ whole_legal = (
           (get_parsed false, refl, refl, (get_parsed false, refl, refl, (nothing_behind, refl, refl, tt))),
         ),
       ),
+    ),
+  ),
+)
+
+pub hostless_legal : Legal usual hostless_past
+unfolding taken accepted request since_head answered answer_len place_behind pulled_to told closing is_allowed outcome_of last_tick first_tick written step_text text head_text date_of year_at month_at appended digits trim_ows
+hostless_legal = (
+  close_parsed,
+  refl,
+  refl,
+  (
+    close_parsed,
+    refl,
+    refl,
+    (
+      close_parsed,
+      refl,
+      refl,
+      (close_parsed, refl, refl, (nothing_behind, refl, refl, tt)),
     ),
   ),
 )

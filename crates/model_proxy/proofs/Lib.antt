@@ -1,6 +1,8 @@
 pub mod TrimLemmas
 pub mod ForwardedLines
 pub mod Paths
+pub mod Targets
+pub mod OwnLines
 pub mod SentRequests
 pub mod GivenRequests
 pub mod ReplyLines

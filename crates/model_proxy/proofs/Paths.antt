@@ -22,7 +22,7 @@ cut_cons b bytes other = by_test (b == hash_sign) other
     by_test true e = absurd (false≢true (sym e))
     by_test false e = take_more_by (index_of hash_sign bytes) (1 + index_of hash_sign bytes) b bytes (omega arith)
 
-cut_hash : (b : ℕ) (bytes : List ℕ) → (b == hash_sign) ≡ true → without_fragment (b ∷ bytes) ≡ []
+pub cut_hash : (b : ℕ) (bytes : List ℕ) → (b == hash_sign) ≡ true → without_fragment (b ∷ bytes) ≡ []
 cut_hash b bytes is = by_test (b == hash_sign) is
   where
     by_test : (t : Bool) → t ≡ true → take (cond (not t) (1 + prefix_len (λ c. not (c == hash_sign)) bytes) 0) (b ∷ bytes) ≡ []
@@ -30,7 +30,7 @@ cut_hash b bytes is = by_test (b == hash_sign) is
     by_test false e = absurd (false≢true e)
 
 -- what holds of texts and of each cut of them, byte by byte
-cut_again : (text : List ℕ) → without_fragment (without_fragment text) ≡ without_fragment text
+pub cut_again : (text : List ℕ) → without_fragment (without_fragment text) ≡ without_fragment text
 cut_again [] = refl
 cut_again (b ∷ bytes) = by_test (b == hash_sign) refl (cut_again bytes)
   where
@@ -93,7 +93,7 @@ path_input : (scheme authority : Option (List ℕ)) (kept rest : List ℕ) → I
 path_input scheme authority kept rest x = (no_parts scheme authority kept rest x).3
 
 -- and without its fragment it is one too
-cut_path : (rest : List ℕ) → length (47 ∷ rest) ≤ 65534 → IsPathInput (47 ∷ rest) → IsTarget (47 ∷ without_fragment rest)
+pub cut_path : (rest : List ℕ) → length (47 ∷ rest) ≤ 65534 → IsPathInput (47 ∷ rest) → IsTarget (47 ∷ without_fragment rest)
 cut_path rest short input =
     let k = without_fragment rest in
     let same : without_fragment (47 ∷ rest) ≡ 47 ∷ k = cut_cons 47 rest refl in

@@ -17,14 +17,15 @@ use Rattle.model_proxy.specs.Moves.{after_outcome, HasBrought, IsQuiet, Stays}
 
 -- ---- the client's side
 
--- a step that takes and gives nothing, and is no tick
+-- a step that takes and gives nothing, and is no tick and no end
 pub brought : (event : on.Event) (o : on.Outcome) (trace : List Step) → step_taken event o ≡ [] → step_written o ≡ [] → tick_of event ≡ None
-    → HasBrought o trace (record { event = event; outcome = o } ∷ trace)
+    → sums.is_eof event ≡ false → HasBrought o trace (record { event = event; outcome = o } ∷ trace)
 unfolding sums.taken sums.written sums.last_tick pulled
-brought event o trace took gave tick = record {
+brought event o trace took gave tick going = record {
   taken = ap (λ (b : List ℕ). sums.taken trace ++ b) took ∙ append-nil (sums.taken trace);
   written = ap (λ (b : List ℕ). sums.written trace ++ b) gave ∙ append-nil (sums.written trace);
   moment = ap (λ (t : Option ℕ). unwrap_or (option_or t (sums.last_tick trace)) 0) tick;
+  ended = ap (λ (b : Bool). b || sums.has_ended trace) going;
   pulled = refl;
 }
 

@@ -2,10 +2,10 @@
 use Rattle.std.proofs.Common.{◌≡◌, ℕ, ◌-◌, Bool, true, false, not, ◌&&◌, List, [], ◌∷◌, ◌++◌, map, flat_map, length, Option, Some, None, refl, sym, ap, ap₂, ◌∙◌, subst, append_assoc, append-nil, arith}
 use Rattle.std.specs.Prelude.{IsTrue, is_some, cond, ◌==◌, if◌then◌else◌}
 use Rattle.std.specs.List.{AllByRecursion}
-use Rattle.std.proofs.lemmas.Bool.{false≢true, and_parts}
+use Rattle.std.proofs.lemmas.Bool.{false≢true, true≢false, and_parts}
 use Rattle.model_h1.specs.Setting.{Setting}
 use Rattle.model_h1.specs.Request.{BodyKind, no_body, fixed_body, chunked_body, raw_body, has_body}
-use Rattle.model_h1.specs.Answer.{BodySize, shape_none, shape_length}
+use Rattle.model_h1.specs.Answer.{BodySize, shape_none, shape_length, is_at_once}
 use Rattle.model_h1.specs.AnswerText.{end_text}
 use Rattle.model_h1.specs.Event as on
 use Rattle.model_h1.specs.Sums.{Step}
@@ -18,7 +18,8 @@ use Rattle.model_client.specs.ClientKept.{ClientKept, Waiting, SendingBody, wait
 use Rattle.model_client.specs.ClientStep.{piece_of, IsClientStep, begun_body}
 use Rattle.model_client.specs.ClientTrace.{requests_of, now_of, sending_of, text_of, piece_text_of, end_text_of, body_after}
 use Rattle.model_client.proofs.Written.{is_text}
-use Rattle.model_proxy.specs.Forward.{is_forwardable, forwarded_size, Sent, forward}
+use Rattle.model_proxy.specs.Edge.{Edge}
+use Rattle.model_proxy.specs.Forward.{is_forwardable, states_length, size_by, forwarded_size, Sent, forward}
 use Rattle.model_proxy.specs.Past.{ProxyStep}
 use Rattle.model_proxy.specs.Exchange.{Pulled, pulled}
 use Rattle.model_proxy.specs.Happenings.{Request, Link, Happenings, sent_of, with_sent, all_sent, text_sent, methods_sent, AreWholeBehind, IsRightlySent, IsLink}
@@ -35,17 +36,31 @@ behind [] = []
 behind (s ∷ ss) = ss
 
 -- another one in place of the newest
-resent : (p p' : Pulled) (at : Option ℕ) (moment : ℕ) (ss sent before links : List Sent) → at ≡ Some moment → sent ≡ sent_of p moment ∷ before
-    → with_sent p at ss ≡ sent ++ links → with_sent p' at ss ≡ sent_of p' moment ∷ (before ++ links)
+resent : (edge : Edge) (p p' : Pulled) (at : Option ℕ) (moment : ℕ) (ss sent before links : List Sent) → at ≡ Some moment → sent ≡ sent_of edge p moment ∷ before
+    → with_sent edge p at ss ≡ sent ++ links → with_sent edge p' at ss ≡ sent_of edge p' moment ∷ (before ++ links)
 unfolding behind
-resent p p' at moment ss sent before links is newest all =
+resent edge p p' at moment ss sent before links is newest all =
     let others : ss ≡ before ++ links =
-    ap behind (sym (ap (λ at. with_sent p at ss) is) ∙ all ∙ ap (λ (sent : List Sent). sent ++ links) newest) in
-    ap (λ at. with_sent p' at ss) is ∙ ap (λ (ss : List Sent). sent_of p' moment ∷ ss) others
+    ap behind (sym (ap (λ at. with_sent edge p at ss) is) ∙ all ∙ ap (λ (sent : List Sent). sent ++ links) newest) in
+    ap (λ at. with_sent edge p' at ss) is ∙ ap (λ (ss : List Sent). sent_of edge p' moment ∷ ss) others
 
-rightly_kept : (p q : Pulled) (at : Option ℕ) → q.head ≡ p.head → IsRightlySent p at → IsRightlySent q at
-rightly_kept p q None same x = x
-rightly_kept p q (Some moment) same x = ap (λ h. is_forwardable h) same ∙ x
+rightly_kept : (edge : Edge) (p q : Pulled) (at : Option ℕ) (refused : Bool) → q.head ≡ p.head → IsRightlySent edge p at refused → IsRightlySent edge q at refused
+rightly_kept edge p q None false same x = tt
+rightly_kept edge p q None true same x = ap (λ h. is_forwardable edge h) same ∙ x
+rightly_kept edge p q (Some moment) false same x = ap (λ h. is_forwardable edge h) same ∙ x
+rightly_kept edge p q (Some moment) true same x = absurd x
+
+-- one that waited is sent on
+rightly_asked : (edge : Edge) (p : Pulled) (moment : ℕ) (refused : Bool) → refused ≡ false → is_forwardable edge p.head ≡ true → IsRightlySent edge p (Some moment) refused
+rightly_asked edge p moment false is may = may
+rightly_asked edge p moment true is may = absurd (false≢true (sym is))
+
+-- a body that has any is being sent
+abbrev begun_where : Bool → BodySize → Option SendingBody
+begun_where at_once size = if at_once then None else Some (record { shape = asked_shape size; missing = stated (asked_shape size) })
+
+begins_open : (size : BodySize) → is_at_once size ≡ false → is_some (begun_body size) ≡ true
+begins_open size long = ap (λ (b : Bool). is_some (begun_where b size)) long
 
 -- ---- the requests that were asked
 
@@ -94,58 +109,59 @@ abbrev begun_if : Bool → ℕ → Option SendingBody
 begun_if t n =
     if t then None else Some (record { shape = if t then shape_none else shape_length n; missing = stated (if t then shape_none else shape_length n) })
 
-record Begun (kind : BodyKind) (body : SendingBody) : Type 0 where
+record Begun (says : Bool) (kind : BodyKind) (body : SendingBody) : Type 0 where
   has : not (has_body kind) ≡ false
-  shape : body.shape ≡ asked_shape (forwarded_size kind)
-  missing : body.missing ≡ stated (asked_shape (forwarded_size kind))
+  shape : body.shape ≡ asked_shape (size_by says kind)
+  missing : body.missing ≡ stated (asked_shape (size_by says kind))
 
 begun_sized : (t : Bool) (n : ℕ) (body : SendingBody) → begun_if t n ≡ Some body
     → (body.shape ≡ (if t then shape_none else shape_length n)) × (body.missing ≡ stated (if t then shape_none else shape_length n))
 begun_sized true n body x = cc
 begun_sized false n body x = (cc, cc)
 
-begun : (kind : BodyKind) (body : SendingBody) → begun_body (forwarded_size kind) ≡ Some body → Begun kind body
-begun no_body body x = cc
-begun raw_body body x = cc
-begun chunked_body body x = record { has = refl; shape = cc; missing = cc }
-begun (fixed_body n) body x = let b = begun_sized (n == 0) n body x in record { has = refl; shape = b.0; missing = b.1 }
+begun : (says : Bool) (kind : BodyKind) (body : SendingBody) → begun_body (size_by says kind) ≡ Some body → Begun says kind body
+begun true no_body body x = cc
+begun false no_body body x = cc
+begun says raw_body body x = cc
+begun says chunked_body body x = record { has = refl; shape = cc; missing = cc }
+begun says (fixed_body n) body x = let b = begun_sized (n == 0) n body x in record { has = refl; shape = b.0; missing = b.1 }
 
-module _ (theirs ours : Setting) where
+module _ (edge : Edge) (theirs ours : Setting) where
   -- ---- a request is sent on
 
   -- no step of the client's connection is made
   still : (trace : List Step) → HasBrought on.done trace trace
-  still trace = record { taken = refl; written = refl; moment = refl; pulled = sym (nothing_more on.done done_brings_nothing (pulled trace)) }
+  still trace = record { taken = refl; written = refl; moment = refl; ended = refl; pulled = sym (nothing_more on.done done_brings_nothing (pulled trace)) }
 
   pub keeps_asked : (q : ClientRequest) (size : BodySize) (whole broken : Bool) (client : Kept) (s t : ClientKept)
       → IsTrue (client_allows ours s (asked.ask q size)) → IsClientStep ours s (asked.ask q size) asked.done t
-      → Keeps theirs ours (record { client = client; server = Some s; under_way = waits q size whole broken })
+      → Keeps edge theirs ours (record { client = client; server = Some s; under_way = waits q size whole broken })
       (record { client = client; server = Some t; under_way = is_sent whole broken })
   keeps_asked q size whole broken client s t allowed step = λ history all x. sends history all all.requests all.links refl refl x x.server x.under_way
     where
       sends : (history : List ProxyStep) (all : Happenings) (rs : List Request) (links : List Link) → all.requests ≡ rs → all.links ≡ links
-          → Carries theirs ours (record { client = client; server = Some s; under_way = waits q size whole broken }) history all
-          → IsServer ours (Some s) links → IsUnderWay (waits q size whole broken) rs (Some s) links
-          → (after : Happenings) × Carries theirs ours (record { client = client; server = Some t; under_way = is_sent whole broken }) history after
+          → Carries edge theirs ours (record { client = client; server = Some s; under_way = waits q size whole broken }) history all
+          → IsServer ours (Some s) links → IsUnderWay edge (waits q size whole broken) rs (Some s) links
+          → (after : Happenings) × Carries edge theirs ours (record { client = client; server = Some t; under_way = is_sent whole broken }) history after
       sends history all [] links rs_are links_are x server under = absurd under
       sends history all (r ∷ rs) [] rs_are links_are x server under = absurd server
       sends history all (r ∷ rs) (l ∷ links) rs_are links_are x server (idle, w) =
           let moment = now_of l.happened in
           let r' : Request = record r { sent_at = Some moment } in
-          let m : Link = record { happened = record { event = asked.ask q size; outcome = asked.done } ∷ l.happened; sent = sent_of r.pulled moment ∷ l.sent } in
+          let m : Link = record { happened = record { event = asked.ask q size; outcome = asked.done } ∷ l.happened; sent = sent_of edge r.pulled moment ∷ l.sent } in
           let link = (subst (AllByRecursion (IsLink ours)) links_are x.forwarded.sent.links).0 in
           let none : r.pulled.pieces ≡ [] = ap (λ (p : Pulled). p.pieces) w.untaken in
           let is_ended : r.pulled.is_ended ≡ not (has_body r.pulled.head.body) = ap (λ (p : Pulled). p.is_ended) w.untaken in
-          changed theirs ours on.done client client s t (waits q size whole broken) (is_sent whole broken) r r' rs l m links history all all.client rs_are links_are x x.stands
-          (still all.client) refl refl
-          (quiet_server l (asked.ask q size) asked.done (sent_of r.pulled moment ∷ l.sent) refl refl refl)
-          (ap (λ (ss : List Sent). sent_of r.pulled moment ∷ ss)
-          (sym (ap (λ at. with_sent r.pulled at (all_sent rs)) w.unsent) ∙ sym (ap all_sent rs_are) ∙ x.forwarded.sent.sent
+          changed edge theirs ours on.done client client s t (waits q size whole broken) (is_sent whole broken) r r' rs l m links history all all.client rs_are links_are x x.stands
+          (still all.client) refl refl refl
+          (quiet_server l (asked.ask q size) asked.done (sent_of edge r.pulled moment ∷ l.sent) refl refl refl)
+          (ap (λ (ss : List Sent). sent_of edge r.pulled moment ∷ ss)
+          (sym (ap (λ at. with_sent edge r.pulled at (all_sent edge rs)) w.unsent) ∙ sym (ap (all_sent edge) rs_are) ∙ x.forwarded.sent.sent
           ∙ ap (flat_map (λ (l : Link). l.sent)) links_are))
-          w.forwardable
+          (rightly_asked edge r.pulled moment r.was_refused w.unrefused w.forwardable)
           (s, server, allowed, step)
-          (ap₂ (λ (a b : List ℕ). a ++ b) link.text (w.text moment ∙ sym (begun_text (sent_of r.pulled moment) none is_ended)))
-          (asks_more (requests_of l.happened) l.sent (waiting_of q) (sent_of r.pulled moment) link.asked w.method)
+          (ap₂ (λ (a b : List ℕ). a ++ b) link.text (w.text moment ∙ sym (begun_text (sent_of edge r.pulled moment) none is_ended)))
+          (asks_more (requests_of l.happened) l.sent (waiting_of q) (sent_of edge r.pulled moment) link.asked w.method)
           idle
           (record {
             moment = moment;
@@ -154,12 +170,13 @@ module _ (theirs ours : Setting) where
             sent = refl;
             marked = record { whole = w.whole ∙ sym is_ended; broken = w.unbroken ∙ sym (ap (λ (p : Pulled). p.is_broken) w.untaken) };
             body = λ body is.
-                let b = begun r.pulled.head.body body (sym (ap begun_body w.sized) ∙ is) in
+                let b = begun (states_length r.pulled.head) r.pulled.head.body body (sym (ap begun_body w.sized) ∙ is) in
                 record {
                   unended = is_ended ∙ b.has;
                   shape = b.shape;
-                  missing = b.missing ∙ nothing_less (stated (asked_shape (forwarded_size r.pulled.head.body))) r.pulled.pieces none;
+                  missing = b.missing ∙ nothing_less (stated (asked_shape (forwarded_size r.pulled.head))) r.pulled.pieces none;
                 };
+            sends = λ unended long. begins_open size (ap is_at_once w.sized ∙ long);
           })
         where
           nothing_less : (n : ℕ) (pieces : List (List ℕ)) → pieces ≡ [] → n ≡ n - length (joined pieces)
@@ -170,37 +187,37 @@ module _ (theirs ours : Setting) where
   -- what was taken of its body is put behind it
   pub keeps_piece : (bytes : List ℕ) (whole broken : Bool) (a b : Kept) (s t : ClientKept) → Brings theirs (on.bytes bytes) a b
       → IsTrue (client_allows ours s (asked.chunk bytes)) → IsClientStep ours s (asked.chunk bytes) asked.done t
-      → Keeps theirs ours (record { client = a; server = Some s; under_way = is_sent whole broken }) (record { client = b; server = Some t; under_way = is_sent whole broken })
+      → Keeps edge theirs ours (record { client = a; server = Some s; under_way = is_sent whole broken }) (record { client = b; server = Some t; under_way = is_sent whole broken })
   keeps_piece bytes whole broken a b s t brings allowed step = λ history all x. sends history all all.requests all.links refl refl x x.server x.under_way
     where
       sends : (history : List ProxyStep) (all : Happenings) (rs : List Request) (links : List Link) → all.requests ≡ rs → all.links ≡ links
-          → Carries theirs ours (record { client = a; server = Some s; under_way = is_sent whole broken }) history all
-          → IsServer ours (Some s) links → IsUnderWay (is_sent whole broken) rs (Some s) links
-          → (after : Happenings) × Carries theirs ours (record { client = b; server = Some t; under_way = is_sent whole broken }) history after
+          → Carries edge theirs ours (record { client = a; server = Some s; under_way = is_sent whole broken }) history all
+          → IsServer ours (Some s) links → IsUnderWay edge (is_sent whole broken) rs (Some s) links
+          → (after : Happenings) × Carries edge theirs ours (record { client = b; server = Some t; under_way = is_sent whole broken }) history after
       sends history all [] links rs_are links_are x server under = absurd under
       sends history all (r ∷ rs) [] rs_are links_are x server under = absurd server
       sends history all (r ∷ rs) (l ∷ links) rs_are links_are x server u =
           let did = brings all.client x.stands in
           let p : Pulled = record r.pulled { pieces = r.pulled.pieces ++ bytes ∷ [] } in
-          let r' : Request = record { pulled = p; sent_at = r.sent_at } in
-          let m : Link = record { happened = record { event = asked.chunk bytes; outcome = asked.done } ∷ l.happened; sent = sent_of p u.moment ∷ u.before } in
+          let r' : Request = record { pulled = p; sent_at = r.sent_at; was_refused = r.was_refused } in
+          let m : Link = record { happened = record { event = asked.chunk bytes; outcome = asked.done } ∷ l.happened; sent = sent_of edge p u.moment ∷ u.before } in
           let link = (subst (AllByRecursion (IsLink ours)) links_are x.forwarded.sent.links).0 in
           let sending = chunk_sends ours s bytes allowed in
           let is_sending : sending_of l.happened ≡ Some sending.0 = sym (is_text ours l.happened s server).sending ∙ sending.1 in
           let body = u.body sending.0 is_sending in
-          changed theirs ours (on.bytes bytes) a b s t (is_sent whole broken) (is_sent whole broken) r r' rs l m links history all did.0 rs_are links_are x did.1
-          did.2 refl refl
-          (quiet_server l (asked.chunk bytes) asked.done (sent_of p u.moment ∷ u.before) refl refl refl)
-          (resent r.pulled p r.sent_at u.moment (all_sent rs) l.sent u.before (flat_map (λ (l : Link). l.sent) links) u.at u.sent
-          (sym (ap all_sent rs_are) ∙ x.forwarded.sent.sent ∙ ap (flat_map (λ (l : Link). l.sent)) links_are))
-          (rightly_kept r.pulled p r.sent_at refl
-          (subst (AllByRecursion (λ (r : Request). IsRightlySent r.pulled r.sent_at)) rs_are x.forwarded.sent.rightly).0)
+          changed edge theirs ours (on.bytes bytes) a b s t (is_sent whole broken) (is_sent whole broken) r r' rs l m links history all did.0 rs_are links_are x did.1
+          did.2 refl refl refl
+          (quiet_server l (asked.chunk bytes) asked.done (sent_of edge p u.moment ∷ u.before) refl refl refl)
+          (resent edge r.pulled p r.sent_at u.moment (all_sent edge rs) l.sent u.before (flat_map (λ (l : Link). l.sent) links) u.at u.sent
+          (sym (ap (all_sent edge) rs_are) ∙ x.forwarded.sent.sent ∙ ap (flat_map (λ (l : Link). l.sent)) links_are))
+          (rightly_kept edge r.pulled p r.sent_at r.was_refused refl
+          (subst (AllByRecursion (λ (r : Request). IsRightlySent edge r.pulled r.sent_at r.was_refused)) rs_are x.forwarded.sent.rightly).0)
           (s, server, allowed, step)
           (ap (λ o. text_of l.happened ++ piece_text_of bytes o) is_sending
           ∙ ap₂ (λ (t : List ℕ) shape. t ++ piece_of shape sending.0.missing bytes) (link.text ∙ ap text_sent u.sent) body.shape
-          ∙ ap (λ n. text_sent (sent_of r.pulled u.moment ∷ u.before) ++ piece_of (asked_shape (forwarded_size p.head.body)) n bytes) body.missing
-          ∙ append_assoc (text_sent u.before) (forward (sent_of r.pulled u.moment)) _
-          ∙ ap (λ (t : List ℕ). text_sent u.before ++ t) (sym (more_text (sent_of r.pulled u.moment) bytes body.unended)))
+          ∙ ap (λ n. text_sent (sent_of edge r.pulled u.moment ∷ u.before) ++ piece_of (asked_shape (forwarded_size p.head)) n bytes) body.missing
+          ∙ append_assoc (text_sent u.before) (forward (sent_of edge r.pulled u.moment)) _
+          ∙ ap (λ (t : List ℕ). text_sent u.before ++ t) (sym (more_text (sent_of edge r.pulled u.moment) bytes body.unended)))
           (none_asked (requests_of l.happened) ∙ link.asked ∙ ap methods_sent u.sent)
           (subst AreWholeBehind u.sent link.whole)
           (record {
@@ -218,43 +235,44 @@ module _ (theirs ours : Setting) where
                   missing =
                       let same : next.missing ≡ sending.0.missing - length bytes = cc in
                       same ∙ ap (λ n. n - length bytes) body.missing
-                      ∙ missing_more (stated (asked_shape (forwarded_size p.head.body))) r.pulled.pieces bytes;
+                      ∙ missing_more (stated (asked_shape (forwarded_size p.head))) r.pulled.pieces bytes;
                 };
+            sends = λ unended long. ap (λ (o : Option SendingBody). is_some (body_after bytes o)) is_sending;
           })
 
   -- its body has ended
   pub keeps_end : (whole broken : Bool) (a b : Kept) (s t : ClientKept) → Brings theirs on.body_ended a b
       → IsTrue (client_allows ours s asked.body_end) → IsClientStep ours s asked.body_end asked.done t
-      → Keeps theirs ours (record { client = a; server = Some s; under_way = is_sent whole broken }) (record { client = b; server = Some t; under_way = is_sent true broken })
+      → Keeps edge theirs ours (record { client = a; server = Some s; under_way = is_sent whole broken }) (record { client = b; server = Some t; under_way = is_sent true broken })
   keeps_end whole broken a b s t brings allowed step = λ history all x. sends history all all.requests all.links refl refl x x.server x.under_way
     where
       sends : (history : List ProxyStep) (all : Happenings) (rs : List Request) (links : List Link) → all.requests ≡ rs → all.links ≡ links
-          → Carries theirs ours (record { client = a; server = Some s; under_way = is_sent whole broken }) history all
-          → IsServer ours (Some s) links → IsUnderWay (is_sent whole broken) rs (Some s) links
-          → (after : Happenings) × Carries theirs ours (record { client = b; server = Some t; under_way = is_sent true broken }) history after
+          → Carries edge theirs ours (record { client = a; server = Some s; under_way = is_sent whole broken }) history all
+          → IsServer ours (Some s) links → IsUnderWay edge (is_sent whole broken) rs (Some s) links
+          → (after : Happenings) × Carries edge theirs ours (record { client = b; server = Some t; under_way = is_sent true broken }) history after
       sends history all [] links rs_are links_are x server under = absurd under
       sends history all (r ∷ rs) [] rs_are links_are x server under = absurd server
       sends history all (r ∷ rs) (l ∷ links) rs_are links_are x server u =
           let did = brings all.client x.stands in
           let p : Pulled = record r.pulled { is_ended = true } in
-          let r' : Request = record { pulled = p; sent_at = r.sent_at } in
-          let m : Link = record { happened = record { event = asked.body_end; outcome = asked.done } ∷ l.happened; sent = sent_of p u.moment ∷ u.before } in
+          let r' : Request = record { pulled = p; sent_at = r.sent_at; was_refused = r.was_refused } in
+          let m : Link = record { happened = record { event = asked.body_end; outcome = asked.done } ∷ l.happened; sent = sent_of edge p u.moment ∷ u.before } in
           let link = (subst (AllByRecursion (IsLink ours)) links_are x.forwarded.sent.links).0 in
           let sending = end_sends ours s allowed in
           let is_sending : sending_of l.happened ≡ Some sending.0 = sym (is_text ours l.happened s server).sending ∙ sending.1 in
           let body = u.body sending.0 is_sending in
-          changed theirs ours on.body_ended a b s t (is_sent whole broken) (is_sent true broken) r r' rs l m links history all did.0 rs_are links_are x did.1
-          did.2 refl refl
-          (quiet_server l asked.body_end asked.done (sent_of p u.moment ∷ u.before) refl refl refl)
-          (resent r.pulled p r.sent_at u.moment (all_sent rs) l.sent u.before (flat_map (λ (l : Link). l.sent) links) u.at u.sent
-          (sym (ap all_sent rs_are) ∙ x.forwarded.sent.sent ∙ ap (flat_map (λ (l : Link). l.sent)) links_are))
-          (rightly_kept r.pulled p r.sent_at refl
-          (subst (AllByRecursion (λ (r : Request). IsRightlySent r.pulled r.sent_at)) rs_are x.forwarded.sent.rightly).0)
+          changed edge theirs ours on.body_ended a b s t (is_sent whole broken) (is_sent true broken) r r' rs l m links history all did.0 rs_are links_are x did.1
+          did.2 refl refl refl
+          (quiet_server l asked.body_end asked.done (sent_of edge p u.moment ∷ u.before) refl refl refl)
+          (resent edge r.pulled p r.sent_at u.moment (all_sent edge rs) l.sent u.before (flat_map (λ (l : Link). l.sent) links) u.at u.sent
+          (sym (ap (all_sent edge) rs_are) ∙ x.forwarded.sent.sent ∙ ap (flat_map (λ (l : Link). l.sent)) links_are))
+          (rightly_kept edge r.pulled p r.sent_at r.was_refused refl
+          (subst (AllByRecursion (λ (r : Request). IsRightlySent edge r.pulled r.sent_at r.was_refused)) rs_are x.forwarded.sent.rightly).0)
           (s, server, allowed, step)
           (ap (λ o. text_of l.happened ++ end_text_of o) is_sending
           ∙ ap₂ (λ (t : List ℕ) shape. t ++ end_text shape) (link.text ∙ ap text_sent u.sent) body.shape
-          ∙ append_assoc (text_sent u.before) (forward (sent_of r.pulled u.moment)) _
-          ∙ ap (λ (t : List ℕ). text_sent u.before ++ t) (sym (end_text_sent (sent_of r.pulled u.moment) body.unended)))
+          ∙ append_assoc (text_sent u.before) (forward (sent_of edge r.pulled u.moment)) _
+          ∙ ap (λ (t : List ℕ). text_sent u.before ++ t) (sym (end_text_sent (sent_of edge r.pulled u.moment) body.unended)))
           (none_asked (requests_of l.happened) ∙ link.asked ∙ ap methods_sent u.sent)
           (subst AreWholeBehind u.sent link.whole)
           (record {
@@ -264,32 +282,33 @@ module _ (theirs ours : Setting) where
             sent = refl;
             marked = record { whole = refl; broken = u.marked.broken };
             body = λ next is. let none : None ≡ Some next = is in cc;
+            sends = λ unended long. absurd (true≢false unended);
           })
 
   -- its body broke, or was cut
   pub keeps_broken : (fault : on.BodyFault) (whole broken : Bool) (a b : Kept) (s : ClientKept) → Brings theirs (on.broken_by fault) a b
-      → Keeps theirs ours (record { client = a; server = Some s; under_way = is_sent whole broken }) (record { client = b; server = Some s; under_way = is_sent whole true })
+      → Keeps edge theirs ours (record { client = a; server = Some s; under_way = is_sent whole broken }) (record { client = b; server = Some s; under_way = is_sent whole true })
   keeps_broken fault whole broken a b s brings = λ history all x. breaks history all all.requests all.links refl refl x x.server x.under_way
     where
       breaks : (history : List ProxyStep) (all : Happenings) (rs : List Request) (links : List Link) → all.requests ≡ rs → all.links ≡ links
-          → Carries theirs ours (record { client = a; server = Some s; under_way = is_sent whole broken }) history all
-          → IsServer ours (Some s) links → IsUnderWay (is_sent whole broken) rs (Some s) links
-          → (after : Happenings) × Carries theirs ours (record { client = b; server = Some s; under_way = is_sent whole true }) history after
+          → Carries edge theirs ours (record { client = a; server = Some s; under_way = is_sent whole broken }) history all
+          → IsServer ours (Some s) links → IsUnderWay edge (is_sent whole broken) rs (Some s) links
+          → (after : Happenings) × Carries edge theirs ours (record { client = b; server = Some s; under_way = is_sent whole true }) history after
       breaks history all [] links rs_are links_are x server under = absurd under
       breaks history all (r ∷ rs) [] rs_are links_are x server under = absurd server
       breaks history all (r ∷ rs) (l ∷ links) rs_are links_are x server u =
           let did = brings all.client x.stands in
           let p : Pulled = record r.pulled { is_broken = true } in
-          let r' : Request = record { pulled = p; sent_at = r.sent_at } in
-          let m : Link = record { happened = l.happened; sent = sent_of p u.moment ∷ u.before } in
+          let r' : Request = record { pulled = p; sent_at = r.sent_at; was_refused = r.was_refused } in
+          let m : Link = record { happened = l.happened; sent = sent_of edge p u.moment ∷ u.before } in
           let link = (subst (AllByRecursion (IsLink ours)) links_are x.forwarded.sent.links).0 in
-          changed theirs ours (on.broken_by fault) a b s s (is_sent whole broken) (is_sent whole true) r r' rs l m links history all did.0 rs_are links_are x did.1
-          did.2 refl refl
+          changed edge theirs ours (on.broken_by fault) a b s s (is_sent whole broken) (is_sent whole true) r r' rs l m links history all did.0 rs_are links_are x did.1
+          did.2 refl refl refl
           refl
-          (resent r.pulled p r.sent_at u.moment (all_sent rs) l.sent u.before (flat_map (λ (l : Link). l.sent) links) u.at u.sent
-          (sym (ap all_sent rs_are) ∙ x.forwarded.sent.sent ∙ ap (flat_map (λ (l : Link). l.sent)) links_are))
-          (rightly_kept r.pulled p r.sent_at refl
-          (subst (AllByRecursion (λ (r : Request). IsRightlySent r.pulled r.sent_at)) rs_are x.forwarded.sent.rightly).0)
+          (resent edge r.pulled p r.sent_at u.moment (all_sent edge rs) l.sent u.before (flat_map (λ (l : Link). l.sent) links) u.at u.sent
+          (sym (ap (all_sent edge) rs_are) ∙ x.forwarded.sent.sent ∙ ap (flat_map (λ (l : Link). l.sent)) links_are))
+          (rightly_kept edge r.pulled p r.sent_at r.was_refused refl
+          (subst (AllByRecursion (λ (r : Request). IsRightlySent edge r.pulled r.sent_at r.was_refused)) rs_are x.forwarded.sent.rightly).0)
           server
           (link.text ∙ ap text_sent u.sent)
           (link.asked ∙ ap methods_sent u.sent)
@@ -301,4 +320,5 @@ module _ (theirs ours : Setting) where
             sent = refl;
             marked = record { whole = u.marked.whole; broken = refl };
             body = λ next is. let y = u.body next is in record { unended = y.unended; shape = y.shape; missing = y.missing };
+            sends = λ unended long. u.sends unended long;
           })

@@ -1,7 +1,7 @@
 -- A request that was read and is sent on whole is a plain one.
 use Rattle.std.proofs.Common.{◌≡◌, ℕ, ◌<◌, ◌^◌, Bool, true, false, not, ◌&&◌, List, [], ◌∷◌, ◌++◌, map, flat_map, filter, cond, length, All, codes, refl, sym, ap, ap₂, ◌∙◌, subst, append-nil, append_assoc, lit<, Some, None, eqb, arith}
-use Rattle.std.specs.Prelude.{bytes_eq, nat_eq, nat_lt, unwrap_or}
-use Rattle.std.specs.List.{AllByRecursion, starts_with, list_all}
+use Rattle.std.specs.Prelude.{bytes_eq, nat_lt, unwrap_or}
+use Rattle.std.specs.List.{AllByRecursion, list_all}
 use Rattle.std.specs.Char.{is_ascii_digit}
 use Rattle.std.specs.Str.Parse.{digits_value}
 use Rattle.std.proofs.lemmas.Bool.{false≢true, and_parts, not-true, ltb-true, cond-false, ne_eqb}
@@ -20,15 +20,20 @@ use Rattle.model_h1.specs.Parse.{Input, Message, IsParse}
 use Rattle.model_client.specs.WrittenHead.{IsCleanHeader}
 use Rattle.model_client.specs.RequestText.{as_answer, asked_shape, fits, body_sent, joined, given_request_text, IsPlainGiven, kind_of_shape}
 use Rattle.model_ends.specs.SentRequest.{SentRequest, sent_request, IsAsked, asked_text, AreServedAs, AreBegunServed}
+use Rattle.model_ends.proofs.NameGroups.{all_both}
 use Rattle.model_ends.proofs.CleanHeads.{written_clean}
 use Rattle.model_ends.proofs.GivenRequests.{plain_asked}
 use Rattle.model_ends.proofs.SentRequests.{asked_is_served, asked_alone}
 use Rattle.model_ends.proofs.BegunRequests.{begun_served}
 use Rattle.model_proxy.specs.HopNames.{is_among}
-use Rattle.model_proxy.specs.Forward.{is_forwardable, left_out, forwarded_size, forwarded_head, Sent, forwarded, pieces_sent, end_sent, forward}
+use Rattle.model_proxy.specs.Edge.{Edge, IsCleanEdge}
+use Rattle.model_proxy.specs.Targets.{is_servable}
+use Rattle.model_proxy.specs.Judged.{is_refused}
+use Rattle.model_proxy.specs.Forward.{is_forwardable, left_out, passed_lines, own_lines, forwarded_lines, states_length, size_by, forwarded_size, forwarded_head, Sent, forwarded, pieces_sent, end_sent, forward}
 use Rattle.model_proxy.specs.SentWhole.{IsSentWhole}
 use Rattle.model_proxy.proofs.TrimLemmas.{trim_ows-again}
-use Rattle.model_proxy.proofs.Paths.{target_cut, some_cut, utf8_cut, visible_cut}
+use Rattle.model_proxy.proofs.Targets.{sent_sound, sent_visible}
+use Rattle.model_proxy.proofs.OwnLines.{named_clean, own_clean}
 use Rattle.model_proxy.proofs.ForwardedLines.{kept_behind}
 
 -- ---- lines
@@ -91,60 +96,68 @@ body_below h piece x n is = by_test (is_framing_refused h.minor h.method h.heade
     by_test true e = cc
     by_test false e = let same : framed_body h.method h.headers ≡ h.body = cc in framed_below h.method h.headers n (same ∙ is)
 
-size_fits : (kind : BodyKind) → ((n : ℕ) → kind ≡ fixed_body n → n < 2 ^ 64) → fits (forwarded_size kind)
-size_fits no_body low = tt
-size_fits chunked_body low = tt
-size_fits raw_body low = tt
-size_fits (fixed_body n) low = low n refl
-
-size_came : (kind : BodyKind) (total : ℕ) → ((n : ℕ) → kind ≡ fixed_body n → total ≡ n) → (n : ℕ) → forwarded_size kind ≡ size_of n → total ≡ n
-size_came no_body total came n e = cc
-size_came chunked_body total came n e = cc
-size_came raw_body total came n e = cc
-size_came (fixed_body m) total came n e = let same : m ≡ n = cc in came m refl ∙ same
+size_fits : (says : Bool) (kind : BodyKind) → ((n : ℕ) → kind ≡ fixed_body n → n < 2 ^ 64) → fits (size_by says kind)
+size_fits true no_body low = none_below
+size_fits false no_body low = tt
+size_fits says chunked_body low = tt
+size_fits says raw_body low = tt
+size_fits says (fixed_body n) low = low n refl
 
 -- ---- the request
 
-not_connect : (h : Head) → is_forwardable h ≡ true → bytes_eq h.method (codes "CONNECT") ≡ false
-not_connect h e = by_test (bytes_eq h.method (codes "CONNECT")) refl
-  where
-    by_test : (t : Bool) → bytes_eq h.method (codes "CONNECT") ≡ t → bytes_eq h.method (codes "CONNECT") ≡ false
-    by_test false is = is
-    by_test true is =
-        absurd (false≢true (sym (ap (λ t. not t && not (is_raw_kind h.body) && starts_with nat_eq h.target (codes "/")) is) ∙ e))
+-- the lines that are passed on, and the own ones behind them
+lines_clean : (s : Sent) → IsCleanEdge s.edge → AllByRecursion IsCleanHeader s.head.headers → AllPass is_uri_byte s.head.target
+    → AllByRecursion IsCleanHeader (forwarded_lines s.edge s.head)
+lines_clean s edge clean seen =
+    let passed = passed_lines s.edge s.head.headers in
+    all_both IsCleanHeader passed (own_lines s.edge s.head passed)
+    (kept_clean (λ h. not (is_among h.name (left_out s.edge s.head.headers))) s.head.headers clean)
+    (own_clean s.edge s.head passed edge (named_clean s.head clean seen))
 
-begins_path : (h : Head) → is_forwardable h ≡ true → starts_with nat_eq h.target (codes "/") ≡ true
-begins_path h e =
-    (and_parts (not (bytes_eq h.method (codes "CONNECT")) && not (is_raw_kind h.body)) (starts_with nat_eq h.target (codes "/")) e).1
+-- what a request has that can be sent on
+record IsServed (edge : Edge) (h : Head) : Type 0 where
+  pub no_connect : bytes_eq h.method (codes "CONNECT") ≡ false
+  pub no_raw : is_raw_kind h.body ≡ false
+  pub servable : is_servable h.method h.target ≡ true
+
+served : (edge : Edge) (h : Head) → is_forwardable edge h ≡ true → IsServed edge h
+served edge h e =
+    let rest = (and_parts (not (is_refused edge h)) _ e).1 in
+    let connect = and_parts (not (bytes_eq h.method (codes "CONNECT"))) _ rest in
+    let raw = and_parts (not (is_raw_kind h.body)) (is_servable h.method h.target) connect.1 in
+    record {
+      no_connect = not-true (bytes_eq h.method (codes "CONNECT")) connect.0;
+      no_raw = not-true (is_raw_kind h.body) raw.0;
+      servable = raw.1;
+    }
 
 sent_plain : (hold_size : ℕ) (s : Sent) → IsSentWhole hold_size s → IsPlainGiven hold_size (forwarded s)
 sent_plain hold_size s x =
-    let size = forwarded_size s.head.body in
-    let shape = asked_shape size in
-    let r = forwarded_head s.head in
+    let size = forwarded_size s.head in
+    let r = forwarded_head s.edge s.head in
     let read = x.read in
     let grammar = read.reads.0 in
-    let small : fits size = size_fits s.head.body (body_below s.head x.piece read) in
+    let small : fits size = size_fits (states_length s.head) s.head.body (body_below s.head x.piece read) in
     let clean : AllByRecursion IsCleanHeader s.head.headers =
     subst (AllByRecursion IsCleanHeader) (sym read.headers_are) (fields_clean read.text.fields grammar.fields read.fields) in
-    let path = begins_path s.head x.forwardable in
+    let is = served s.edge s.head x.forwardable in
     let goes : IsTarget s.head.target = subst IsTarget (sym read.target_is.1) read.target_is.0 in
     let seen : AllPass is_uri_byte s.head.target = subst (AllPass is_uri_byte) (sym read.target_is.1) grammar.target.1 in
+    let sound = sent_sound s.head.method s.head.target is.servable goes in
     record {
       head = record {
         version = refl;
         method = subst IsMethod (sym read.method_is.1) read.method_is.0;
         token = subst IsToken (sym read.method_is.1) grammar.method;
-        no_connect = not_connect s.head x.forwardable;
-        target = target_cut s.head.target path goes;
-        visible = (some_cut s.head.target path, visible_cut s.head.target seen);
-        utf8 = utf8_cut s.head.target path goes;
-        no_upgrade = kept_behind s (codes "upgrade") refl;
-        lines = written_clean 1 (as_answer r) shape size keep_alive s.moment
-            (kept_clean (λ h. not (is_among h.name (left_out s.head.headers))) s.head.headers clean) small x.moment;
+        no_connect = is.no_connect;
+        target = sound.target;
+        visible = (sound.some, sent_visible s.head.method s.head.target seen);
+        utf8 = sound.utf8;
+        no_upgrade = kept_behind s (codes "upgrade") refl refl;
+        lines = written_clean 1 (as_answer r) (asked_shape size) size keep_alive s.moment (lines_clean s x.edge clean seen) small x.moment;
       };
       fits = small;
-      came = size_came s.head.body (length (joined s.pieces)) x.came;
+      came = x.came;
       short = x.short;
       few = x.few;
       held = x.held;
@@ -169,7 +182,7 @@ body_whole (shape_length n) pieces = append-nil (pieces_sent (shape_length n) pi
 text_same : (hold_size : ℕ) (ss : List Sent) → AllByRecursion (IsSentWhole hold_size) ss → flat_map forward ss ≡ asked_text (map as_sent ss)
 text_same hold_size [] all = refl
 text_same hold_size (s ∷ ss) all =
-    let shape = asked_shape (forwarded_size s.head.body) in
+    let shape = asked_shape (forwarded_size s.head) in
     let head = given_request_text (forwarded s) in
     let body : pieces_sent shape s.pieces ++ end_sent shape s.is_whole ≡ body_sent shape s.pieces =
     ap (λ t. pieces_sent shape s.pieces ++ end_sent shape t) all.0.whole ∙ body_whole shape s.pieces in
@@ -214,32 +227,31 @@ body_positive h piece x n is = by_test (is_framing_refused h.minor h.method h.he
         let same : framed_body h.method h.headers ≡ h.body = cc in
         framed_positive h.method h.headers n (same ∙ is)
 
-not_raw : (h : Head) → is_forwardable h ≡ true → is_raw_kind h.body ≡ false
-not_raw h e =
-    let both = and_parts (not (bytes_eq h.method (codes "CONNECT")) && not (is_raw_kind h.body)) (starts_with nat_eq h.target (codes "/")) e in
-    not-true (is_raw_kind h.body) (and_parts (not (bytes_eq h.method (codes "CONNECT"))) (not (is_raw_kind h.body)) both.0).1
-
 -- the shape of a length
 length_shape : (n : ℕ) → 0 < n → asked_shape (size_of n) ≡ shape_length n
 length_shape n some = cond-false (eqb n 0) shape_none (shape_length n) (ne_eqb n 0 (λ none. omega (arith, none, some)))
 
-kind_same : (kind : BodyKind) → is_raw_kind kind ≡ false → ((n : ℕ) → kind ≡ fixed_body n → 0 < n) → kind_of_shape (asked_shape (forwarded_size kind)) ≡ kind
-kind_same no_body other some = refl
-kind_same chunked_body other some = refl
-kind_same raw_body other some = absurd (false≢true (sym other))
-kind_same (fixed_body n) other some = ap kind_of_shape (length_shape n (some n refl))
+kind_same : (says : Bool) (kind : BodyKind) → is_raw_kind kind ≡ false → ((n : ℕ) → kind ≡ fixed_body n → 0 < n)
+    → kind_of_shape (asked_shape (size_by says kind)) ≡ kind
+kind_same true no_body other some = refl
+kind_same false no_body other some = refl
+kind_same says chunked_body other some = refl
+kind_same says raw_body other some = absurd (false≢true (sym other))
+kind_same says (fixed_body n) other some = ap kind_of_shape (length_shape n (some n refl))
 
-bytes_same : (kind : BodyKind) (pieces : List (List ℕ)) → is_raw_kind kind ≡ false → has_body kind ≡ true → ((n : ℕ) → kind ≡ fixed_body n → 0 < n)
-    → ((n : ℕ) → kind ≡ fixed_body n → length (joined pieces) ≡ n) → carried_by (asked_shape (forwarded_size kind)) pieces ≡ joined pieces
-bytes_same no_body pieces other there some came = absurd (false≢true there)
-bytes_same chunked_body pieces other there some came = refl
-bytes_same raw_body pieces other there some came = absurd (false≢true (sym other))
-bytes_same (fixed_body n) pieces other there some came =
+bytes_same : (says : Bool) (kind : BodyKind) (pieces : List (List ℕ)) → is_raw_kind kind ≡ false → has_body kind ≡ true
+    → ((n : ℕ) → kind ≡ fixed_body n → 0 < n) → ((n : ℕ) → size_by says kind ≡ size_of n → length (joined pieces) ≡ n)
+    → carried_by (asked_shape (size_by says kind)) pieces ≡ joined pieces
+bytes_same says no_body pieces other there some came = absurd (false≢true there)
+bytes_same says chunked_body pieces other there some came = refl
+bytes_same says raw_body pieces other there some came = absurd (false≢true (sym other))
+bytes_same says (fixed_body n) pieces other there some came =
     ap (λ shape. carried_by shape pieces) (length_shape n (some n refl)) ∙ take_all n (joined pieces) (omega (arith, came n refl))
 
 pub body_read : (hold_size : ℕ) (s : Sent) → IsSentWhole hold_size s → (sent_request (forwarded s)).says.body ≡ s.head.body
-body_read hold_size s x = kind_same s.head.body (not_raw s.head x.forwardable) (body_positive s.head x.piece x.read)
+body_read hold_size s x =
+    kind_same (states_length s.head) s.head.body (served s.edge s.head x.forwardable).no_raw (body_positive s.head x.piece x.read)
 
 pub bytes_read : (hold_size : ℕ) (s : Sent) → IsSentWhole hold_size s → has_body s.head.body ≡ true → (sent_request (forwarded s)).bytes ≡ joined s.pieces
 bytes_read hold_size s x there =
-    bytes_same s.head.body s.pieces (not_raw s.head x.forwardable) there (body_positive s.head x.piece x.read) x.came
+    bytes_same (states_length s.head) s.head.body s.pieces (served s.edge s.head x.forwardable).no_raw there (body_positive s.head x.piece x.read) x.came

@@ -11,7 +11,7 @@ use Rattle.model_state.specs.Reply.{stated}
 use Rattle.model_client.specs.RequestText.{asked_shape, given_request_text, joined}
 use Rattle.model_client.specs.ClientStep.{piece_of}
 use Rattle.std.proofs.lemmas.List.{take-append-le, take_all}
-use Rattle.model_proxy.specs.Forward.{forwarded_size, Sent, forwarded, pieces_sent, end_sent, forward}
+use Rattle.model_proxy.specs.Forward.{states_length, size_by, forwarded_size, Sent, forwarded, pieces_sent, end_sent, forward}
 
 -- ---- pieces
 
@@ -83,27 +83,28 @@ length_tail : (t : Bool) (n : ℕ) (whole : Bool) → tail_of (if_none t n) whol
 length_tail true n whole = refl
 length_tail false n whole = ap (λ (t : List ℕ). t ++ []) (take-nil n)
 
-no_tail : (kind : BodyKind) → tail_of (asked_shape (forwarded_size kind)) (not (has_body kind)) ≡ []
-no_tail no_body = refl
-no_tail (fixed_body n) = length_tail (n == 0) n false
-no_tail chunked_body = refl
-no_tail raw_body = refl
+no_tail : (says : Bool) (kind : BodyKind) → tail_of (asked_shape (size_by says kind)) (not (has_body kind)) ≡ []
+no_tail true no_body = refl
+no_tail false no_body = refl
+no_tail says (fixed_body n) = length_tail (n == 0) n false
+no_tail says chunked_body = refl
+no_tail says raw_body = refl
 
 pub begun_text : (s : Sent) → s.pieces ≡ [] → s.is_whole ≡ not (has_body s.head.body) → forward s ≡ given_request_text (forwarded s)
 begun_text s none whole =
-    let shape = asked_shape (forwarded_size s.head.body) in
+    let shape = asked_shape (forwarded_size s.head) in
     let head = given_request_text (forwarded s) in
     ap (λ (ps : List (List ℕ)). head ++ (pieces_sent shape ps ++ end_sent shape s.is_whole)) none
     ∙ ap (λ (w : Bool). head ++ tail_of shape w) whole
-    ∙ ap (λ (t : List ℕ). head ++ t) (no_tail s.head.body)
+    ∙ ap (λ (t : List ℕ). head ++ t) (no_tail (states_length s.head) s.head.body)
     ∙ append-nil head
 
 -- ---- one of which more was taken
 
 pub more_text : (s : Sent) (bytes : List ℕ) → s.is_whole ≡ false → forward (record s { pieces = s.pieces ++ bytes ∷ [] })
-    ≡ forward s ++ piece_of (asked_shape (forwarded_size s.head.body)) (stated (asked_shape (forwarded_size s.head.body)) - length (joined s.pieces)) bytes
+    ≡ forward s ++ piece_of (asked_shape (forwarded_size s.head)) (stated (asked_shape (forwarded_size s.head)) - length (joined s.pieces)) bytes
 more_text s bytes unended =
-    let size = forwarded_size s.head.body in
+    let size = forwarded_size s.head in
     let shape = asked_shape size in
     let head = given_request_text (forwarded s) in
     let piece = piece_of shape (stated shape - length (joined s.pieces)) bytes in
@@ -117,9 +118,9 @@ more_text s bytes unended =
     ∙ ap (λ (t : List ℕ). (head ++ (before ++ t)) ++ piece) (sym ended)
 
 pub end_text_sent : (s : Sent) → s.is_whole ≡ false
-    → forward (record s { is_whole = true }) ≡ forward s ++ end_text (asked_shape (forwarded_size s.head.body))
+    → forward (record s { is_whole = true }) ≡ forward s ++ end_text (asked_shape (forwarded_size s.head))
 end_text_sent s unended =
-    let shape = asked_shape (forwarded_size s.head.body) in
+    let shape = asked_shape (forwarded_size s.head) in
     let head = given_request_text (forwarded s) in
     let before = pieces_sent shape s.pieces in
     let ended : end_sent shape s.is_whole ≡ [] = ap (end_sent shape) unended ∙ no_end shape in

@@ -1,5 +1,6 @@
 -- What a forwarder keeps stays that of all that happened, whatever it does between two events.
 use Rattle.std.proofs.Common.{◌≡◌, ℕ, Bool, true, false, not, List, [], ◌∷◌, map, flat_map, Option, Some, None, refl, sym, ap, ◌∙◌, subst}
+use Rattle.std.specs.Prelude.{is_some}
 use Rattle.std.specs.List.{AllByRecursion}
 use Rattle.model_h1.specs.Setting.{Setting}
 use Rattle.model_h1.specs.Request.{Head, has_body}
@@ -11,12 +12,13 @@ use Rattle.model_state.specs.Kept.{Kept}
 use Rattle.model_state.specs.StandsFor.{StandsFor}
 use Rattle.model_client.specs.RequestText.{request_text, asked_shape, given_request_text}
 use Rattle.model_client.specs.ClientEvent.{ClientRequest}
-use Rattle.model_client.specs.ClientKept.{ClientKept, Waiting}
+use Rattle.model_client.specs.ClientKept.{ClientKept, Waiting, SendingBody}
 use Rattle.model_client.specs.ClientTrace.{Happened, IsClientTrace, text_of, taken, written, requests_of}
+use Rattle.model_proxy.specs.Edge.{Edge}
 use Rattle.model_proxy.specs.Forward.{is_forwardable, forwarded, forwarded_size}
-use Rattle.model_proxy.specs.Past.{ProxyStep, Server, servers}
+use Rattle.model_proxy.specs.Past.{ProxyStep, Server, counted_if, servers}
 use Rattle.model_proxy.specs.Exchange.{Pulled, unpulled, pulled, newest_pulled, with_head, pulled_by}
-use Rattle.model_proxy.specs.Happenings.{Request, Link, Happenings, sent_of, all_sent, text_sent, methods_sent, AreWhole, AreWholeBehind, IsRightlySent, server_of, IsLink, AreSums}
+use Rattle.model_proxy.specs.Happenings.{Request, Link, Happenings, sent_of, all_sent, text_sent, methods_sent, AreWhole, AreWholeBehind, IsRightlySent, refused_count, server_of, IsLink, AreSums}
 use Rattle.model_proxy.specs.Carried.{UnderWay, nothing, waits, is_sent, ForwarderKept, IsServer, IsIdle, IsUnderWay, Carries, IsNewest, Keeps}
 use Rattle.model_proxy.specs.Moves.{after_outcome, HasBrought, Brings, IsQuiet, Stays}
 use Rattle.model_proxy.proofs.Quiet.{BringsNothing, nothing_more}
@@ -25,20 +27,23 @@ use Rattle.model_proxy.proofs.Quiet.{BringsNothing, nothing_more}
 
 -- what took and gave nothing keeps the sums
 pub same_sums : (history : List ProxyStep) (a b : Happenings) → AreSums history a → sums.taken b.client ≡ sums.taken a.client
-    → sums.written b.client ≡ sums.written a.client → sums.now b.client ≡ sums.now a.client → map server_of b.links ≡ map server_of a.links → AreSums history b
-same_sums history a b x taken written moment servers = record {
+    → sums.written b.client ≡ sums.written a.client → sums.now b.client ≡ sums.now a.client → sums.has_ended b.client ≡ sums.has_ended a.client
+    → refused_count b.requests ≡ refused_count a.requests → map server_of b.links ≡ map server_of a.links → AreSums history b
+same_sums history a b x taken written moment ended refused servers = record {
   taken = taken ∙ x.taken;
   written = written ∙ x.written;
   moment = moment ∙ x.moment;
   servers = servers ∙ x.servers;
+  ended = ended ∙ x.ended;
+  refused = refused ∙ x.refused;
 }
 
-module _ (theirs ours : Setting) where
+module _ (edge : Edge) (theirs ours : Setting) where
   -- ---- the client's side alone
 
   -- the client's connection brought nothing of a request
   pub keeps_client : (o : on.Outcome) (k : ForwarderKept) (client : Kept) → BringsNothing o → Brings theirs o k.client client
-      → Keeps theirs ours k (record k { client = client })
+      → Keeps edge theirs ours k (record k { client = client })
   keeps_client o k client none brings = λ history all x.
       let did = brings all.client x.stands in
       let new : Happenings = record all { client = did.0 } in (
@@ -49,7 +54,7 @@ module _ (theirs ours : Setting) where
           under_way = x.under_way;
           forwarded = record {
             traced = did.1.traced;
-            sums = same_sums history all new x.forwarded.sums did.2.taken did.2.written did.2.moment refl;
+            sums = same_sums history all new x.forwarded.sums did.2.taken did.2.written did.2.moment did.2.ended refl refl;
             sent = record {
               requests = x.forwarded.sent.requests ∙ sym (did.2.pulled ∙ nothing_more o none (pulled all.client));
               sent = x.forwarded.sent.sent;
@@ -63,7 +68,7 @@ module _ (theirs ours : Setting) where
   -- ---- the connection to a server
 
   -- it is closed
-  pub keeps_closed : (k : ForwarderKept) → Keeps theirs ours k (record k { server = None })
+  pub keeps_closed : (k : ForwarderKept) → Keeps edge theirs ours k (record k { server = None })
   keeps_closed k = λ history all x. (
     all,
     record {
@@ -74,7 +79,7 @@ module _ (theirs ours : Setting) where
     },
   )
     where
-      closed : (u : UnderWay) (rs : List Request) (server : Option ClientKept) (links : List Link) → IsUnderWay u rs server links → IsUnderWay u rs None links
+      closed : (u : UnderWay) (rs : List Request) (server : Option ClientKept) (links : List Link) → IsUnderWay edge u rs server links → IsUnderWay edge u rs None links
       closed nothing rs server links x = tt
       closed (waits q size whole broken) [] server links x = absurd x
       closed (waits q size whole broken) (r ∷ rs) server links x = (tt, x.1)
@@ -86,7 +91,7 @@ module _ (theirs ours : Setting) where
 
   -- it did something of its own: nothing was written towards it
   pub keeps_server : (k : ForwarderKept) (a b : ClientKept) → Stays ours a b
-      → Keeps theirs ours (record k { server = Some a }) (record k { server = Some b })
+      → Keeps edge theirs ours (record k { server = Some a }) (record k { server = Some b })
   keeps_server k a b stays = λ history all x. went history all all.links x refl
     where
       changed : (l : Link) → (new : List Happened) → Link
@@ -98,8 +103,8 @@ module _ (theirs ours : Setting) where
           ∙ ap (λ (given : List ℕ). record { came = taken l.happened; ended = (server_of (changed l new)).ended; given = given }) q.written
           ∙ ap (λ (ended : Bool). record { came = taken l.happened; ended = ended; given = written l.happened }) q.ended
 
-      went : (history : List ProxyStep) (all : Happenings) (links : List Link) → Carries theirs ours (record k { server = Some a }) history all
-          → all.links ≡ links → (after : Happenings) × Carries theirs ours (record k { server = Some b }) history after
+      went : (history : List ProxyStep) (all : Happenings) (links : List Link) → Carries edge theirs ours (record k { server = Some a }) history all
+          → all.links ≡ links → (after : Happenings) × Carries edge theirs ours (record k { server = Some b }) history after
       went history all [] x is = absurd (subst (IsServer ours (Some a)) is x.server)
       went history all (l ∷ links) x is =
           let did = stays l.happened (subst (IsServer ours (Some a)) is x.server) in
@@ -110,10 +115,10 @@ module _ (theirs ours : Setting) where
             record {
               stands = x.stands;
               server = did.1;
-              under_way = under k.under_way all.requests (subst (IsUnderWay k.under_way all.requests (Some a)) is x.under_way);
+              under_way = under k.under_way all.requests (subst (IsUnderWay edge k.under_way all.requests (Some a)) is x.under_way);
               forwarded = record {
                 traced = x.forwarded.traced;
-                sums = same_sums history all new x.forwarded.sums refl refl refl
+                sums = same_sums history all new x.forwarded.sums refl refl refl refl refl
                     (ap (λ (s : Server). s ∷ map server_of links) (same_server l did.0 did.2) ∙ sym (ap (map server_of) is));
                 sent = record {
                   requests = x.forwarded.sent.requests;
@@ -134,8 +139,8 @@ module _ (theirs ours : Setting) where
             },
           )
         where
-          under : (u : UnderWay) (rs : List Request) → IsUnderWay u rs (Some a) (l ∷ links)
-              → IsUnderWay u rs (Some b) (changed l (stays l.happened (subst (IsServer ours (Some a)) is x.server)).0 ∷ links)
+          under : (u : UnderWay) (rs : List Request) → IsUnderWay edge u rs (Some a) (l ∷ links)
+              → IsUnderWay edge u rs (Some b) (changed l (stays l.happened (subst (IsServer ours (Some a)) is x.server)).0 ∷ links)
           under nothing rs y = y
           under (waits q size whole broken) [] y = absurd y
           under (waits q size whole broken) (r ∷ rs) y = y
@@ -147,15 +152,17 @@ module _ (theirs ours : Setting) where
             sent = y.sent;
             marked = y.marked;
             body = λ body says. y.body body (sym (stays l.happened (subst (IsServer ours (Some a)) is x.server)).2.sending ∙ says);
+            sends = λ unended long.
+                ap (λ (o : Option SendingBody). is_some o) (stays l.happened (subst (IsServer ours (Some a)) is x.server)).2.sending ∙ y.sends unended long;
           }
 
   -- ---- the request that is under way
 
   pub keeps_head : (h : Head) (server : Option ClientKept) (a b : Kept) (history : List ProxyStep) (all : Happenings) (trace : List Step)
-      → StandsFor theirs b trace → HasBrought (on.head h) all.client trace → Carries theirs ours (record { client = a; server = server; under_way = nothing }) history all
-      → (after : Happenings) × Carries theirs ours (record { client = b; server = server; under_way = nothing }) history after × IsNewest h after
+      → StandsFor theirs b trace → HasBrought (on.head h) all.client trace → Carries edge theirs ours (record { client = a; server = server; under_way = nothing }) history all
+      → (after : Happenings) × Carries edge theirs ours (record { client = b; server = server; under_way = nothing }) history after × IsNewest h after
   keeps_head h server a b history all trace stands did x =
-      let r : Request = record { pulled = unpulled h; sent_at = None } in
+      let r : Request = record { pulled = unpulled h; sent_at = None; was_refused = false } in
       let new : Happenings = record all { client = trace; requests = r ∷ all.requests } in (
         new,
         record {
@@ -164,7 +171,7 @@ module _ (theirs ours : Setting) where
           under_way = x.under_way;
           forwarded = record {
             traced = stands.traced;
-            sums = same_sums history all new x.forwarded.sums did.taken did.written did.moment refl;
+            sums = same_sums history all new x.forwarded.sums did.taken did.written did.moment did.ended refl refl;
             sent = record {
               requests = ap (λ ps. unpulled h ∷ ps) (x.forwarded.sent.requests ∙ sym (none_pulled (pulled all.client))) ∙ sym did.pulled;
               sent = x.forwarded.sent.sent;
@@ -173,7 +180,7 @@ module _ (theirs ours : Setting) where
             };
           };
         },
-        record { newest = r; others = all.requests; are = refl; pulled = refl; unsent = refl },
+        record { newest = r; others = all.requests; are = refl; pulled = refl; unsent = refl; unrefused = refl },
       )
     where
       none_pulled : (ps : List Pulled) → newest_pulled (on.head h) ps ≡ ps
@@ -181,48 +188,37 @@ module _ (theirs ours : Setting) where
       none_pulled (p ∷ ps) = refl
 
   -- it waits to be sent on
-  pub keeps_waiting : (h : Head) (q : ClientRequest) (size : BodySize) (whole broken : Bool) (client : Kept) (server : Option ClientKept) → is_forwardable h ≡ true
+  pub keeps_waiting : (h : Head) (q : ClientRequest) (size : BodySize) (whole broken : Bool) (client : Kept) (server : Option ClientKept) → is_forwardable edge h ≡ true
       → q.head.method ≡ h.method
       → whole ≡ not (has_body h.body)
       → broken ≡ false
-      → size ≡ forwarded_size h.body
-      → ((moment : ℕ) → request_text q.head (asked_shape size) size q.connection moment ≡ given_request_text (forwarded (sent_of (unpulled h) moment)))
-      → (history : List ProxyStep) (all : Happenings) → Carries theirs ours (record { client = client; server = server; under_way = nothing }) history all
-      → IsNewest h all → Carries theirs ours (record { client = client; server = server; under_way = waits q size whole broken }) history all
+      → size ≡ forwarded_size h
+      → ((moment : ℕ) → request_text q.head (asked_shape size) size q.connection moment ≡ given_request_text (forwarded (sent_of edge (unpulled h) moment)))
+      → (history : List ProxyStep) (all : Happenings) → Carries edge theirs ours (record { client = client; server = server; under_way = nothing }) history all
+      → IsNewest h all → Carries edge theirs ours (record { client = client; server = server; under_way = waits q size whole broken }) history all
   keeps_waiting h q size whole broken client server may method is_whole unbroken sized text history all x newest = record {
     stands = x.stands;
     server = x.server;
-    under_way = subst (λ (rs : List Request). IsUnderWay (waits q size whole broken) rs server all.links) (sym newest.are) (
+    under_way = subst (λ (rs : List Request). IsUnderWay edge (waits q size whole broken) rs server all.links) (sym newest.are) (
       x.under_way,
       record {
         unsent = newest.unsent;
+        unrefused = newest.unrefused;
         untaken = newest.pulled ∙ ap (λ (p : Pulled). unpulled p.head) (sym newest.pulled);
-        forwardable = ap (λ (p : Pulled). is_forwardable p.head) newest.pulled ∙ may;
+        forwardable = ap (λ (p : Pulled). is_forwardable edge p.head) newest.pulled ∙ may;
         method = method ∙ sym (ap (λ (p : Pulled). p.head.method) newest.pulled);
         whole = is_whole ∙ sym (ap (λ (p : Pulled). not (has_body p.head.body)) newest.pulled);
         unbroken = unbroken;
-        sized = sized ∙ sym (ap (λ (p : Pulled). forwarded_size p.head.body) newest.pulled);
-        text = λ moment. text moment ∙ sym (ap (λ (p : Pulled). given_request_text (forwarded (sent_of p moment))) newest.pulled);
+        sized = sized ∙ sym (ap (λ (p : Pulled). forwarded_size p.head) newest.pulled);
+        text = λ moment. text moment ∙ sym (ap (λ (p : Pulled). given_request_text (forwarded (sent_of edge p moment))) newest.pulled);
       },
     );
     forwarded = x.forwarded;
   }
 
-  -- it isn't waited for any more
-  pub keeps_refused : (q : ClientRequest) (size : BodySize) (whole broken : Bool) (client : Kept) (server : Option ClientKept)
-      → Keeps theirs ours (record { client = client; server = server; under_way = waits q size whole broken }) (record { client = client; server = server; under_way = nothing })
-  keeps_refused q size whole broken client server = λ history all x. (
-    all,
-    record { stands = x.stands; server = x.server; under_way = idle all.links all.requests x.under_way; forwarded = x.forwarded },
-  )
-    where
-      idle : (links : List Link) (rs : List Request) → IsUnderWay (waits q size whole broken) rs server links → IsIdle server links
-      idle links [] y = absurd y
-      idle links (r ∷ rs) y = y.0
-
   -- its server connection is closed
   pub keeps_left : (whole broken : Bool) (client : Kept)
-      → Keeps theirs ours (record { client = client; server = None; under_way = is_sent whole broken }) (record { client = client; server = None; under_way = nothing })
+      → Keeps edge theirs ours (record { client = client; server = None; under_way = is_sent whole broken }) (record { client = client; server = None; under_way = nothing })
   keeps_left whole broken client = λ history all x. (
     all,
     record { stands = x.stands; server = tt; under_way = tt; forwarded = x.forwarded },
@@ -230,7 +226,7 @@ module _ (theirs ours : Setting) where
 
   -- it is whole, and its answer
   pub keeps_whole : (broken : Bool) (client : Kept) (server : Option ClientKept)
-      → Keeps theirs ours (record { client = client; server = server; under_way = is_sent true broken }) (record { client = client; server = server; under_way = nothing })
+      → Keeps edge theirs ours (record { client = client; server = server; under_way = is_sent true broken }) (record { client = client; server = server; under_way = nothing })
   keeps_whole broken client server = λ history all x. (
     all,
     record {
@@ -241,7 +237,7 @@ module _ (theirs ours : Setting) where
     },
   )
     where
-      idle : (server : Option ClientKept) (rs : List Request) (links : List Link) → IsUnderWay (is_sent true broken) rs server links → AllByRecursion (IsLink ours) links
+      idle : (server : Option ClientKept) (rs : List Request) (links : List Link) → IsUnderWay edge (is_sent true broken) rs server links → AllByRecursion (IsLink ours) links
           → IsIdle server links
       idle None rs links y all = tt
       idle (Some k) [] links y all = absurd y
@@ -254,14 +250,14 @@ module _ (theirs ours : Setting) where
   -- both change: nothing is taken or given
   pub changed : (o : on.Outcome) (a b : Kept) (s t : ClientKept) (u v : UnderWay) (r r' : Request) (rs : List Request) (l l' : Link) (links : List Link)
       (history : List ProxyStep) (all : Happenings) (trace : List Step) → all.requests ≡ r ∷ rs → all.links ≡ l ∷ links
-      → Carries theirs ours (record { client = a; server = Some s; under_way = u }) history all → StandsFor theirs b trace → HasBrought o all.client trace
-      → sums.head_of o ≡ None → r'.pulled ≡ pulled_by o r.pulled → server_of l' ≡ server_of l
-      → all_sent (r' ∷ rs) ≡ flat_map (λ (l : Link). l.sent) (l' ∷ links) → IsRightlySent r'.pulled r'.sent_at
+      → Carries edge theirs ours (record { client = a; server = Some s; under_way = u }) history all → StandsFor theirs b trace → HasBrought o all.client trace
+      → sums.head_of o ≡ None → r'.pulled ≡ pulled_by o r.pulled → r'.was_refused ≡ r.was_refused → server_of l' ≡ server_of l
+      → all_sent edge (r' ∷ rs) ≡ flat_map (λ (l : Link). l.sent) (l' ∷ links) → IsRightlySent edge r'.pulled r'.sent_at r'.was_refused
       → IsClientTrace ours l'.happened t → text_of l'.happened ≡ text_sent l'.sent
       → map (λ (w : Waiting). w.method) (requests_of l'.happened) ≡ methods_sent l'.sent → AreWholeBehind l'.sent
-      → IsUnderWay v (r' ∷ rs) (Some t) (l' ∷ links)
-      → (after : Happenings) × Carries theirs ours (record { client = b; server = Some t; under_way = v }) history after
-  changed o a b s t u v r r' rs l l' links history all trace requests_are links_are x stands did none pulled_is same sent_is right driven text asked whole under =
+      → IsUnderWay edge v (r' ∷ rs) (Some t) (l' ∷ links)
+      → (after : Happenings) × Carries edge theirs ours (record { client = b; server = Some t; under_way = v }) history after
+  changed o a b s t u v r r' rs l l' links history all trace requests_are links_are x stands did none pulled_is refused_is same sent_is right driven text asked whole under =
       let new : Happenings = record { client = trace; requests = r' ∷ rs; links = l' ∷ links } in (
         new,
         record {
@@ -270,7 +266,8 @@ module _ (theirs ours : Setting) where
           under_way = under;
           forwarded = record {
             traced = stands.traced;
-            sums = same_sums history all new x.forwarded.sums did.taken did.written did.moment
+            sums = same_sums history all new x.forwarded.sums did.taken did.written did.moment did.ended
+                (ap (λ (b : Bool). counted_if b (refused_count rs)) refused_is ∙ sym (ap refused_count requests_are))
                 (ap (λ (s : Server). s ∷ map server_of links) same ∙ sym (ap (map server_of) links_are));
             sent = record {
               requests =
@@ -280,7 +277,7 @@ module _ (theirs ours : Setting) where
                   ∙ ap (after_outcome o) x.forwarded.sent.requests
                   ∙ sym did.pulled;
               sent = sent_is;
-              rightly = (right, (subst (AllByRecursion (λ (r : Request). IsRightlySent r.pulled r.sent_at)) requests_are x.forwarded.sent.rightly).1);
+              rightly = (right, (subst (AllByRecursion (λ (r : Request). IsRightlySent edge r.pulled r.sent_at r.was_refused)) requests_are x.forwarded.sent.rightly).1);
               links = (
                 record { kept = t; driven = driven; text = text; asked = asked; whole = whole },
                 (subst (AllByRecursion (IsLink ours)) links_are x.forwarded.sent.links).1,

@@ -16,7 +16,7 @@ use Rattle.model_h1.specs.Sums.{Step, request}
 use Rattle.model_h1.specs.Parse.{Message}
 use Rattle.model_h1.specs.Past.{steps, current}
 use Rattle.model_h1.proofs.PastLemmas.{legal_of}
-use Rattle.model_state.specs.Kept.{Rest, no_rest, raw_rest, fixed_rest, chunks_rest, frames_rest, Reply, unanswered, sending, answered, Exchange, Kept, Change, is_free, is_frames, is_unanswered, is_upgraded, rest_in, whole_rest, now}
+use Rattle.model_state.specs.Kept.{Rest, no_rest, raw_rest, fixed_rest, chunks_rest, frames_rest, Reply, unanswered, sending, answered, Exchange, Kept, Change, is_free, is_frames, is_unanswered, is_upgraded, rest_in, whole_rest, of_exchange, now}
 use Rattle.model_state.specs.Local.{closing_by, allowed_by, is_allowed_running, is_allowed_closing, is_answering, waits_for_answer}
 use Rattle.model_state.specs.Body.{passing}
 use Rattle.model_state.specs.Clock.{is_abandoned, is_slow, is_idle, expiring, at_moment, ticking}
@@ -30,7 +30,7 @@ use Rattle.model_state.specs.KeptOf.{exchange_of}
 use Rattle.model_state.specs.StandsFor.{StandsFor}
 use Rattle.model_state.proofs.Kernel.{coming_of}
 use Rattle.model_state.proofs.OneStep.{coming_one}
-use Rattle.model_proxy.specs.Wants.{is_running, IsAnswered, IsComplete, IsWaitedFor, head_mark, IsAskedBy, AsksTheSame, awaits_continue, IsTold, WantsNoMore, WantsTheSame, AnswersNothing, WantsAfterNext}
+use Rattle.model_proxy.specs.Wants.{is_running, IsAnswered, IsComplete, IsWaitedFor, head_mark, IsAskedBy, AsksTheSame, awaits_continue, is_of_old, IsTold, WantsNoMore, WantsTheSame, AnswersNothing, WantsAfterNext}
 use Rattle.model_proxy.proofs.Client.{machine_step, droppable}
 
 -- ---- what an exchange wants
@@ -156,9 +156,10 @@ piece_alike bytes k x unanswered = (refl, refl, refl, λ t. t)
 piece_alike bytes k x (sending shape kind missing) = (refl, refl, refl, λ t. t)
 piece_alike bytes k x (answered kind) = (refl, refl, refl, λ t. t)
 
-told_to_continue : (expects : Bool) → (expects && not true) ≡ false
-told_to_continue true = refl
-told_to_continue false = refl
+told_to_continue : (is_new expects : Bool) → (is_new && (expects && not true)) ≡ false
+told_to_continue true true = refl
+told_to_continue true false = refl
+told_to_continue false expects = refl
 
 module _ (setting : Setting) where
   of_change : (k : Kept) (c d : Change) → c ≡ d → Alike k d.kept → Alike k c.kept
@@ -191,7 +192,7 @@ module _ (setting : Setting) where
       of_change k c _ is (with_exchange (λ x k. record k { exchange = Some (record x { was_dropped = true }) }) k k.exchange (λ x. (refl, refl, refl, λ t. t)))
   change_alike k on.send_continue c asks is =
       of_change k c _ is
-      (with_exchange (λ x k. record k { buffered = k.buffered ++ interim_text; exchange = Some (record x { had_continue = true }) }) k k.exchange (λ x. (refl, refl, refl, λ t. told_to_continue x.expects)))
+      (with_exchange (λ x k. record k { buffered = k.buffered ++ interim_text; exchange = Some (record x { had_continue = true }) }) k k.exchange (λ x. (refl, refl, refl, λ t. told_to_continue (not (x.asked.minor == 0)) x.expects)))
   change_alike k (on.chunk bytes) c asks is = of_change k c _ is (with_exchange (sending_piece bytes) k k.exchange (λ x. piece_alike bytes k x x.reply))
   change_alike k (on.write n) c asks is = of_change k c _ is (same k)
   change_alike k (on.tick ms) c asks is = of_change k c _ is (ticking_alike k (closing_by setting k) ms)
@@ -349,7 +350,7 @@ module _ (setting : Setting) where
       → c ≡ doing_with (λ x k. record k { buffered = k.buffered ++ interim_text; exchange = Some (record x { had_continue = true }) }) (record k { exchange = ex })
       → awaits_continue c.kept ≡ false
   continue_change k None c is = ap (λ (c : Change). awaits_continue c.kept) is
-  continue_change k (Some x) c is = ap (λ (c : Change). awaits_continue c.kept) is ∙ told_to_continue x.expects
+  continue_change k (Some x) c is = ap (λ (c : Change). awaits_continue c.kept) is ∙ told_to_continue (not (x.asked.minor == 0)) x.expects
 
   pub continue_tells : (k next : Kept) (trace : List Step) (o : on.Outcome)
       → StandsFor setting k trace → StandsFor setting next (record { event = on.send_continue; outcome = o } ∷ trace) → IsTold setting next
@@ -461,7 +462,8 @@ module _ (setting : Setting) where
 
   -- the next head
   abbrev NextSo : Kept → on.Outcome → Kept → Type 0
-  NextSo k (on.head h) m = (is_answering m ≡ false) × (waits_for_answer m ≡ true) × IsAskedBy (asked_of h).is_head m
+  NextSo k (on.head h) m =
+      (is_answering m ≡ false) × (waits_for_answer m ≡ true) × IsAskedBy (asked_of h).is_head m × ((h.minor == 0) ≡ true → awaits_continue m ≡ false)
   NextSo k (on.closed end) m = (m.is_over ≡ true) × (head_mark m.exchange ≡ head_mark k.exchange)
   NextSo k o m = Alike k m × (closing_by setting k ≡ None)
 
@@ -477,7 +479,12 @@ module _ (setting : Setting) where
   upcoming k true c none (start, end, what, piece, reading, is) = subst (OfChange k) (sym is) (by_what what)
     where
       by_what : (what : Reading) → OfChange k (behind_head k end what)
-      by_what (head_is h) = (refl, ap not (frames_in_rest k.has_ended (drop end k.unread) (whole_rest h.body) ∙ none_whole h.body), refl)
+      by_what (head_is h) = (
+        refl,
+        ap not (frames_in_rest k.has_ended (drop end k.unread) (whole_rest h.body) ∙ none_whole h.body),
+        refl,
+        λ older. ap (λ (b : Bool). not b && (h.expects && not false)) older,
+      )
       by_what (faulty f) = (same k, none)
 
   next_case : (k : Kept) (closing : Option End) (c : Change) → closing_by setting k ≡ closing → IsNext setting k closing c → OfChange k c
@@ -490,6 +497,7 @@ module _ (setting : Setting) where
     λ runs. ap (λ (n : Kept). is_answering n) is ∙ x.0,
     λ runs. ap (λ (n : Kept). waits_for_answer n) is ∙ x.1,
     ap (λ (n : Kept). head_mark n.exchange) is ∙ x.2,
+    λ older runs. ap (λ (n : Kept). awaits_continue n) is ∙ x.3 older,
   )
   noted k m next coming (on.closed end) is over x =
       let stops : is_running setting next ≡ true → ⊥ = over_stops next (ap (λ (n : Kept). n.is_over) is ∙ x.0) in
@@ -552,10 +560,32 @@ module _ (setting : Setting) where
       by_parts false (Some end) waits is runs = absurd (false≢true runs)
       by_parts true closing waits is runs = absurd (false≢true runs)
 
+  -- a client that isn't owed a word to go on doesn't wait for one
+  not_owed : (k : Kept) (ex : Option Exchange) → of_exchange (λ x. x.expects && not x.had_continue) (record k { exchange = ex }) ≡ false
+      → awaits_continue (record k { exchange = ex }) ≡ false
+  not_owed k None is = refl
+  not_owed k (Some x) is = by_minor (not (x.asked.minor == 0))
+    where
+      by_minor : (t : Bool) → (t && (x.expects && not x.had_continue)) ≡ false
+      by_minor true = is
+      by_minor false = refl
+
+  -- one that is owed one, and doesn't wait for it, is of HTTP/1.0
+  pub owed_old : (k : Kept) (ex : Option Exchange) → awaits_continue (record k { exchange = ex }) ≡ false
+      → of_exchange (λ x. x.expects && not x.had_continue) (record k { exchange = ex }) ≡ true → is_of_old (record k { exchange = ex }) ≡ true
+  owed_old k None calm owed = absurd (false≢true owed)
+  owed_old k (Some x) calm owed = by_minor (x.asked.minor == 0) calm
+    where
+      by_minor : (t : Bool) → (not t && (x.expects && not x.had_continue)) ≡ false → t ≡ true
+      by_minor true calm = refl
+      by_minor false calm = absurd (false≢true (sym calm ∙ owed))
+
   -- where a request waits for its answer, and its client can't be told to go on, it doesn't wait for that
   pub no_continue : (k : Kept) → allowed_by setting k on.send_continue ≡ false → IsWaitedFor setting k → IsTold setting k
   unfolding allowed_by
-  no_continue k is waited runs = by_parts k.is_over (closing_by setting k) (waits_for_answer k) (awaits_continue k) is (waited runs) runs
+  no_continue k is waited runs =
+      not_owed k k.exchange
+      (by_parts k.is_over (closing_by setting k) (waits_for_answer k) (of_exchange (λ x. x.expects && not x.had_continue) k) is (waited runs) runs)
     where
       by_parts : (over : Bool) (closing : Option End) (waits on : Bool) → (not over && (if is_some closing then false else (waits && on))) ≡ false
           → waits ≡ true → (not over && is_none closing) ≡ true → on ≡ false

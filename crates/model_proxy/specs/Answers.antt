@@ -9,6 +9,8 @@ use Rattle.model_h1.specs.AnswerText.{by_name}
 use Rattle.model_h1.specs.Parse.{Body, content, Stop, ended_at, still_open, broken, cut, next_start}
 use Rattle.model_client.specs.AnswerReading.{Answer, AnswerReading, answer_is, refused}
 use Rattle.model_client.specs.AnswerParse.{Received, AnswerMessage, is_interim, AreAnswersIn}
+use Rattle.model_client.specs.WrittenHead.{line_of}
+use Rattle.model_proxy.specs.Edge.{via}
 use Rattle.model_proxy.specs.HopNames.{hop_names, connection_words, is_among, without}
 
 -- ---- what is read
@@ -76,11 +78,12 @@ says_close a = is_close a.connection || is_among (codes "close") (connection_wor
 
 -- ---- what is replied
 
--- The lines that are passed on, name by name, as they are written; a 304 has no body, and may tell the length of one (section
--- 3.3.2).
-abbrev pub reply_lines : ℕ → List Header → List Header
-reply_lines status headers =
-    by_name (without (hop_names headers ++ (if status == 304 then [] else codes "content-length" ∷ [])) headers)
+-- The lines that are passed on, and behind them who passes the answer on, name by name, as they are written; a 304 has no body, and may tell the
+-- length of one (section 3.3.2).
+abbrev pub reply_lines : ℕ → ℕ → List Header → List Header
+reply_lines minor status headers =
+    by_name (without (hop_names headers ++ (if status == 304 then [] else codes "content-length" ∷ [])) headers
+    ++ line_of (codes "via") (via minor) ∷ [])
 
 -- the reason is the answer's own, empty where it had none; text that isn't UTF-8 is left out
 abbrev pub reply_reason : List ℕ → List ℕ
@@ -96,7 +99,7 @@ reply_head a = record {
   upgrades = false;
   no_chunking = false;
   in_camel_case = false;
-  headers = reply_lines a.status a.headers;
+  headers = reply_lines a.minor a.status a.headers;
 }
 
 -- the size of a reply without a length: by the status alone, or not known
@@ -120,12 +123,25 @@ reply_size is_head a = size_by a.body
         if is_head then head_size (stated_length (values_of (codes "content-length") a.headers)) a.status kind
         else open_size a.status kind
 
--- a reply of the forwarder's own is empty
+-- a reply of the forwarder's own is empty, and nobody passed it on
 abbrev pub own_head : ℕ → AnswerHead
 own_head status = record {
   status = status;
   reason = None;
   closes = false;
+  keeps_alive = false;
+  upgrades = false;
+  no_chunking = false;
+  in_camel_case = false;
+  headers = [];
+}
+
+-- that of a head that is refused closes the connection
+abbrev pub refusal_head : AnswerHead
+refusal_head = record {
+  status = 400;
+  reason = None;
+  closes = true;
   keeps_alive = false;
   upgrades = false;
   no_chunking = false;

@@ -1,8 +1,8 @@
 -- What a forwarder keeps, and what happened by it.
-use Rattle.std.specs.Prelude.{◌≡◌, ℕ, ◌-◌, Bool, true, false, not, List, [], ◌∷◌, length, Option, Some, None, ⊤}
+use Rattle.std.specs.Prelude.{◌≡◌, ℕ, ◌-◌, Bool, true, false, not, List, [], ◌∷◌, length, Option, Some, None, is_some, ⊤}
 use Rattle.model_h1.specs.Setting.{Setting}
 use Rattle.model_h1.specs.Request.{Head, has_body}
-use Rattle.model_h1.specs.Answer.{BodySize}
+use Rattle.model_h1.specs.Answer.{BodySize, is_at_once}
 use Rattle.model_state.specs.Kept.{Kept}
 use Rattle.model_state.specs.Reply.{stated}
 use Rattle.model_state.specs.StandsFor.{StandsFor}
@@ -10,6 +10,7 @@ use Rattle.model_client.specs.RequestText.{request_text, asked_shape, given_requ
 use Rattle.model_client.specs.ClientEvent.{ClientRequest}
 use Rattle.model_client.specs.ClientKept.{ClientKept, SendingBody}
 use Rattle.model_client.specs.ClientTrace.{IsClientTrace, sending_of}
+use Rattle.model_proxy.specs.Edge.{Edge}
 use Rattle.model_proxy.specs.Forward.{is_forwardable, Sent, forwarded, forwarded_size}
 use Rattle.model_proxy.specs.Past.{ProxyStep, ProxyEvent, ProxyOutcome}
 use Rattle.model_proxy.specs.Exchange.{Pulled, unpulled}
@@ -43,52 +44,54 @@ IsIdle (Some k) [] = ⊥
 IsIdle (Some k) (l ∷ links) = AreWhole l.sent
 
 -- The text of this request is that of what is to be sent on for the client's, of which nothing was taken or sent.
-pub record IsWaiting (q : ClientRequest) (size : BodySize) (is_whole is_broken : Bool) (r : Request) : Type 0 where
+pub record IsWaiting (e : Edge) (q : ClientRequest) (size : BodySize) (is_whole is_broken : Bool) (r : Request) : Type 0 where
   pub unsent : r.sent_at ≡ None
+  pub unrefused : r.was_refused ≡ false
   pub untaken : r.pulled ≡ unpulled r.pulled.head
-  pub forwardable : is_forwardable r.pulled.head ≡ true
+  pub forwardable : is_forwardable e r.pulled.head ≡ true
   pub method : q.head.method ≡ r.pulled.head.method
   pub whole : is_whole ≡ not (has_body r.pulled.head.body)
   pub unbroken : is_broken ≡ false
-  pub sized : size ≡ forwarded_size r.pulled.head.body
-  pub text : (moment : ℕ) → request_text q.head (asked_shape size) size q.connection moment ≡ given_request_text (forwarded (sent_of r.pulled moment))
+  pub sized : size ≡ forwarded_size r.pulled.head
+  pub text : (moment : ℕ) → request_text q.head (asked_shape size) size q.connection moment ≡ given_request_text (forwarded (sent_of e r.pulled moment))
 
 -- the body that is sent is that of the request, as far as it was taken
 pub record IsSending (p : Pulled) (body : SendingBody) : Type 0 where
   pub unended : p.is_ended ≡ false
-  pub shape : body.shape ≡ asked_shape (forwarded_size p.head.body)
-  pub missing : body.missing ≡ stated (asked_shape (forwarded_size p.head.body)) - length (joined p.pieces)
+  pub shape : body.shape ≡ asked_shape (forwarded_size p.head)
+  pub missing : body.missing ≡ stated (asked_shape (forwarded_size p.head)) - length (joined p.pieces)
 
 -- the marks say of the body what was taken of it: its end, and that it broke or was cut
 pub record IsMarked (is_whole is_broken : Bool) (p : Pulled) : Type 0 where
   pub whole : is_whole ≡ p.is_ended
   pub broken : is_broken ≡ p.is_broken
 
--- the newest request was sent on as the newest of this connection
-pub record IsSentOn (is_whole is_broken : Bool) (r : Request) (l : Link) : Type 0 where
+-- The newest request was sent on as the newest of this connection. Until its end was taken, more of its body may be sent on there, if it has any.
+pub record IsSentOn (e : Edge) (is_whole is_broken : Bool) (r : Request) (l : Link) : Type 0 where
   pub moment : ℕ
   pub at : r.sent_at ≡ Some moment
   pub before : List Sent
-  pub sent : l.sent ≡ sent_of r.pulled moment ∷ before
+  pub sent : l.sent ≡ sent_of e r.pulled moment ∷ before
   pub marked : IsMarked is_whole is_broken r.pulled
   pub body : (body : SendingBody) → sending_of l.happened ≡ Some body → IsSending r.pulled body
+  pub sends : r.pulled.is_ended ≡ false → is_at_once (forwarded_size r.pulled.head) ≡ false → is_some (sending_of l.happened) ≡ true
 
-abbrev pub IsUnderWay : UnderWay → List Request → Option ClientKept → List Link → Type 0
-IsUnderWay nothing rs server links = IsIdle server links
-IsUnderWay (waits q size whole broken) [] server links = ⊥
-IsUnderWay (waits q size whole broken) (r ∷ rs) server links = IsIdle server links × IsWaiting q size whole broken r
-IsUnderWay (is_sent whole broken) [] None links = ⊥
-IsUnderWay (is_sent whole broken) (r ∷ rs) None links = (moment : ℕ) × (r.sent_at ≡ Some moment) × IsMarked whole broken r.pulled
-IsUnderWay (is_sent whole broken) (r ∷ rs) (Some k) (l ∷ links) = IsSentOn whole broken r l
-IsUnderWay (is_sent whole broken) [] (Some k) links = ⊥
-IsUnderWay (is_sent whole broken) (r ∷ rs) (Some k) [] = ⊥
+abbrev pub IsUnderWay : Edge → UnderWay → List Request → Option ClientKept → List Link → Type 0
+IsUnderWay e nothing rs server links = IsIdle server links
+IsUnderWay e (waits q size whole broken) [] server links = ⊥
+IsUnderWay e (waits q size whole broken) (r ∷ rs) server links = IsIdle server links × IsWaiting e q size whole broken r
+IsUnderWay e (is_sent whole broken) [] None links = ⊥
+IsUnderWay e (is_sent whole broken) (r ∷ rs) None links = (moment : ℕ) × (r.sent_at ≡ Some moment) × IsMarked whole broken r.pulled
+IsUnderWay e (is_sent whole broken) (r ∷ rs) (Some k) (l ∷ links) = IsSentOn e whole broken r l
+IsUnderWay e (is_sent whole broken) [] (Some k) links = ⊥
+IsUnderWay e (is_sent whole broken) (r ∷ rs) (Some k) [] = ⊥
 
 -- What a forwarder keeps is what is left of all that happened by these events.
-pub record Carries (theirs ours : Setting) (k : ForwarderKept) (history : List ProxyStep) (all : Happenings) : Type 0 where
+pub record Carries (e : Edge) (theirs ours : Setting) (k : ForwarderKept) (history : List ProxyStep) (all : Happenings) : Type 0 where
   pub stands : StandsFor theirs k.client all.client
   pub server : IsServer ours k.server all.links
-  pub under_way : IsUnderWay k.under_way all.requests k.server all.links
-  pub forwarded : IsForwardedBy theirs ours history all
+  pub under_way : IsUnderWay e k.under_way all.requests k.server all.links
+  pub forwarded : IsForwardedBy e theirs ours history all
 
 -- a request with this head was handed out last, and nothing of it was taken or sent
 pub record IsNewest (h : Head) (all : Happenings) : Type 0 where
@@ -97,16 +100,17 @@ pub record IsNewest (h : Head) (all : Happenings) : Type 0 where
   pub are : all.requests ≡ newest ∷ others
   pub pulled : newest.pulled ≡ unpulled h
   pub unsent : newest.sent_at ≡ None
+  pub unrefused : newest.was_refused ≡ false
 
 -- ---- how it goes on
 
 -- without an event of its own
-abbrev pub Keeps : Setting → Setting → ForwarderKept → ForwarderKept → Type 0
-Keeps client server old new =
-    (history : List ProxyStep) (all : Happenings) → Carries client server old history all → (after : Happenings) × Carries client server new history after
+abbrev pub Keeps : Edge → Setting → Setting → ForwarderKept → ForwarderKept → Type 0
+Keeps e client server old new =
+    (history : List ProxyStep) (all : Happenings) → Carries e client server old history all → (after : Happenings) × Carries e client server new history after
 
 -- by this event, with this outcome
-abbrev pub KeepsBy : Setting → Setting → ProxyEvent → ProxyOutcome → ForwarderKept → ForwarderKept → Type 0
-KeepsBy client server event outcome old new =
-    (history : List ProxyStep) (all : Happenings) → Carries client server old history all
-    → (after : Happenings) × Carries client server new (record { event = event; outcome = outcome } ∷ history) after
+abbrev pub KeepsBy : Edge → Setting → Setting → ProxyEvent → ProxyOutcome → ForwarderKept → ForwarderKept → Type 0
+KeepsBy e client server event outcome old new =
+    (history : List ProxyStep) (all : Happenings) → Carries e client server old history all
+    → (after : Happenings) × Carries e client server new (record { event = event; outcome = outcome } ∷ history) after

@@ -6,6 +6,7 @@ use Rattle.model_h1.specs.Event.{Outcome}
 use Rattle.model_h1.specs.Event as on
 use Rattle.model_h1.specs.Sums.{Step, head_of}
 use Rattle.model_client.specs.AnswerParse.{Received}
+use Rattle.model_proxy.specs.Edge.{Edge}
 use Rattle.model_proxy.specs.Forward.{Sent}
 use Rattle.model_proxy.specs.Past.{ProxyStep, server_at, now, first_of}
 
@@ -57,8 +58,9 @@ is_on k x = is_this x.server
     is_this (Some n) = n == k
 
 -- what was sent of it; the date of its head is the moment at which it was
-abbrev pub sent_of : List ProxyStep → Exchange → Sent
-sent_of history x = record {
+abbrev pub sent_of : Edge → List ProxyStep → Exchange → Sent
+sent_of e history x = record {
+  edge = e;
   head = x.pulled.head;
   moment = now (first_of x.sent_at history);
   pieces = x.pulled.pieces;
@@ -66,8 +68,8 @@ sent_of history x = record {
 }
 
 -- all requests that were sent on this server connection, the oldest first
-abbrev pub sent_on : List ProxyStep → ℕ → List Exchange → List Sent
-sent_on history k xs = map (sent_of history) (reverse (filter (is_on k) xs))
+abbrev pub sent_on : Edge → List ProxyStep → ℕ → List Exchange → List Sent
+sent_on e history k xs = map (sent_of e history) (reverse (filter (is_on k) xs))
 
 -- the steps up to which bytes of this server connection answer a request: those up to where the next one is sent on it, of the later
 -- ones, of which the next stands first

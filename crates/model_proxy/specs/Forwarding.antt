@@ -11,8 +11,10 @@ use Rattle.model_h1.specs.Laws.Exchanges.{AnswerGiven, Reply, no_reply, answer_g
 use Rattle.model_h1.specs.Laws.Exchanges as replies
 use Rattle.model_client.specs.RequestText.{joined}
 use Rattle.model_client.specs.AnswerReading.{Answer}
+use Rattle.model_proxy.specs.Edge.{Edge}
+use Rattle.model_proxy.specs.Judged.{is_refused}
 use Rattle.model_proxy.specs.Forward.{is_forwardable, Sent, forward}
-use Rattle.model_proxy.specs.Answers.{Fate, bad, whole_at, Found, IsAnswer, reply_head, reply_size, own_head}
+use Rattle.model_proxy.specs.Answers.{Fate, bad, whole_at, Found, IsAnswer, reply_head, reply_size, own_head, refusal_head}
 use Rattle.model_proxy.specs.Past.{ProxyStep, client_taken, client_given, servers, server_at, now}
 use Rattle.model_proxy.specs.Exchange.{Exchange, pulled, is_on, sent_on, until, answer_input}
 
@@ -45,26 +47,28 @@ IsReplyFrom setting history x k to a =
     ⊎ ((found.response ≡ None) × (found.fate ≡ bad) × IsOwn 502 a)))
     ⊎ ((x.pulled.is_broken ≡ true) × IsOwn 400 a)
 
--- 501 for a request that can't be sent on, 502 where no server connection is to be had
-abbrev pub IsReplyBy : Setting → List ProxyStep → List Exchange → Exchange → AnswerGiven → Bool → Bool → Option ℕ → Type 0
-IsReplyBy setting history later x a false was_refused server = IsOwn 501 a
-IsReplyBy setting history later x a true true server = IsOwn 502 a
-IsReplyBy setting history later x a true false (Some k) = IsReplyFrom setting history x k (until history k later) a
-IsReplyBy setting history later x a true false None = ⊥
+-- 400 for a head that is refused, after which the connection closes; 501 for a request that can't be sent on; 502 where no server connection
+-- is to be had
+abbrev pub IsReplyBy : Edge → Setting → List ProxyStep → List Exchange → Exchange → AnswerGiven → Bool → Bool → Bool → Option ℕ → Type 0
+IsReplyBy e setting history later x a true can was_refused server = (a.answered.head ≡ refusal_head) × (a.answered.size ≡ size_of 0)
+IsReplyBy e setting history later x a false false was_refused server = IsOwn 501 a
+IsReplyBy e setting history later x a false true true server = IsOwn 502 a
+IsReplyBy e setting history later x a false true false (Some k) = IsReplyFrom setting history x k (until history k later) a
+IsReplyBy e setting history later x a false true false None = ⊥
 
 -- the reply to the request, if it has one yet
-abbrev pub IsReply : Setting → List ProxyStep → List Exchange → Exchange → Reply → Type 0
-IsReply setting history later x no_reply = ⊤
-IsReply setting history later x (answer_given a) =
-    IsReplyBy setting history later x a (is_forwardable x.pulled.head) x.was_refused x.server
-IsReply setting history later x (session s) = ⊥
+abbrev pub IsReply : Edge → Setting → List ProxyStep → List Exchange → Exchange → Reply → Type 0
+IsReply e setting history later x no_reply = ⊤
+IsReply e setting history later x (answer_given a) =
+    IsReplyBy e setting history later x a (is_refused e x.pulled.head) (is_forwardable e x.pulled.head) x.was_refused x.server
+IsReply e setting history later x (session s) = ⊥
 
 -- each request has its own reply, in order; these later ones come after them
-abbrev pub AreReplies : Setting → List ProxyStep → List Exchange → List Exchange → List replies.Exchange → Type 0
-AreReplies setting history later [] [] = ⊤
-AreReplies setting history later (x ∷ xs) (e ∷ es) =
-    (e.head ≡ x.pulled.head) × IsReply setting history later x e.reply × AreReplies setting history (x ∷ later) xs es
-AreReplies setting history later _ _ = ⊥
+abbrev pub AreReplies : Edge → Setting → List ProxyStep → List Exchange → List Exchange → List replies.Exchange → Type 0
+AreReplies e setting history later [] [] = ⊤
+AreReplies e setting history later (x ∷ xs) (f ∷ fs) =
+    (f.head ≡ x.pulled.head) × IsReply e setting history later x f.reply × AreReplies e setting history (x ∷ later) xs fs
+AreReplies e setting history later _ _ = ⊥
 
 -- ---- one answer a request
 
@@ -96,9 +100,9 @@ IsGiven (Some waiting) true given text = given ++ waiting ≡ text
 IsGiven _ _ given text = Begins given text
 
 -- towards the server connection with this number; the newest is the one that may be open
-abbrev pub IsGivenTo : List ProxyStep → Option (List ℕ) → List Exchange → ℕ → Type 0
-IsGivenTo history waiting xs k =
-    IsGiven waiting (k + 1 == length (servers history)) (server_at k history).given (flat_map forward (sent_on history k xs))
+abbrev pub IsGivenTo : Edge → List ProxyStep → Option (List ℕ) → List Exchange → ℕ → Type 0
+IsGivenTo e history waiting xs k =
+    IsGiven waiting (k + 1 == length (servers history)) (server_at k history).given (flat_map forward (sent_on e history k xs))
 
 -- all but the last are whole
 abbrev pub AreWholeButLast : List Sent → Type 0
@@ -107,9 +111,9 @@ AreWholeButLast (s ∷ []) = ⊤
 AreWholeButLast (s ∷ next ∷ more) = (s.is_whole ≡ true) × AreWholeButLast (next ∷ more)
 
 -- only a request that can be sent on is, on a server connection that is there, and then none was refused for it
-abbrev pub IsSentRightly : List ProxyStep → Exchange → Type 0
-IsSentRightly history x =
-    (k : ℕ) → x.server ≡ Some k → (is_forwardable x.pulled.head ≡ true) × (x.was_refused ≡ false) × (k < length (servers history))
+abbrev pub IsSentRightly : Edge → List ProxyStep → Exchange → Type 0
+IsSentRightly e history x =
+    (k : ℕ) → x.server ≡ Some k → (is_forwardable e x.pulled.head ≡ true) × (x.was_refused ≡ false) × (k < length (servers history))
 
 -- ---- the theorem
 
@@ -123,15 +127,15 @@ HasFailed setting history (x ∷ xs) =
 
 -- The client's connection did this trace, these are its requests, the newest first in all lists, and these bytes wait to be given to
 -- the server, if a server connection is open.
-pub record IsForwarding (setting : Setting) (history : List ProxyStep) (waiting : Option (List ℕ)) (trace : List Step) (xs : List Exchange) : Type 0 where
+pub record IsForwarding (e : Edge) (setting : Setting) (history : List ProxyStep) (waiting : Option (List ℕ)) (trace : List Step) (xs : List Exchange) : Type 0 where
   pub traced : IsTrace setting trace
   pub taken : sums.taken trace ≡ client_taken history
   pub written : sums.written trace ≡ client_given history
   pub moment : sums.now trace ≡ now history
   pub requests : map (λ x. x.pulled) xs ≡ pulled trace
-  pub rightly : AllByRecursion (IsSentRightly history) xs
-  pub towards : (k : ℕ) → k < length (servers history) → IsGivenTo history waiting xs k
-  pub whole : (k : ℕ) → AreWholeButLast (sent_on history k xs)
-  pub replied : AreReplies setting history [] xs (exchanges trace)
+  pub rightly : AllByRecursion (IsSentRightly e history) xs
+  pub towards : (k : ℕ) → k < length (servers history) → IsGivenTo e history waiting xs k
+  pub whole : (k : ℕ) → AreWholeButLast (sent_on e history k xs)
+  pub replied : AreReplies e setting history [] xs (exchanges trace)
   pub alone : AreAlone setting history [] xs
   pub failed : sums.came_since_head sums.is_body_error trace ≡ true → HasFailed setting history xs

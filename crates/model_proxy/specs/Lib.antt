@@ -1,4 +1,7 @@
 pub mod HopNames
+pub mod Edge
+pub mod Targets
+pub mod Judged
 pub mod Forward
 pub mod SentWhole
 pub mod Answers

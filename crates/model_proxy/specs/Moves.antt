@@ -15,11 +15,12 @@ use Rattle.model_proxy.specs.Happenings.{server_of}
 abbrev pub after_outcome : on.Outcome → List Pulled → List Pulled
 after_outcome o ps = with_head (sums.head_of o) (newest_pulled o ps)
 
--- Nothing was taken or given, no moment came, and of the requests came what this outcome brings.
+-- Nothing was taken or given, no end and no moment came, and of the requests came what this outcome brings.
 pub record HasBrought (o : on.Outcome) (old new : List sums.Step) : Type 0 where
   pub taken : sums.taken new ≡ sums.taken old
   pub written : sums.written new ≡ sums.written old
   pub moment : sums.now new ≡ sums.now old
+  pub ended : sums.has_ended new ≡ sums.has_ended old
   pub pulled : pulled new ≡ after_outcome o (pulled old)
 
 -- the client's connection did something of its own, which brought this outcome

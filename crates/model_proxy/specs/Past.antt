@@ -1,5 +1,6 @@
 -- What happens to a forwarder, what it answers, and what a list of these sums up to. The newest step stands first.
-use Rattle.std.specs.Prelude.{ℕ, ◌-◌, Bool, true, false, List, [], ◌∷◌, ◌++◌, length, take, drop, ◌==◌, if◌then◌else◌, Option, Some, None, unwrap_or}
+use Rattle.std.specs.Prelude.{ℕ, ◌+◌, ◌-◌, Bool, true, false, List, [], ◌∷◌, ◌++◌, length, take, drop, ◌==◌, if◌then◌else◌, Option, Some, None, unwrap_or}
+use Rattle.std.specs.List.{list_any}
 use Rattle.std.specs.Option.{option_or}
 use Rattle.model_h1.specs.End.{End}
 
@@ -42,7 +43,28 @@ unfoldable pub client_given : List ProxyStep → List ℕ
 client_given [] = []
 client_given (s ∷ before) = client_given before ++ client_written s.event s.outcome
 
+abbrev pub is_client_end : ProxyEvent → Bool
+is_client_end client_eof = true
+is_client_end _ = false
+
+-- it sends no more bytes
+abbrev pub client_ended : List ProxyStep → Bool
+client_ended history = list_any (λ s. is_client_end s.event) history
+
 -- ---- servers
+
+abbrev pub is_refusal : ProxyEvent → Bool
+is_refusal refused = true
+is_refusal _ = false
+
+-- one more, where this is so
+abbrev pub counted_if : Bool → ℕ → ℕ
+counted_if is n = if is then n + 1 else n
+
+-- how many server connections couldn't be had
+abbrev pub refusals : List ProxyStep → ℕ
+refusals [] = 0
+refusals (s ∷ before) = counted_if (is_refusal s.event) (refusals before)
 
 -- the bytes that were taken from a server connection, whether its input has ended, and the bytes that were given towards it
 pub record Server : Type 0 where

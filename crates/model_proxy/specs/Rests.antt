@@ -12,6 +12,7 @@ use Rattle.model_h1.specs.OutcomeTable.{outcome_of}
 use Rattle.model_h1.specs.Laws.Exchanges.{AnswerGiven, Reply, answer_given, exchanges}
 use Rattle.model_h1.specs.Laws.Exchanges as replies
 use Rattle.model_client.specs.RequestText.{joined}
+use Rattle.model_proxy.specs.Edge.{Edge}
 use Rattle.model_proxy.specs.Forward.{is_forwardable}
 use Rattle.model_proxy.specs.Answers.{unfinished, Found, IsAnswer}
 use Rattle.model_proxy.specs.Past.{ProxyEvent, client, server, client_eof, server_eof, connected, refused, to_client, to_server, tick, ProxyOutcome, closed, ProxyStep, Server, servers}
@@ -28,14 +29,14 @@ abbrev pub is_running : Setting → List ParsedStep → Bool
 is_running setting past = not (is_over (steps past)) && is_none (closing setting past)
 
 -- the newest request can be sent on, and wasn't
-abbrev pub is_unsent : List Exchange → Bool
-is_unsent [] = false
-is_unsent (x ∷ xs) = is_forwardable x.pulled.head && is_none x.server
+abbrev pub is_unsent : Edge → List Exchange → Bool
+is_unsent e [] = false
+is_unsent e (x ∷ xs) = is_forwardable e x.pulled.head && is_none x.server
 
 -- a server connection is wanted: for a request that is open, while there is none
-abbrev pub wants_server : Setting → List ParsedStep → Option (List ℕ) → List Exchange → Bool
-wants_server setting past waiting xs =
-    is_running setting past && waits_for_answer (steps past) && is_unsent xs && is_none waiting
+abbrev pub wants_server : Edge → Setting → List ParsedStep → Option (List ℕ) → List Exchange → Bool
+wants_server e setting past waiting xs =
+    is_running setting past && waits_for_answer (steps past) && is_unsent e xs && is_none waiting
 
 -- a server connection is open, and its input hasn't ended
 abbrev pub is_read : List Server → Option (List ℕ) → Bool
@@ -43,16 +44,16 @@ is_read [] waiting = false
 is_read (s ∷ older) waiting = is_some waiting && not s.ended
 
 -- while the client's connection isn't given up
-abbrev pub is_taken : Setting → List ParsedStep → List ProxyStep → Option (List ℕ) → List Exchange → ProxyEvent → Bool
-is_taken setting past history waiting xs (client bytes) = is_running setting past && not (has_ended (steps past))
-is_taken setting past history waiting xs client_eof = is_running setting past && not (has_ended (steps past))
-is_taken setting past history waiting xs connected = wants_server setting past waiting xs
-is_taken setting past history waiting xs refused = wants_server setting past waiting xs
-is_taken setting past history waiting xs (server bytes) = is_read (servers history) waiting
-is_taken setting past history waiting xs server_eof = is_read (servers history) waiting
-is_taken setting past history waiting xs (to_server n) = is_some waiting
-is_taken setting past history waiting xs (to_client n) = true
-is_taken setting past history waiting xs (tick ms) = is_moment (steps past) ms
+abbrev pub is_taken : Edge → Setting → List ParsedStep → List ProxyStep → Option (List ℕ) → List Exchange → ProxyEvent → Bool
+is_taken e setting past history waiting xs (client bytes) = is_running setting past && not (has_ended (steps past))
+is_taken e setting past history waiting xs client_eof = is_running setting past && not (has_ended (steps past))
+is_taken e setting past history waiting xs connected = wants_server e setting past waiting xs
+is_taken e setting past history waiting xs refused = wants_server e setting past waiting xs
+is_taken e setting past history waiting xs (server bytes) = is_read (servers history) waiting
+is_taken e setting past history waiting xs server_eof = is_read (servers history) waiting
+is_taken e setting past history waiting xs (to_server n) = is_some waiting
+is_taken e setting past history waiting xs (to_client n) = true
+is_taken e setting past history waiting xs (tick ms) = is_moment (steps past) ms
 
 -- once it is given up, only that this is told
 abbrev pub is_to_client : ProxyEvent → Bool
@@ -64,10 +65,10 @@ is_closed (closed end) = true
 is_closed _ = false
 
 -- the event is allowed; nothing is once it was told that the client's connection is closed
-abbrev pub is_event_allowed : Setting → List ParsedStep → List ProxyStep → Option (List ℕ) → List Exchange → ProxyEvent → Bool
-is_event_allowed setting past history waiting xs event =
+abbrev pub is_event_allowed : Edge → Setting → List ParsedStep → List ProxyStep → Option (List ℕ) → List Exchange → ProxyEvent → Bool
+is_event_allowed e setting past history waiting xs event =
     not (list_any (λ s. is_closed s.outcome) history)
-    && (if is_over (steps past) then is_to_client event else is_taken setting past history waiting xs event)
+    && (if is_over (steps past) then is_to_client event else is_taken e setting past history waiting xs event)
 
 -- ---- what rests
 
@@ -79,8 +80,8 @@ pub record MayTurn (setting : Setting) (past : List ParsedStep) (waiting : Optio
 
 -- A request without an answer can be sent on, and no server connection was refused for it. It waits for one; or it was sent on one, its
 -- answer has no head yet and isn't bad, and its own body isn't broken.
-pub record Waits (setting : Setting) (history : List ProxyStep) (waiting : Option (List ℕ)) (x : Exchange) : Type 0 where
-  pub forwardable : is_forwardable x.pulled.head ≡ true
+pub record Waits (e : Edge) (setting : Setting) (history : List ProxyStep) (waiting : Option (List ℕ)) (x : Exchange) : Type 0 where
+  pub forwardable : is_forwardable e x.pulled.head ≡ true
   pub unrefused : x.was_refused ≡ false
   pub unconnected : x.server ≡ None → waiting ≡ None
   pub unanswered : (k : ℕ) → x.server ≡ Some k → (is_some waiting ≡ true) × (x.pulled.is_broken ≡ false)
@@ -107,17 +108,17 @@ abbrev pub OfNewest : (Exchange → Type 0) → List Exchange → Type 0
 OfNewest P [] = ⊤
 OfNewest P (x ∷ xs) = P x
 
--- Nothing is left to do: no further request can be had, and no client that waits wants to go on; an open request waits; all of its body
+-- Nothing is left to do: no further request can be had, and no client of HTTP/1.1 that waits wants to go on; an open request waits; all of its body
 -- that came was taken, once it was sent on; and all of its answer that came was passed on.
-pub record Rests (setting : Setting) (past : List ParsedStep) (history : List ProxyStep) (waiting : Option (List ℕ)) (xs : List Exchange) : Type 0 where
+pub record Rests (e : Edge) (setting : Setting) (past : List ParsedStep) (history : List ProxyStep) (waiting : Option (List ℕ)) (xs : List Exchange) : Type 0 where
   pub next : is_allowed setting past on.next ≡ true → outcome_of setting past on.next ≡ on.pending
-  pub told : is_allowed setting past on.send_continue ≡ false
-  pub waits : waits_for_answer (steps past) ≡ true → OfNewest (Waits setting history waiting) xs
+  pub told : is_allowed setting past on.send_continue ≡ true → OfNewest (λ x. x.pulled.head.minor ≡ 0) xs
+  pub waits : waits_for_answer (steps past) ≡ true → OfNewest (Waits e setting history waiting) xs
   pub body : is_some waiting ≡ true → OfNewest (λ x. is_some x.server ≡ true) xs → is_allowed setting past on.pull ≡ true
       → outcome_of setting past on.pull ≡ on.pending
   pub passing : is_answering (steps past) ≡ true → length (buffered setting (steps past)) < setting.write_buffer
       → OfNewest (IsPassing setting history (steps past)) xs
 
 -- what holds after each step
-abbrev pub RestsWhereItMay : Setting → List ParsedStep → List ProxyStep → Option (List ℕ) → List Exchange → Type 0
-RestsWhereItMay setting past history waiting xs = MayTurn setting past waiting → Rests setting past history waiting xs
+abbrev pub RestsWhereItMay : Edge → Setting → List ParsedStep → List ProxyStep → Option (List ℕ) → List Exchange → Type 0
+RestsWhereItMay e setting past history waiting xs = MayTurn setting past waiting → Rests e setting past history waiting xs

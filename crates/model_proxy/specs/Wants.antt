@@ -1,5 +1,5 @@
 -- Which answers a client's connection still wants, and where a server's is at its end.
-use Rattle.std.specs.Prelude.{◌≡◌, Bool, true, false, not, ◌&&◌, is_none, Option, Some, option_map, ⊤}
+use Rattle.std.specs.Prelude.{◌≡◌, Bool, true, false, not, ◌&&◌, ◌==◌, is_none, Option, Some, option_map, ⊤}
 use Rattle.model_h1.specs.Answer.{asked_of}
 use Rattle.model_h1.specs.Setting.{Setting}
 use Rattle.model_h1.specs.Event as on
@@ -38,9 +38,14 @@ IsAskedBy is_head k = head_mark k.exchange ≡ Some is_head
 abbrev pub AsksTheSame : Kept → Kept → Type 0
 AsksTheSame old new = (is_head : Bool) → IsAskedBy is_head old → IsAskedBy is_head new
 
--- the client of the newest request waits to be told to go on, and wasn't told
+-- The client of the newest request, one of HTTP/1.1, waits to be told to go on, and wasn't told. One of HTTP/1.0 never waits so (RFC 9110, section
+-- 15.2).
 abbrev pub awaits_continue : Kept → Bool
-awaits_continue k = of_exchange (λ x. x.expects && not x.had_continue) k
+awaits_continue k = of_exchange (λ x. not (x.asked.minor == 0) && (x.expects && not x.had_continue)) k
+
+-- the newest request is of HTTP/1.0
+abbrev pub is_of_old : Kept → Bool
+is_of_old k = of_exchange (λ x. x.asked.minor == 0) k
 
 -- while it goes on, the client doesn't wait to be told to go on
 abbrev pub IsTold : Setting → Kept → Type 0
@@ -73,7 +78,9 @@ AnswersNothing (on.write n) = ⊤
 AnswersNothing (on.tick ms) = ⊤
 AnswersNothing event = ⊥
 
--- after a head its request is the newest, and waits, and no answer is under way; else what is wanted is what was
+-- After a head its request is the newest, and waits, and no answer is under way, and a client of HTTP/1.0 doesn't wait to be told to go on; else
+-- what is wanted is what was.
 abbrev pub WantsAfterNext : Setting → on.Outcome → Kept → Kept → Type 0
 WantsAfterNext setting (on.head h) old new = IsComplete setting new × IsWaitedFor setting new × IsAskedBy (asked_of h).is_head new
+    × ((h.minor == 0) ≡ true → IsTold setting new)
 WantsAfterNext setting o old new = WantsTheSame setting old new

@@ -2,6 +2,7 @@
 
 ghost use Rattle.std.specs.Prelude.{◌≡◌, ◌⊎◌, ℕ, List, [], ◌∷◌, ◌++◌, length, codes, true, false, Some, None};
 ghost use Rattle.model_h1.specs.Request.{Head, close, no_body, fixed_body, chunked_body, raw_body, malformed};
+ghost use Rattle.model_h1.specs.LengthTable.{values_of};
 ghost use Rattle.model_h1.specs.Answer.{size_none, size_of, size_stream};
 ghost use Rattle.model_h1.specs.Parse.{no_content, content, ended_at, still_open, broken, cut};
 ghost use Rattle.model_h1.specs.Past.{steps};
@@ -9,25 +10,27 @@ ghost use Rattle.model_h1.specs.Laws.ExampleTraces.{usual};
 ghost use Rattle.model_client.specs.AnswerReading.{answer_is, refused};
 ghost use Rattle.model_client.specs.WrittenHead.{line_of};
 ghost use Rattle.model_proxy.specs.HopNames.{connection_words};
-ghost use Rattle.model_proxy.specs.Forward.{is_forwardable, forward};
+ghost use Rattle.model_proxy.specs.Edge.{element_of};
+ghost use Rattle.model_proxy.specs.Targets.{target_sent};
+ghost use Rattle.model_proxy.specs.Judged.{is_refused};
+ghost use Rattle.model_proxy.specs.Forward.{is_forwardable, named_host, forwarded_lines, forward};
 ghost use Rattle.model_proxy.specs.Answers.{unfinished, bad, whole_at, Found, found_bad, found_by, found_body, found_nothing, IsAnswer, says_close, reply_lines, reply_reason, reply_head, reply_size};
 ghost use Rattle.model_proxy.specs.Past.{client, server, client_eof, server_eof, connected, refused as no_server, to_client, to_server, tick, server_at, client_taken};
 ghost use Rattle.model_proxy.specs.Exchange.{answer_input};
 ghost use Rattle.model_proxy.specs.Forwarding.{IsAlone, IsForwarding};
 ghost use Rattle.model_proxy.specs.Rests.{is_event_allowed, RestsWhereItMay};
-ghost use Rattle.model_proxy.specs.Laws.Samples.{head_for, get_x, sent_now, answer_with, came, hi_text, hi, timeout_text, answered_by, asked_again, exchange_at};
-ghost use Rattle.model_proxy.specs.Laws.Histories.{refused_history, refused_past, refused_exchanges, whole_history, whole_past, whole_exchanges, unforwardable_history, unforwardable_past, unforwardable_exchanges, broken_history, broken_past, broken_exchanges};
+ghost use Rattle.model_proxy.specs.Laws.Samples.{usual_edge, trusting_edge, lax_edge, plain_head, head_for, get_x, told_head, added, sent_now, answer_with, came, hi_text, hi, timeout_text, answered_by, asked_again, exchange_at};
+ghost use Rattle.model_proxy.specs.Laws.Histories.{refused_history, refused_past, refused_exchanges, whole_history, whole_past, whole_exchanges, hostless_history, hostless_past, hostless_exchanges, unforwardable_history, unforwardable_past, unforwardable_exchanges, broken_history, broken_past, broken_exchanges};
 
-/// The words of Connection lines are read without case and blanks, and the lines that they name stay behind.
+/// The words of Connection lines are read without case and blanks, and the lines that they name stay behind. Host is written anew, whatever names it.
 pub fn a_named_line_stays_behind()
-    ensures words { connection_words get_x.headers ≡ codes "x-a" ∷ codes "y" ∷ [] }
-    ensures text { forward (sent_now get_x [] true) ≡ codes "GET /x HTTP/1.1\r\nhost: a\r\ndate: Thu, 01 Jan 1970 00:00:00 GMT\r\n\r\n" }
+    ensures words { connection_words get_x.headers ≡ codes "x-a" ∷ codes "host" ∷ [] }
+    ensures text { forward (sent_now get_x [] true) ≡ codes "GET /x HTTP/1.1\r\n" ++ added }
 {}
 
-/// A fragment isn't sent on.
+/// A fragment isn't sent on, where a head with one is taken.
 pub fn a_fragment_stays_behind()
-    ensures { forward (sent_now (head_for (codes "GET") (codes "/x?y#z") [] no_body) [] true)
-        ≡ codes "GET /x?y HTTP/1.1\r\ndate: Thu, 01 Jan 1970 00:00:00 GMT\r\n\r\n" }
+    ensures { forward (sent_now (head_for (codes "GET") (codes "/x?y#z") [] no_body) [] true) ≡ codes "GET /x?y HTTP/1.1\r\n" ++ added }
 {}
 
 /// Chunks are written anew, each piece as one, and trailers stay behind; the last chunk comes once the body's end was read.
@@ -35,9 +38,9 @@ pub fn chunks_are_written_anew()
     ensures { let post : Head = head_for (codes "POST") (codes "/c")
         (line_of (codes "transfer-encoding") (codes "Chunked") ∷ line_of (codes "trailer") (codes "x") ∷ []) chunked_body in
         (forward (sent_now post (codes "abc" ∷ codes "de" ∷ []) false)
-        ≡ codes "POST /c HTTP/1.1\r\ntransfer-encoding: chunked\r\ndate: Thu, 01 Jan 1970 00:00:00 GMT\r\n\r\n3\r\nabc\r\n2\r\nde\r\n")
+        ≡ codes "POST /c HTTP/1.1\r\ntransfer-encoding: chunked\r\n" ++ added ++ codes "3\r\nabc\r\n2\r\nde\r\n")
         × (forward (sent_now post (codes "abc" ∷ codes "de" ∷ []) true)
-        ≡ codes "POST /c HTTP/1.1\r\ntransfer-encoding: chunked\r\ndate: Thu, 01 Jan 1970 00:00:00 GMT\r\n\r\n3\r\nabc\r\n2\r\nde\r\n0\r\n\r\n") }
+        ≡ codes "POST /c HTTP/1.1\r\ntransfer-encoding: chunked\r\n" ++ added ++ codes "3\r\nabc\r\n2\r\nde\r\n0\r\n\r\n") }
 {}
 
 /// The length is written anew, whatever lines came in beside it; Expect stays behind.
@@ -45,23 +48,77 @@ pub fn a_length_is_written_anew()
     ensures { forward (sent_now (head_for (codes "POST") (codes "/p")
         (line_of (codes "content-length") (codes "5") ∷ line_of (codes "content-length") (codes "7")
         ∷ line_of (codes "transfer-encoding") (codes "gzip") ∷ line_of (codes "expect") (codes "100-continue") ∷ []) (fixed_body 3)) (codes "abc" ∷ []) true)
-        ≡ codes "POST /p HTTP/1.1\r\ncontent-length: 3\r\ndate: Thu, 01 Jan 1970 00:00:00 GMT\r\n\r\nabc" }
+        ≡ codes "POST /p HTTP/1.1\r\ncontent-length: 3\r\n" ++ added ++ codes "abc" }
 {}
 
-/// CONNECT, `*`, a target with a scheme, and a request for another protocol can't be sent on; an ordinary one can.
+/// A request that states a length of 0 goes on as one; one that states none goes on without.
+pub fn a_length_of_zero_goes_on()
+    ensures stated { forward (sent_now (head_for (codes "POST") (codes "/p") (line_of (codes "content-length") (codes "0") ∷ []) no_body) [] true)
+        ≡ codes "POST /p HTTP/1.1\r\ncontent-length: 0\r\n" ++ added }
+    ensures unstated { forward (sent_now (head_for (codes "POST") (codes "/p") [] no_body) [] true) ≡ codes "POST /p HTTP/1.1\r\n" ++ added }
+{}
+
+/// CONNECT, `*` but by OPTIONS, a target of another scheme, or one with a user, and a request for another protocol can't be sent on; an ordinary one
+/// can, and one whose target is a whole URI of `http`.
 pub fn which_requests_can_be_sent_on()
-    ensures ordinary { is_forwardable get_x ≡ true }
-    ensures connect { is_forwardable (head_for (codes "CONNECT") (codes "/x") [] (fixed_body 1)) ≡ false }
-    ensures asterisk { is_forwardable (head_for (codes "OPTIONS") (codes "*") [] no_body) ≡ false }
-    ensures scheme { is_forwardable (head_for (codes "GET") (codes "http://a/x") [] no_body) ≡ false }
-    ensures protocol { is_forwardable (head_for (codes "GET") (codes "/x") [] raw_body) ≡ false }
+    ensures ordinary { is_forwardable usual_edge get_x ≡ true }
+    ensures connect { is_forwardable usual_edge (head_for (codes "CONNECT") (codes "/x") [] (fixed_body 1)) ≡ false }
+    ensures asterisk { is_forwardable usual_edge (head_for (codes "GET") (codes "*") [] no_body) ≡ false }
+    ensures options { is_forwardable usual_edge (head_for (codes "OPTIONS") (codes "*") [] no_body) ≡ true }
+    ensures absolute { is_forwardable usual_edge (head_for (codes "GET") (codes "HTTP://a/x") [] no_body) ≡ true }
+    ensures scheme { is_forwardable usual_edge (head_for (codes "GET") (codes "ftp://a/x") [] no_body) ≡ false }
+    ensures protocol { is_forwardable usual_edge (head_for (codes "GET") (codes "/x") [] raw_body) ≡ false }
+    ensures no_host { is_forwardable usual_edge (plain_head (codes "GET") (codes "/x") [] no_body) ≡ false }
+    ensures user { is_forwardable lax_edge (head_for (codes "GET") (codes "http://u@a/x") [] no_body) ≡ false }
+{}
+
+/// A head is refused that has no Host in HTTP/1.1, or two, or none that is one; so are a target with a user, one with a byte from 128 on, one with a
+/// fragment, and one that is no path. Where heads are taken that RFC 9112 refuses, none of these is.
+pub fn which_heads_are_refused()
+    ensures ordinary { is_refused usual_edge get_x ≡ false }
+    ensures no_host { is_refused usual_edge (plain_head (codes "GET") (codes "/x") [] no_body) ≡ true }
+    ensures no_host_of_old { is_refused usual_edge (record (plain_head (codes "GET") (codes "/x") [] no_body) { minor = 0 }) ≡ false }
+    ensures two_hosts { is_refused usual_edge (head_for (codes "GET") (codes "/x") (line_of (codes "host") (codes "a") ∷ []) no_body) ≡ true }
+    ensures blank { is_refused usual_edge (plain_head (codes "GET") (codes "/x") (line_of (codes "host") (codes "a b") ∷ []) no_body) ≡ true }
+    ensures user { is_refused usual_edge (plain_head (codes "GET") (codes "/x") (line_of (codes "host") (codes "u@a") ∷ []) no_body) ≡ true }
+    ensures path { is_refused usual_edge (plain_head (codes "GET") (codes "/x") (line_of (codes "host") (codes "a/b") ∷ []) no_body) ≡ true }
+    ensures user_in_target { is_refused usual_edge (head_for (codes "GET") (codes "http://u@a/x") [] no_body) ≡ true }
+    ensures high_byte { is_refused usual_edge (head_for (codes "GET") (codes "/" ++ (195 ∷ 164 ∷ [])) [] no_body) ≡ true }
+    ensures fragment { is_refused usual_edge (head_for (codes "GET") (codes "/x#y") [] no_body) ≡ true }
+    ensures no_path { is_refused usual_edge (head_for (codes "GET") (codes "a:80") [] no_body) ≡ true }
+    ensures taken { is_refused lax_edge (plain_head (codes "GET") (codes "/x#y") (line_of (codes "host") (codes "a b") ∷ []) no_body) ≡ false }
+{}
+
+/// A server gets the path and the query of a whole URI, and the host that it names, whatever Host says, but `*` for OPTIONS of one that has neither; of
+/// a client of HTTP/1.0 that names none it gets its own.
+pub fn whole_targets_are_sent_as_paths()
+    ensures path { target_sent (codes "GET") (codes "http://c:8/x?y#z") ≡ codes "/x?y" }
+    ensures no_path { target_sent (codes "GET") (codes "http://c") ≡ codes "/" }
+    ensures query { target_sent (codes "GET") (codes "Http://c?y") ≡ codes "/?y" }
+    ensures asterisk { target_sent (codes "OPTIONS") (codes "*") ≡ codes "*" }
+    ensures all { target_sent (codes "OPTIONS") (codes "http://c:8") ≡ codes "*" }
+    ensures not_all { target_sent (codes "OPTIONS") (codes "http://c:8/") ≡ codes "/" }
+    ensures host { named_host (head_for (codes "GET") (codes "http://c:8/x") [] no_body) ≡ Some (codes "c:8") }
+    ensures none { forward (sent_now (record (plain_head (codes "GET") (codes "/x") [] no_body) { minor = 0 }) [] true)
+        ≡ codes "GET /x HTTP/1.1\r\nhost: b:81\r\nvia: 1.0 raspcream\r\nx-forwarded-for: 192.0.2.1\r\nforwarded: for=_client;proto=http\r\nx-forwarded-proto: http\r\ndate: Thu, 01 Jan 1970 00:00:00 GMT\r\n\r\n" }
+{}
+
+/// What a client says of earlier clients stays behind, unless it is trusted: then lists grow by one, and a protocol that was told is kept. Who passed
+/// a request on before is kept in either case.
+pub fn what_is_told_of_a_client()
+    ensures from_stranger { values_of (codes "x-forwarded-for") (forwarded_lines usual_edge told_head) ≡ codes "192.0.2.1" ∷ [] }
+    ensures from_friend { values_of (codes "x-forwarded-for") (forwarded_lines trusting_edge told_head) ≡ codes "10.0.0.1" ∷ codes "192.0.2.1" ∷ [] }
+    ensures protocol_of_stranger { values_of (codes "x-forwarded-proto") (forwarded_lines usual_edge told_head) ≡ codes "http" ∷ [] }
+    ensures protocol_of_friend { values_of (codes "x-forwarded-proto") (forwarded_lines trusting_edge told_head) ≡ codes "https" ∷ [] }
+    ensures passed_by { values_of (codes "via") (forwarded_lines usual_edge told_head) ≡ codes "1.1 cache" ∷ codes "1.1 raspcream" ∷ [] }
+    ensures element { element_of (codes "192.0.2.1:4711") ≡ codes "for=" ++ (34 ∷ codes "192.0.2.1:4711" ++ 34 ∷ codes ";proto=http") }
 {}
 
 /// An answer of two bytes is whole, and is replied with its size; its length line is written anew.
 pub fn an_answer_is_found()
     ensures found { IsAnswer (came hi_text false) (codes "GET") (record { response = Some hi; bytes = codes "hi"; fate = whole_at 40 }) }
     ensures size { reply_size false hi ≡ size_of 2 }
-    ensures lines { (reply_head hi).headers ≡ [] }
+    ensures lines { (reply_head hi).headers ≡ line_of (codes "via") (codes "1.1 raspcream") ∷ [] }
 {}
 
 /// An interim answer is passed over.
@@ -100,11 +157,15 @@ pub fn sizes_of_replies()
     ensures empty { reply_size false (answer_with 200 [] (line_of (codes "content-length") (codes "0") ∷ []) no_body) ≡ size_of 0 }
 {}
 
-/// A 304 keeps the length that it tells, unless a word of Connection names that; any other answer's is written anew.
+/// A 304 keeps the length that it tells, unless a word of Connection names that; any other answer's is written anew. Behind the lines stands who passes
+/// the answer on, and in which version it came.
 pub fn lengths_of_replies()
-    ensures kept { reply_lines 304 (line_of (codes "content-length") (codes "9") ∷ []) ≡ line_of (codes "content-length") (codes "9") ∷ [] }
-    ensures named { reply_lines 304 (line_of (codes "content-length") (codes "9") ∷ line_of (codes "connection") (codes "Content-Length") ∷ []) ≡ [] }
-    ensures written_anew { reply_lines 200 (line_of (codes "content-length") (codes "9") ∷ line_of (codes "keep-alive") (codes "5") ∷ []) ≡ [] }
+    ensures kept { reply_lines 1 304 (line_of (codes "content-length") (codes "9") ∷ [])
+        ≡ line_of (codes "content-length") (codes "9") ∷ line_of (codes "via") (codes "1.1 raspcream") ∷ [] }
+    ensures named { reply_lines 1 304 (line_of (codes "content-length") (codes "9") ∷ line_of (codes "connection") (codes "Content-Length") ∷ [])
+        ≡ line_of (codes "via") (codes "1.1 raspcream") ∷ [] }
+    ensures written_anew { reply_lines 0 200 (line_of (codes "content-length") (codes "9") ∷ line_of (codes "keep-alive") (codes "5") ∷ [])
+        ≡ line_of (codes "via") (codes "1.0 raspcream") ∷ [] }
 {}
 
 /// The reason is the answer's own, also where it is empty; one that isn't UTF-8 is left out.
@@ -136,39 +197,45 @@ pub fn leftover_bytes_end_a_server_connection()
 
 /// At first a client's bytes and its end are taken, a moment, and what is asked to be written towards it; nothing of a server.
 pub fn what_is_allowed_at_first()
-    ensures bytes { is_event_allowed usual [] [] None [] (client (codes "GET")) ≡ true }
-    ensures end { is_event_allowed usual [] [] None [] client_eof ≡ true }
-    ensures moment { is_event_allowed usual [] [] None [] (tick 0) ≡ true }
-    ensures writing { is_event_allowed usual [] [] None [] (to_client 5) ≡ true }
-    ensures connection { is_event_allowed usual [] [] None [] connected ≡ false }
-    ensures refusal { is_event_allowed usual [] [] None [] no_server ≡ false }
-    ensures server_bytes { is_event_allowed usual [] [] None [] (server (codes "HTTP")) ≡ false }
-    ensures server_end { is_event_allowed usual [] [] None [] server_eof ≡ false }
-    ensures server_writing { is_event_allowed usual [] [] None [] (to_server 5) ≡ false }
+    ensures bytes { is_event_allowed usual_edge usual [] [] None [] (client (codes "GET")) ≡ true }
+    ensures end { is_event_allowed usual_edge usual [] [] None [] client_eof ≡ true }
+    ensures moment { is_event_allowed usual_edge usual [] [] None [] (tick 0) ≡ true }
+    ensures writing { is_event_allowed usual_edge usual [] [] None [] (to_client 5) ≡ true }
+    ensures connection { is_event_allowed usual_edge usual [] [] None [] connected ≡ false }
+    ensures refusal { is_event_allowed usual_edge usual [] [] None [] no_server ≡ false }
+    ensures server_bytes { is_event_allowed usual_edge usual [] [] None [] (server (codes "HTTP")) ≡ false }
+    ensures server_end { is_event_allowed usual_edge usual [] [] None [] server_eof ≡ false }
+    ensures server_writing { is_event_allowed usual_edge usual [] [] None [] (to_server 5) ≡ false }
 {}
 
 /// Where no server connection is to be had, the request gets 502: this history is one of a forwarder, and then it rests.
 pub fn a_refused_connection_gives_502()
-    ensures forwards { IsForwarding usual refused_history None (steps refused_past) refused_exchanges }
-    ensures rests { RestsWhereItMay usual refused_past refused_history None refused_exchanges }
+    ensures forwards { IsForwarding usual_edge usual refused_history None (steps refused_past) refused_exchanges }
+    ensures rests { RestsWhereItMay usual_edge usual refused_past refused_history None refused_exchanges }
 {}
 
 /// A request is sent on, and its answer of two bytes passed on: this history is one of a forwarder. Its server connection stays open,
 /// and then it rests.
 pub fn a_request_and_its_answer_are_passed_on()
-    ensures forwards { IsForwarding usual whole_history (Some []) (steps whole_past) whole_exchanges }
-    ensures rests { RestsWhereItMay usual whole_past whole_history (Some []) whole_exchanges }
+    ensures forwards { IsForwarding usual_edge usual whole_history (Some []) (steps whole_past) whole_exchanges }
+    ensures rests { RestsWhereItMay usual_edge usual whole_past whole_history (Some []) whole_exchanges }
+{}
+
+/// A head of HTTP/1.1 without a host gets 400, and its connection closes: this history is one of a forwarder, and no turn is left.
+pub fn a_head_without_a_host_gives_400()
+    ensures forwards { IsForwarding usual_edge usual hostless_history None (steps hostless_past) hostless_exchanges }
+    ensures rests { RestsWhereItMay usual_edge usual hostless_past hostless_history None hostless_exchanges }
 {}
 
 /// A request for another protocol gets 501, and its connection closes: this history is one of a forwarder, and no turn is left.
 pub fn a_request_that_cannot_be_sent_on_gives_501()
-    ensures forwards { IsForwarding usual unforwardable_history None (steps unforwardable_past) unforwardable_exchanges }
-    ensures rests { RestsWhereItMay usual unforwardable_past unforwardable_history None unforwardable_exchanges }
+    ensures forwards { IsForwarding lax_edge usual unforwardable_history None (steps unforwardable_past) unforwardable_exchanges }
+    ensures rests { RestsWhereItMay lax_edge usual unforwardable_past unforwardable_history None unforwardable_exchanges }
 {}
 
 /// A body that breaks before its answer came gives 400, and both connections close: this history is one of a forwarder, and no turn is
 /// left.
 pub fn a_broken_body_gives_400()
-    ensures forwards { IsForwarding usual broken_history None (steps broken_past) broken_exchanges }
-    ensures rests { RestsWhereItMay usual broken_past broken_history None broken_exchanges }
+    ensures forwards { IsForwarding lax_edge usual broken_history None (steps broken_past) broken_exchanges }
+    ensures rests { RestsWhereItMay lax_edge usual broken_past broken_history None broken_exchanges }
 {}

@@ -6,6 +6,7 @@ ghost use Rattle.model_h1.specs.Setting.{Setting};
 ghost use Rattle.model_h1.specs.Sums.{Step};
 ghost use Rattle.model_h1.specs.Parse.{Input, Message, IsParse};
 ghost use Rattle.model_ends.specs.SentRequest.{sent_request, AreBegunServed};
+ghost use Rattle.model_proxy.specs.Edge.{Edge};
 ghost use Rattle.model_proxy.specs.Forward.{Sent, forwarded, forward};
 ghost use Rattle.model_proxy.specs.SentWhole.{IsSentWhole};
 ghost use Rattle.model_proxy.specs.Past.{ProxyStep, servers, server_at};
@@ -15,9 +16,9 @@ ghost use Rattle.model_proxy.specs.Forwarding.{IsForwarding};
 /// A server that parses what a forwarder gave it reads the beginning of the requests that were sent on its connection, each whole only
 /// where it is. Of the last request some may be missing yet: these requests are the same with the rest of it, whatever that will be.
 pub fn servers_read_the_requests()
-    ensures { (setting : Setting) (history : List ProxyStep) (waiting : Option (List ℕ)) (trace : List Step) (xs : List Exchange) (k : ℕ)
-        (i : Input) (more : List ℕ) (ss : List Sent) (ms : List Message) → IsForwarding setting history waiting trace xs
+    ensures { (e : Edge) (setting : Setting) (history : List ProxyStep) (waiting : Option (List ℕ)) (trace : List Step) (xs : List Exchange) (k : ℕ)
+        (i : Input) (more : List ℕ) (ss : List Sent) (ms : List Message) → IsForwarding e setting history waiting trace xs
         → k < length (servers history) → i.bytes ≡ (server_at k history).given → AllByRecursion (IsSentWhole i.hold_size) ss
-        → flat_map forward (sent_on history k xs) ++ more ≡ flat_map forward ss → IsParse i ms
+        → flat_map forward (sent_on e history k xs) ++ more ≡ flat_map forward ss → IsParse i ms
         → AreBegunServed i 0 ms (map (λ s. sent_request (forwarded s)) ss) }
 {}

@@ -46,8 +46,8 @@ pub fn no_more_is_held()
 /// Which answers the client's connection wants, while it goes on: after a head its request waits, and no answer is under way; after the
 /// head of an answer no request waits for one, and one is under way unless it ends at once; after the end of an answer, or one that is
 /// cut, none is; what any other event leaves wanted is what was. A head that is handed out is then the newest request's, and no other event
-/// changes whether that counts as one of HEAD. A client that waits to be told to go on is told by one event, and no other but the next head
-/// makes it wait for that.
+/// changes whether that counts as one of HEAD. A client of HTTP/1.1 that waits to be told to go on is told by one event, and no other but the next head
+/// makes it wait for that; one of HTTP/1.0 never waits so.
 pub fn no_more_answers_are_wanted()
     ensures next { (setting : Setting) (k next : Kept) (trace : List Step) (o : on.Outcome) → allowed_by setting k on.next ≡ true → StandsFor setting k trace
         → StandsFor setting next (record { event = on.next; outcome = o } ∷ trace) → WantsAfterNext setting o k next }

@@ -6,8 +6,10 @@
 //!
 //! # The definitions
 //!
-//! - What is sent on: `specs/HopNames.antt` has the header lines that are for one connection alone, `specs/Forward.antt` which
-//!   requests can be sent on and what is sent for them, `specs/SentWhole.antt` a request all of which was sent.
+//! - Which heads are refused: `specs/Judged.antt`, as RFC 9112 says, unless such heads are taken.
+//! - What is sent on: `specs/HopNames.antt` has the header lines that are for one connection alone, `specs/Edge.antt` what is told of
+//!   the forwarder and of its client, `specs/Targets.antt` the target that a server gets, `specs/Forward.antt` which requests can be
+//!   sent on and what is sent for them, `specs/SentWhole.antt` a request all of which was sent.
 //! - What is passed on: `specs/Answers.antt` says which answer a server's bytes hold (`IsAnswer`), and what the client gets.
 //! - A forwarder: `specs/Past.antt` has its events and outcomes, `specs/Exchange.antt` the requests of its client,
 //!   `specs/Forwarding.antt` what is to be proved of it (`IsForwarding`), and `specs/Rests.antt` when nothing is left to do.
@@ -16,12 +18,14 @@
 //! # The laws
 //!
 //! - [`request_laws`]: a server reads exactly the requests that were sent on, and one line frames each body.
+//! - [`edge_laws`]: one host is named, and the forwarder; and a client's own words of earlier clients are replaced.
 //! - [`response_laws`], [`replies`]: any bytes hold one answer, and no line of the server frames what the client gets for it.
 //! - [`forwarders`], [`trace_laws`]: what a server got, and what is read of its answers, by all that happened.
 //! - [`left_laws`]: what each call of a connection leaves to do.
 //! - [`examples`]: small requests, answers and histories with all their values.
 #![tactic(auto)]
 
+pub mod edge_laws;
 pub mod examples;
 pub mod forwarders;
 pub mod left_laws;

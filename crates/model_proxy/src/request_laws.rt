@@ -1,7 +1,7 @@
 //! The laws of what is sent on for a request.
 
-ghost use Rattle.std.specs.Prelude.{◌≡◌, ℕ, true, false, List, [], ◌++◌, map, flat_map, codes, bytes_eq};
-ghost use Rattle.std.specs.List.{AllByRecursion};
+ghost use Rattle.std.specs.Prelude.{◌≡◌, ℕ, true, false, List, [], ◌++◌, map, flat_map, codes, bytes_eq, nat_eq};
+ghost use Rattle.std.specs.List.{AllByRecursion, starts_with};
 ghost use Rattle.http_uri.specs.Grammar.{without_fragment};
 ghost use Rattle.model_h1.specs.Request.{has_body};
 ghost use Rattle.model_h1.specs.LengthTable.{values_of};
@@ -9,9 +9,10 @@ ghost use Rattle.model_h1.specs.Parse.{Input, Message, IsParse};
 ghost use Rattle.model_client.specs.RequestText.{given_request_lines, joined};
 ghost use Rattle.model_ends.specs.SentRequest.{sent_request, AreServedAs, AreBegunServed};
 ghost use Rattle.model_proxy.specs.HopNames.{is_among};
-ghost use Rattle.model_proxy.specs.Forward.{Sent, forwarded, left_out, forward};
+ghost use Rattle.model_proxy.specs.Targets.{target_sent};
+ghost use Rattle.model_proxy.specs.Forward.{Sent, forwarded, left_out, states_length, forward};
 ghost use Rattle.model_proxy.specs.SentWhole.{IsSentWhole};
-ghost use Rattle.model_proxy.specs.Laws.{lengths_written, codings_written};
+ghost use Rattle.model_proxy.specs.Laws.{lengths_written, codings_written, own_names};
 
 /// A server that parses all that was sent on reads exactly the requests that were forwarded: each once, in order, with its own body,
 /// and not a byte is left. Whatever the client wrote in lines and bodies, it makes no further request of it.
@@ -22,10 +23,13 @@ pub fn forwarded_requests_are_read()
         → i.bytes ≡ flat_map forward ss → IsParse i ms → AreServedAs i 0 ms (map (λ s. sent_request (forwarded s)) ss) }
 {}
 
-/// What is read of such a request is what the client asked: its method, its target without a fragment, where its body ends, and the bytes of that.
+/// What is read of such a request is what the client asked: its method, where its body ends, and the bytes of that. Its target is what a server
+/// gets for that of the client: a path as it stands, without a fragment.
 pub fn what_is_read_is_what_was_asked()
     ensures method { (s : Sent) → (sent_request (forwarded s)).says.method ≡ s.head.method }
-    ensures target { (s : Sent) → (sent_request (forwarded s)).says.target ≡ without_fragment s.head.target }
+    ensures target { (s : Sent) → (sent_request (forwarded s)).says.target ≡ target_sent s.head.method s.head.target }
+    ensures path { (s : Sent) → starts_with nat_eq s.head.target (codes "/") ≡ true
+        → (sent_request (forwarded s)).says.target ≡ without_fragment s.head.target }
     ensures body { (hold_size : ℕ) (s : Sent) → IsSentWhole hold_size s → (sent_request (forwarded s)).says.body ≡ s.head.body }
     ensures bytes { (hold_size : ℕ) (s : Sent) → IsSentWhole hold_size s → has_body s.head.body ≡ true
         → (sent_request (forwarded s)).bytes ≡ joined s.pieces }
@@ -37,23 +41,24 @@ pub fn forwarded_requests_are_read_so_far()
         → i.bytes ++ more ≡ flat_map forward ss → IsParse i ms → AreBegunServed i 0 ms (map (λ s. sent_request (forwarded s)) ss) }
 {}
 
-/// A forwarded head has one length where the body has one, one coding where it comes in chunks, and no other line that frames a
-/// body: whatever lines came in.
+/// A forwarded head has one length where the body has one, or a length of 0 was stated; one coding where the body comes in chunks; and no other
+/// line that frames a body: whatever lines came in.
 pub fn one_line_frames_the_body()
-    ensures lengths { (s : Sent) → values_of (codes "content-length") (given_request_lines (forwarded s)) ≡ lengths_written s.head.body }
+    ensures lengths { (s : Sent) → values_of (codes "content-length") (given_request_lines (forwarded s))
+        ≡ lengths_written (states_length s.head) s.head.body }
     ensures codings { (s : Sent) → values_of (codes "transfer-encoding") (given_request_lines (forwarded s)) ≡ codings_written s.head.body }
 {}
 
-/// Lines for one connection alone stay behind, and those that a Connection line names, and Expect. A forwarder's own framing and
-/// date may have such a name.
+/// Lines for one connection alone stay behind, and those that a Connection line names, and Expect. A forwarder's own framing, date, host and
+/// words of its client may have such a name.
 pub fn hop_lines_stay_behind()
-    ensures { (s : Sent) (name : List ℕ) → is_among name (left_out s.head.headers) ≡ true → bytes_eq name (codes "content-length") ≡ false
-        → bytes_eq name (codes "transfer-encoding") ≡ false → bytes_eq name (codes "date") ≡ false
+    ensures { (s : Sent) (name : List ℕ) → is_among name (left_out s.edge s.head.headers) ≡ true → is_among name own_names ≡ false
+        → bytes_eq name (codes "content-length") ≡ false → bytes_eq name (codes "transfer-encoding") ≡ false → bytes_eq name (codes "date") ≡ false
         → values_of name (given_request_lines (forwarded s)) ≡ [] }
 {}
 
 /// All other lines are passed on: the values of each name are those that came, in their order.
 pub fn other_lines_are_passed_on()
-    ensures { (s : Sent) (name : List ℕ) → is_among name (left_out s.head.headers) ≡ false → bytes_eq name (codes "date") ≡ false
-        → values_of name (given_request_lines (forwarded s)) ≡ values_of name s.head.headers }
+    ensures { (s : Sent) (name : List ℕ) → is_among name (left_out s.edge s.head.headers) ≡ false → is_among name own_names ≡ false
+        → bytes_eq name (codes "date") ≡ false → values_of name (given_request_lines (forwarded s)) ≡ values_of name s.head.headers }
 {}

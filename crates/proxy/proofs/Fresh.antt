@@ -1,6 +1,6 @@
 -- Where all that came from a server was read, and a turn begins.
 use Rattle.std.proofs.Common.{◌≡◌, ℕ, Bool, true, false, not, ◌&&◌, ◌||◌, ◌⊎◌, inl, inr, List, [], ◌∷◌, ◌++◌, length, Option, Some, None, refl, sym, ap, ◌∙◌, subst, append_assoc, append-nil}
-use Rattle.std.specs.Prelude.{nat_lt, is_some, option_map, if◌then◌else◌}
+use Rattle.std.specs.Prelude.{is_some, option_map, if◌then◌else◌}
 use Rattle.std.proofs.lemmas.Bool.{false≢true, true≢false}
 use Rattle.std.proofs.lemmas.List.{nil_from_length}
 use Rattle.model_h1.specs.Setting.{Setting}
@@ -21,18 +21,10 @@ use Rattle.proxy.specs.Sides.{MayAsk}
 use Rattle.proxy.specs.declared.proxy.Proxy.{Proxy}
 use Rattle.proxy.specs.declared.proxy.Unsent.{Unsent}
 use Rattle.proxy.specs.declared.proxy.SentRequest.{SentRequest}
-use Rattle.model_proxy.specs.Rests.{MAX_WAITING}
-use Rattle.proxy.specs.Kept.{is_closing}
-use Rattle.proxy.specs.Rests.{may_begin, is_over, may_turn}
+use Rattle.proxy.specs.Rests.{is_over, may_turn}
 use Rattle.proxy.specs.Fresh.{HasReadAll, is_used, is_server_used, IsToldTime, CannotSend, WaitsOn, SendsOrWaits, SendsWhereItCan, ClosesOver, BeginsWhereItMay, IsReadFrom}
 
 -- ---- a turn
-
-second_true : (a b c : Bool) → (a && b && c) ≡ true → b ≡ true
-second_true true true c is = refl
-second_true true false c is = is
-second_true false true c is = refl
-second_true false false c is = is
 
 not_false : (b : Bool) → not b ≡ false → b ≡ true
 not_false true is = refl
@@ -43,18 +35,7 @@ may_of still p is now = not_false (may_turn p) (sym is ∙ now)
 
 -- a turn that is made, by what it does where the server connection is to end
 pub begins_by : (p q : Proxy) → may_turn p ≡ true → ClosesOver p q → BeginsWhereItMay p q
-begins_by p q may closes = inr (may, by_sent p.sent refl)
-  where
-    only_over : (s : Option SentRequest) (room over : Bool) → (room || over) ≡ true → (over ≡ true → s ≡ None → q ≡ record p { server = None }) → s ≡ None
-        → (room ≡ true) ⊎ ((over ≡ true) × (q ≡ record p { server = None }))
-    only_over s true over is closes none = inl refl
-    only_over s false over is closes none = inr (is, closes is none)
-
-    by_sent : (s : Option SentRequest) → p.sent ≡ s → (may_begin p.sent p.server ≡ true) ⊎ ((is_over p.server ≡ true) × (q ≡ record p { server = None }))
-    by_sent (Some s) is = inl (ap (λ (t : Option SentRequest). may_begin t p.server) is)
-    by_sent None is =
-        only_over p.sent (may_begin p.sent p.server) (is_over p.server)
-        (second_true (nat_lt (length p.client.kept.buffered) MAX_WAITING) (may_begin p.sent p.server || is_over p.server) (not (is_closing p)) may) closes is
+begins_by p q may closes = inr (may, closes)
 
 -- the same where a request that waits was taken out
 pub closes_of_unsent : (p q : Proxy) (u : Option Unsent) → p.unsent ≡ u → ClosesOver (record p { unsent = u }) q → ClosesOver p q

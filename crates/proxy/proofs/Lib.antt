@@ -9,6 +9,8 @@ pub mod Work
 pub mod Rooms
 pub mod Served
 pub mod Fresh
+pub mod Below
 pub mod Times
 pub mod Replies
 pub mod Carried
+pub mod Still

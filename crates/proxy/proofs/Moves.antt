@@ -1,5 +1,5 @@
 -- How a forwarder goes on.
-use Rattle.std.proofs.Common.{◌≡◌, ℕ, Bool, true, List, ◌∷◌, Option, Some, None, refl, sym, ap, ap₂, ◌∙◌, subst}
+use Rattle.std.proofs.Common.{◌≡◌, ℕ, Bool, true, false, List, ◌∷◌, Option, Some, None, refl, sym, ap, ap₂, ◌∙◌, subst}
 use Rattle.std.specs.Prelude.{IsTrue, option_map}
 use Rattle.http_config.specs.Config.{Settings}
 use Rattle.model_h1.specs.Setting.{Setting}
@@ -19,21 +19,23 @@ use Rattle.h1_client.specs.ClientMeaning.{request_of}
 use Rattle.h1_client.specs.State as servers
 use Rattle.h1_connection.specs.EventMeaning.{setting_of}
 use Rattle.h1_connection.specs.State.{State}
+use Rattle.model_proxy.specs.Edge.{Edge}
 use Rattle.model_proxy.specs.Forward.{is_forwardable}
-use Rattle.model_proxy.specs.Past.{ProxyStep, ProxyEvent, ProxyOutcome, client_bytes, client_written, tick_of, connected, done}
+use Rattle.model_proxy.specs.Past.{ProxyStep, ProxyEvent, ProxyOutcome, client_bytes, client_written, tick_of, is_client_end, is_refusal, connected, refused, done}
 use Rattle.model_proxy.specs.Happenings.{Happenings}
 use Rattle.model_proxy.specs.Carried.{UnderWay, nothing, waits, is_sent, Carries}
 use Rattle.model_proxy.specs.Moves.{Brings, Does, DoesAsked, Stays}
 use Rattle.model_proxy.proofs.Quiet.{BringsNothing, done_brings_nothing}
-use Rattle.model_proxy.proofs.Turns.{keeps_client, keeps_closed, keeps_server, keeps_head, keeps_waiting, keeps_refused, keeps_left, keeps_whole}
+use Rattle.model_proxy.proofs.Turns.{keeps_client, keeps_closed, keeps_server, keeps_head, keeps_waiting, keeps_left, keeps_whole}
 use Rattle.model_proxy.proofs.Sends.{keeps_asked, keeps_piece, keeps_end, keeps_broken}
-use Rattle.model_proxy.proofs.Events.{SaysNoBytes, LeavesServers, AddsNoText, ChangesServer, by_nothing, by_client, by_server, by_connected}
+use Rattle.model_proxy.proofs.Events.{SaysNoBytes, LeavesServers, AddsNoText, ChangesServer, by_nothing, by_client, by_server, by_connected, by_refused}
+use Rattle.proxy_heads.specs.Edges.{edge_of}
 use Rattle.proxy.specs.declared.proxy.Proxy.{Proxy}
 use Rattle.proxy.specs.declared.proxy.Unsent.{Unsent}
 use Rattle.proxy.specs.declared.proxy.SentRequest.{SentRequest}
 use Rattle.proxy.specs.declared.notes.Notes.{Notes}
 use Rattle.proxy.specs.Sides.{ClientBrings, ClientBringsHead, ServerStays, KeepsTime, ServerDid}
-use Rattle.proxy.specs.Kept.{under_way_of, kept_of, IsTimed, Forwards, Goes, GoesBy, GoesFrom, HoldsNoRequest, Runs, IsUnsent}
+use Rattle.proxy.specs.Kept.{under_way_of, kept_of, IsTimed, Forwards, history_by, Goes, GoesBy, StepsBy, GoesFrom, HoldsNoRequest, Runs, IsUnsent}
 use Rattle.proxy.specs.Fresh.{IsToldTime}
 use Rattle.proxy.proofs.Times.{trace_of, did_now, happened_now, moved_time, closed_time, told_time, quiet_time, fresh_time}
 
@@ -47,10 +49,7 @@ goes_then a b c first second = (second.0 ∙ first.0, λ history all x. let y = 
 
 pub by_then : (event : ProxyEvent) (outcome : ProxyOutcome) (a b c : Proxy) → GoesBy event outcome a b → Goes b c → GoesBy event outcome a c
 by_then event outcome a b c first second =
-    (second.0 ∙ first.0, λ history all x. let y = first.1 history all x in second.1 (record { event = event; outcome = outcome } ∷ history) y.0 y.1)
-
-pub then_by : (event : ProxyEvent) (outcome : ProxyOutcome) (a b c : Proxy) → Goes a b → GoesBy event outcome b c → GoesBy event outcome a c
-then_by event outcome a b c first second = (second.0 ∙ first.0, λ history all x. let y = first.1 history all x in second.1 history y.0 y.1)
+    (second.0 ∙ first.0, λ history all x. let y = first.1 history all x in second.1 (history_by event outcome a history) y.0 y.1)
 
 -- what is noted is no part of what happened
 pub noted : (p : Proxy) (n : Notes) → Goes p (record p { notes = n })
@@ -69,20 +68,23 @@ of_no_server p q o is x = subst (λ (o : Option servers.State). Goes (record p {
 pub of_unsent : (p q : Proxy) (u : Unsent) → p.unsent ≡ Some u → Goes (record p { unsent = Some u }) q → Goes p q
 of_unsent p q u is x = subst (λ (o : Option Unsent). Goes (record p { unsent = o }) q) (sym is) x
 
+abbrev edge : Proxy → Edge
+edge p = edge_of p.config.edge
+
 abbrev theirs : Proxy → Setting
-theirs p = setting_of p.config
+theirs p = setting_of p.config.connections
 
 abbrev ours : Proxy → Setting
-ours p = asking.setting_of p.config
+ours p = asking.setting_of p.config.connections
 
 -- the request that is under way, by what is known of the fields
 as_under_way : (p : Proxy) (history : List ProxyStep) (all : Happenings) (u : UnderWay) → under_way_of p.unsent p.sent ≡ u
-    → Carries (theirs p) (ours p) (kept_of p) history all → Carries (theirs p) (ours p) (record (kept_of p) { under_way = u }) history all
-as_under_way p history all u is x = subst (λ (u : UnderWay). Carries (theirs p) (ours p) (record (kept_of p) { under_way = u }) history all) is x
+    → Carries (edge p) (theirs p) (ours p) (kept_of p) history all → Carries (edge p) (theirs p) (ours p) (record (kept_of p) { under_way = u }) history all
+as_under_way p history all u is x = subst (λ (u : UnderWay). Carries (edge p) (theirs p) (ours p) (record (kept_of p) { under_way = u }) history all) is x
 
 from_under_way : (p : Proxy) (history : List ProxyStep) (all : Happenings) (u : UnderWay) → under_way_of p.unsent p.sent ≡ u
-    → Carries (theirs p) (ours p) (record (kept_of p) { under_way = u }) history all → Carries (theirs p) (ours p) (kept_of p) history all
-from_under_way p history all u is x = subst (λ (u : UnderWay). Carries (theirs p) (ours p) (record (kept_of p) { under_way = u }) history all) (sym is) x
+    → Carries (edge p) (theirs p) (ours p) (record (kept_of p) { under_way = u }) history all → Carries (edge p) (theirs p) (ours p) (kept_of p) history all
+from_under_way p history all u is x = subst (λ (u : UnderWay). Carries (edge p) (theirs p) (ours p) (record (kept_of p) { under_way = u }) history all) (sym is) x
 
 -- ---- the client's side
 
@@ -93,7 +95,7 @@ pub client_moves : (o : on.Outcome) (p : Proxy) (c : State) → BringsNothing o 
 client_moves o p c none x = (
   refl,
   λ history all f.
-      let y = keeps_client (theirs p) (ours p) o (kept_of p) c.kept none (brings_by p.config o p.client c f.client x) history all f.carries in
+      let y = keeps_client (edge p) (theirs p) (ours p) o (kept_of p) c.kept none (brings_by p.config.connections o p.client c f.client x) history all f.carries in
       (y.0, record { client = x.settings ∙ f.client; server = f.server; carries = y.1; time = f.time }),
 )
 
@@ -106,7 +108,7 @@ pub closes : (p : Proxy) → Goes p (record p { server = None })
 closes p = (
   refl,
   λ history all f.
-      let y = keeps_closed (theirs p) (ours p) (kept_of p) history all f.carries in
+      let y = keeps_closed (edge p) (theirs p) (ours p) (kept_of p) history all f.carries in
       (y.0, record { client = f.client; server = tt; carries = y.1; time = closed_time p.moment p.server history f.time }),
 )
 
@@ -134,7 +136,7 @@ server_goes p a b x timed = (
   refl,
   λ history all f.
       let stays = subst (λ (s : Settings). Stays (asking.setting_of s) a.kept b.kept) f.server x.stays in
-      let y = keeps_server (theirs p) (ours p) (kept_of p) a.kept b.kept stays history all f.carries in
+      let y = keeps_server (edge p) (theirs p) (ours p) (kept_of p) a.kept b.kept stays history all f.carries in
       (y.0, record { client = f.client; server = x.settings ∙ f.server; carries = y.1; time = timed history all f }),
 )
 
@@ -172,7 +174,7 @@ pub fails : (p : Proxy) → p.unsent ≡ None → Goes p (record p { server = No
 fails p none = (
   refl,
   λ history all f.
-      let y = keeps_closed (theirs p) (ours p) (kept_of p) history all f.carries in
+      let y = keeps_closed (edge p) (theirs p) (ours p) (kept_of p) history all f.carries in
       let z = left p.sent (as_under_way (record p { server = None }) history y.0 (under_way_of None p.sent) (ap (λ (u : Option Unsent). under_way_of u p.sent) none) y.1) in (
         z.0,
         record {
@@ -186,10 +188,10 @@ fails p none = (
 )
   where
     left : {history : List ProxyStep} {all : Happenings} (sent : Option SentRequest)
-        → Carries (theirs p) (ours p) (record { client = p.client.kept; server = None; under_way = under_way_of None sent }) history all
-        → (after : Happenings) × Carries (theirs p) (ours p) (record { client = p.client.kept; server = None; under_way = nothing }) history after
+        → Carries (edge p) (theirs p) (ours p) (record { client = p.client.kept; server = None; under_way = under_way_of None sent }) history all
+        → (after : Happenings) × Carries (edge p) (theirs p) (ours p) (record { client = p.client.kept; server = None; under_way = nothing }) history after
     left {history} {all} None x = (all, x)
-    left {history} {all} (Some s) x = keeps_left (theirs p) (ours p) s.is_whole s.is_broken p.client.kept history all x
+    left {history} {all} (Some s) x = keeps_left (edge p) (theirs p) (ours p) s.is_whole s.is_broken p.client.kept history all x
 
 -- it is over and whole
 pub is_over : (p : Proxy) (sent : SentRequest) → Runs sent p → sent.is_whole ≡ true → Goes p (record p { sent = None })
@@ -198,7 +200,7 @@ is_over p sent runs whole = (
   λ history all f.
       let x = as_under_way p history all (is_sent true sent.is_broken)
       (ap₂ under_way_of runs.unsent runs.sent ∙ ap (λ (w : Bool). is_sent w sent.is_broken) whole) f.carries in
-      let y = keeps_whole (theirs p) (ours p) sent.is_broken p.client.kept (kept_of p).server history all x in (
+      let y = keeps_whole (edge p) (theirs p) (ours p) sent.is_broken p.client.kept (kept_of p).server history all x in (
         y.0,
         record {
           client = f.client;
@@ -218,7 +220,7 @@ from_head item p q c idle x rest = (
       let old = as_under_way p history all nothing is f.carries in
       let b = x.brings all.client (subst (λ (s : Settings). StandsFor (setting_of s) p.client.kept all.client) (sym f.client) f.carries.stands) in
       let h = b.0 in
-      let y = keeps_head (theirs p) (ours p) h (kept_of p).server p.client.kept c.kept history all b.2
+      let y = keeps_head (edge p) (theirs p) (ours p) h (kept_of p).server p.client.kept c.kept history all b.2
       (subst (λ (s : Settings). StandsFor (setting_of s) c.kept b.2) f.client b.3) b.4 old in
       rest.1 history y.0 h b.1
       (record { client = x.settings ∙ f.client; server = f.server; carries = from_under_way (record p { client = c }) history y.0 nothing is y.1; time = f.time })
@@ -230,8 +232,8 @@ pub from_any : (item : HeadItem) (p q : Proxy) → Goes p q → GoesFrom item p 
 from_any item p q x = (x.0, λ history all h says f newest. x.1 history all f)
 
 -- it waits to be sent on
-pub waits_from : (item : HeadItem) (p : Proxy) (u : Unsent) → HoldsNoRequest p → ((h : Head) → SaysHead item h → is_forwardable h ≡ true)
-    → ((h : Head) → SaysHead item h → is_forwardable h ≡ true → IsUnsent u h) → GoesFrom item p (record p { unsent = Some u })
+pub waits_from : (item : HeadItem) (p : Proxy) (u : Unsent) → HoldsNoRequest p → ((h : Head) → SaysHead item h → is_forwardable (edge p) h ≡ true)
+    → ((h : Head) → SaysHead item h → is_forwardable (edge p) h ≡ true → IsUnsent (edge p) u h) → GoesFrom item p (record p { unsent = Some u })
 waits_from item p u idle may is = (
   refl,
   λ history all h says f newest.
@@ -242,7 +244,7 @@ waits_from item p u idle may is = (
           client = f.client;
           server = f.server;
           carries =
-              keeps_waiting (theirs p) (ours p) h (request_of u.head) (size_of u.size) u.sent.is_whole u.sent.is_broken p.client.kept (kept_of p).server (may h says)
+              keeps_waiting (edge p) (theirs p) (ours p) h (request_of u.head) (size_of u.size) u.sent.is_whole u.sent.is_broken p.client.kept (kept_of p).server (may h says)
               w.method w.whole w.unbroken w.sized w.text history all old newest;
           time = f.time;
         },
@@ -258,7 +260,7 @@ asks p u a b x = (
       let event = asked.ask (request_of u.head) (size_of u.size) in
       let allowed = subst (λ (s : Settings). IsTrue (client_allows (asking.setting_of s) a.kept event)) f.server x.allowed in
       let step = subst (λ (s : Settings). IsClientStep (asking.setting_of s) a.kept event asked.done b.kept) f.server x.step in
-      let y = keeps_asked (theirs p) (ours p) (request_of u.head) (size_of u.size) u.sent.is_whole u.sent.is_broken p.client.kept a.kept b.kept allowed step history all f.carries in (
+      let y = keeps_asked (edge p) (theirs p) (ours p) (request_of u.head) (size_of u.size) u.sent.is_whole u.sent.is_broken p.client.kept a.kept b.kept allowed step history all f.carries in (
         y.0,
         record {
           client = f.client;
@@ -279,8 +281,8 @@ pieces bytes p sent c a b runs brings x = (
       let step = subst (λ (s : Settings). IsClientStep (asking.setting_of s) a.kept (asked.chunk bytes) asked.done b.kept) f.server x.step in
       let is : under_way_of p.unsent p.sent ≡ is_sent sent.is_whole sent.is_broken = ap₂ under_way_of runs.unsent runs.sent in
       let old = as_under_way (record p { server = Some a }) history all (is_sent sent.is_whole sent.is_broken) is f.carries in
-      let y = keeps_piece (theirs p) (ours p) bytes sent.is_whole sent.is_broken p.client.kept c.kept a.kept b.kept
-      (brings_by p.config (on.bytes bytes) p.client c f.client brings) allowed step history all old in (
+      let y = keeps_piece (edge p) (theirs p) (ours p) bytes sent.is_whole sent.is_broken p.client.kept c.kept a.kept b.kept
+      (brings_by p.config.connections (on.bytes bytes) p.client c f.client brings) allowed step history all old in (
         y.0,
         record {
           client = brings.settings ∙ f.client;
@@ -302,8 +304,8 @@ ends p sent t c a b runs whole broken brings x = (
       let step = subst (λ (s : Settings). IsClientStep (asking.setting_of s) a.kept asked.body_end asked.done b.kept) f.server x.step in
       let is : under_way_of p.unsent p.sent ≡ is_sent sent.is_whole sent.is_broken = ap₂ under_way_of runs.unsent runs.sent in
       let old = as_under_way (record p { server = Some a }) history all (is_sent sent.is_whole sent.is_broken) is f.carries in
-      let y = keeps_end (theirs p) (ours p) sent.is_whole sent.is_broken p.client.kept c.kept a.kept b.kept
-      (brings_by p.config on.body_ended p.client c f.client brings) allowed step history all old in (
+      let y = keeps_end (edge p) (theirs p) (ours p) sent.is_whole sent.is_broken p.client.kept c.kept a.kept b.kept
+      (brings_by p.config.connections on.body_ended p.client c f.client brings) allowed step history all old in (
         y.0,
         record {
           client = brings.settings ∙ f.client;
@@ -325,8 +327,8 @@ breaks fault p sent c s runs brings = (
       let t : SentRequest = record sent { is_broken = true } in
       let is : under_way_of p.unsent p.sent ≡ is_sent sent.is_whole sent.is_broken = ap₂ under_way_of runs.unsent runs.sent in
       let old = as_under_way (record p { server = Some s }) history all (is_sent sent.is_whole sent.is_broken) is f.carries in
-      let y = keeps_broken (theirs p) (ours p) fault sent.is_whole sent.is_broken p.client.kept c.kept s.kept
-      (brings_by p.config (on.broken_by fault) p.client c f.client brings) history all old in (
+      let y = keeps_broken (edge p) (theirs p) (ours p) fault sent.is_whole sent.is_broken p.client.kept c.kept s.kept
+      (brings_by p.config.connections (on.broken_by fault) p.client c f.client brings) history all old in (
         y.0,
         record {
           client = brings.settings ∙ f.client;
@@ -341,11 +343,12 @@ breaks fault p sent c s runs brings = (
 
 -- ---- events
 
-pub nothing_by : (event : ProxyEvent) (outcome : ProxyOutcome) (p : Proxy) → SaysNoBytes event outcome → LeavesServers event outcome → GoesBy event outcome p p
-nothing_by event outcome p says leaves = (
+pub nothing_by : (event : ProxyEvent) (outcome : ProxyOutcome) (p : Proxy) → SaysNoBytes event outcome → is_refusal event ≡ false → LeavesServers event outcome
+    → StepsBy event outcome p p
+nothing_by event outcome p says none leaves = (
   refl,
   λ history all f.
-      let y = by_nothing (theirs p) (ours p) event outcome (kept_of p) says leaves history all f.carries in
+      let y = by_nothing (edge p) (theirs p) (ours p) event outcome (kept_of p) says none leaves history all f.carries in
       (y.0, record { client = f.client; server = f.server; carries = y.1; time = quiet_time event outcome p.moment p.server history says.moment f.time }),
 )
 
@@ -353,25 +356,26 @@ pub client_by : (e : on.Event) (o : on.Outcome) (event : ProxyEvent) (outcome : 
     → ((history : List ProxyStep) (all : Happenings) → Forwards p history all → IsTimed moment p.server (record { event = event; outcome = outcome } ∷ history))
     → BringsNothing o
     → sums.step_taken e o ≡ client_bytes event outcome → sums.step_written o ≡ client_written event outcome → sums.tick_of e ≡ tick_of event
+    → sums.is_eof e ≡ is_client_end event → is_refusal event ≡ false
     → LeavesServers event outcome → c.settings ≡ p.client.settings → Does (setting_of p.client.settings) e o p.client.kept c.kept
-    → GoesBy event outcome p (record p { client = c; moment = moment })
-client_by e o event outcome p c moment timed none takes gives tick leaves settings does = (
+    → StepsBy event outcome p (record p { client = c; moment = moment })
+client_by e o event outcome p c moment timed none takes gives tick ends not_refused leaves settings does = (
   refl,
   λ history all f.
       let did = subst (λ (s : Settings). Does (setting_of s) e o p.client.kept c.kept) f.client does in
-      let y = by_client (theirs p) (ours p) e o event outcome (kept_of p) c.kept none takes gives tick leaves did history all f.carries in
+      let y = by_client (edge p) (theirs p) (ours p) e o event outcome (kept_of p) c.kept none takes gives tick ends not_refused leaves did history all f.carries in
       (y.0, record { client = settings ∙ f.client; server = f.server; carries = y.1; time = timed history all f }),
 )
 
 pub server_by : (e : asked.ClientEvent) (o : asked.ClientOutcome) (event : ProxyEvent) (outcome : ProxyOutcome) (p : Proxy) (a b : servers.State)
-    → AddsNoText e → ((n : ℕ) → now_after e n ≡ n) → SaysNoBytes event outcome → ChangesServer e o event outcome → b.settings ≡ a.settings
+    → AddsNoText e → ((n : ℕ) → now_after e n ≡ n) → SaysNoBytes event outcome → is_refusal event ≡ false → ChangesServer e o event outcome → b.settings ≡ a.settings
     → DoesAsked (asking.setting_of a.settings) e o a.kept b.kept
-    → GoesBy event outcome (record p { server = Some a }) (record p { server = Some b })
-server_by e o event outcome p a b adds same says changes settings does = (
+    → StepsBy event outcome (record p { server = Some a }) (record p { server = Some b })
+server_by e o event outcome p a b adds same says not_refused changes settings does = (
   refl,
   λ history all f.
       let did = subst (λ (s : Settings). DoesAsked (asking.setting_of s) e o a.kept b.kept) f.server does in
-      let y = by_server (theirs p) (ours p) e o event outcome (kept_of p) a.kept b.kept adds says changes did history all f.carries in
+      let y = by_server (edge p) (theirs p) (ours p) e o event outcome (kept_of p) a.kept b.kept adds says not_refused changes did history all f.carries in
       let s = server_stands p a history all f in
       let now = happened_now e o a b settings same s.0 s.1 does in (
         y.0,
@@ -385,42 +389,42 @@ server_by e o event outcome p a b adds same says changes settings does = (
 )
 
 pub of_server_by : (event : ProxyEvent) (outcome : ProxyOutcome) (p q : Proxy) (s : servers.State) → p.server ≡ Some s
-    → GoesBy event outcome (record p { server = Some s }) q → GoesBy event outcome p q
-of_server_by event outcome p q s is x = subst (λ (o : Option servers.State). GoesBy event outcome (record p { server = o }) q) (sym is) x
+    → StepsBy event outcome (record p { server = Some s }) q → StepsBy event outcome p q
+of_server_by event outcome p q s is x = subst (λ (o : Option servers.State). StepsBy event outcome (record p { server = o }) q) (sym is) x
 
 pub connected_by : (p : Proxy) (u : Unsent) → p.unsent ≡ Some u → p.server ≡ None
-    → GoesBy connected done p (record p { server = Some (servers.fresh_state p.config) })
+    → GoesBy connected done p (record p { server = Some (servers.fresh_state p.config.connections) })
 connected_by p u waiting none = (
   refl,
   λ history all f.
       let is : under_way_of p.unsent p.sent ≡ waits (request_of u.head) (size_of u.size) u.sent.is_whole u.sent.is_broken = ap (λ (o : Option Unsent). under_way_of o p.sent) waiting in
       let x = as_under_way p history all (waits (request_of u.head) (size_of u.size) u.sent.is_whole u.sent.is_broken) is f.carries in
-      let z = subst (λ (o : Option servers.State). Carries (theirs p) (ours p) (record {
+      let z = subst (λ (o : Option servers.State). Carries (edge p) (theirs p) (ours p) (record {
         client = p.client.kept;
         server = option_map (λ s. s.kept) o;
         under_way = waits (request_of u.head) (size_of u.size) u.sent.is_whole u.sent.is_broken;
       }) history all) none x in
-      let y = by_connected (theirs p) (ours p) (request_of u.head) (size_of u.size) u.sent.is_whole u.sent.is_broken p.client.kept history all z in (
+      let y = by_connected (edge p) (theirs p) (ours p) (request_of u.head) (size_of u.size) u.sent.is_whole u.sent.is_broken p.client.kept history all z in (
         y.0,
         record {
           client = f.client;
           server = refl;
           carries =
-              from_under_way (record p { server = Some (servers.fresh_state p.config) }) (record { event = connected; outcome = done } ∷ history) y.0
+              from_under_way (record p { server = Some (servers.fresh_state p.config.connections) }) (record { event = connected; outcome = done } ∷ history) y.0
               (waits (request_of u.head) (size_of u.size) u.sent.is_whole u.sent.is_broken) is y.1;
-          time = fresh_time connected done p.moment p.server p.config history refl f.time;
+          time = fresh_time connected done p.moment p.server p.config.connections history refl f.time;
         },
       ),
 )
 
-pub refused_moves : (p : Proxy) (u : Unsent) → p.unsent ≡ Some u → Goes p (record p { unsent = None; sent = None })
-refused_moves p u waiting = (
+pub refused_by : (p : Proxy) (u : Unsent) → p.unsent ≡ Some u → GoesBy refused done p (record p { unsent = None; sent = None })
+refused_by p u waiting = (
   refl,
   λ history all f.
       let is : under_way_of p.unsent p.sent ≡ waits (request_of u.head) (size_of u.size) u.sent.is_whole u.sent.is_broken = ap (λ (o : Option Unsent). under_way_of o p.sent) waiting in
       let x = as_under_way p history all (waits (request_of u.head) (size_of u.size) u.sent.is_whole u.sent.is_broken) is f.carries in
-      let y = keeps_refused (theirs p) (ours p) (request_of u.head) (size_of u.size) u.sent.is_whole u.sent.is_broken p.client.kept (kept_of p).server history all x in
-      (y.0, record { client = f.client; server = f.server; carries = y.1; time = f.time }),
+      let y = by_refused (edge p) (theirs p) (ours p) (request_of u.head) (size_of u.size) u.sent.is_whole u.sent.is_broken p.client.kept (kept_of p).server history all x in
+      (y.0, record { client = f.client; server = f.server; carries = y.1; time = quiet_time refused done p.moment p.server history refl f.time }),
 )
 
 -- ---- after a head

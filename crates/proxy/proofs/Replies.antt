@@ -23,15 +23,18 @@ use Rattle.model_proxy.specs.Answers.{Found, found_bad, found_body, found_by, re
 use Rattle.model_proxy.specs.Past.{ProxyEvent, ProxyOutcome}
 use Rattle.model_proxy.specs.Past as past
 use Rattle.proxy.specs.Leaves.{LeavesAnswer}
-use Rattle.proxy.specs.Puts.{Part, begins, continues, ends, breaks_off, request_breaks, has_closed, Puts, IsRefused, MayPut, MayLeave, HandsHead, HandsAnswer, HandsPiece, is_refused, is_good, Handed, good_answer, refused_answer, body_bytes, body_fault, Hands, HandsNone, CannotPull, IsReadUp}
-use Rattle.proxy.proofs.Puts.{puts_none, then_none, head_puts, hands_same, hands_then, tells_none}
+use Rattle.proxy.specs.Puts.{Part, begins, continues, ends, breaks_off, goes_on, request_breaks, Puts, IsRefused, MayPut, MayLeave, HandsHead, HandsAnswer, HandsPiece, is_refused, is_good, Handed, good_answer, refused_answer, body_bytes, body_fault, Hands, HandsNone, CannotPull, IsReadUp}
+use Rattle.proxy.proofs.Puts.{puts_none, then_none, none_then, head_puts, hands_same, hands_then, tells_none}
+use Rattle.proxy_heads.specs.Edges.{edge_of}
+use Rattle.proxy_heads.specs.declared.refusal.Refusal.TheVariants.{BadHead}
 use Rattle.proxy.specs.declared.proxy.Proxy.{Proxy}
+use Rattle.proxy.specs.declared.proxy.ProxyConfig.{ProxyConfig}
 use Rattle.proxy.specs.declared.proxy.SentRequest.{SentRequest}
 use Rattle.proxy.specs.declared.proxy.Unsent.{Unsent}
 use Rattle.proxy.specs.Kept.{HoldsNoRequest, Runs, GoesBy, wants_server, is_closing}
 use Rattle.proxy.specs.Rests.{IsNoted}
 use Rattle.proxy.proofs.EventMoves.{three_parts}
-use Rattle.proxy.specs.Replies.{nothing_put, broken_body, broken_late, not_forwardable, no_answer, passed_on, piece_on, end_on, cut_off, told_closed, own, passed, PutsLast, PutsHead, IsUnanswered, WasAnswered, Marks, marks_of, GoesOnBy, GoesOnWaiting, IsDropped, ReplyIsOver, KeepsServer, KeepsIdle, KeepsFor, LacksAnswer, Follows, FollowsHead, LacksEnd, AwaitsAnswer, HasCause, TurnReplies, Fails, Breaks, PassesBody, UsesAnswer, TakesAnswer, Opens, ClientAdds, AddsTo, PutsNothing, HasReplied, Replies, RepliesRefused}
+use Rattle.proxy.specs.Replies.{nothing_put, told_to_go_on, broken_body, broken_late, refused_head, not_forwardable, no_answer, passed_on, piece_on, end_on, cut_off, own, refusal_part, passed, PutsLast, PutsHead, IsUnanswered, WasAnswered, Marks, marks_of, GoesOnBy, GoesOnWaiting, IsDropped, ReplyIsOver, KeepsServer, KeepsIdle, KeepsFor, LacksAnswer, Follows, FollowsHead, LacksEnd, AwaitsAnswer, HasCause, TurnReplies, Fails, Breaks, PassesBody, UsesAnswer, TakesAnswer, Opens, ClientAdds, AddsTo, PutsNothing, HasReplied, Replies, RepliesRefused}
 
 -- ---- one after another
 
@@ -292,28 +295,53 @@ answer_replies p q sent s t item runs unanswered (a, says, read, tells) takes = 
     )
     by_use (inr (inr x)) = (passed_on sent.is_head a, (sent, waits, refl, (x.0, read, t, tells, x.2)), x.1)
 
-pub head_replies : (p q : Proxy) (item : HeadItem) (c : State) → HoldsNoRequest p → HandsHead (SaysHead item) p.client c → Opens item c q → TurnReplies p q
-head_replies p q item c idle hands (inl x) =
-    (nothing_put, idle_cause p q idle, then_none [] p.client c q.client (head_puts (SaysHead item) p.client c hands) x)
-head_replies p q item c idle hands (inr x) = (
-  not_forwardable,
-  (idle, c, (λ trace stands. let y = hands trace stands in (y.0, x.0 y.0 y.1, y.2)), x.2),
-  then_last [] (own 501) p.client c q.client (head_puts (SaysHead item) p.client c hands) x.1,
+-- nothing is put after it
+nothing_replies : (p q : Proxy) (item : HeadItem) (c : State) → HoldsNoRequest p → HandsHead (SaysHead item) p.client c → q.client ≡ c → TurnReplies p q
+nothing_replies p q item c idle hands same = (
+  nothing_put,
+  idle_cause p q idle,
+  then_none [] p.client c q.client (head_puts (SaysHead item) p.client c hands) (same_puts c q.client same),
 )
 
--- the client's connection has closed
-pub closed_replies : (p : Proxy) (c : State) → HoldsNoRequest p → Puts (has_closed ∷ []) p.client c
+pub head_replies : (p q : Proxy) (item : HeadItem) (c : State) → HoldsNoRequest p → HandsHead (SaysHead item) p.client c
+    → Opens (edge_of p.config.edge) item c q → TurnReplies p q
+head_replies p q item c idle hands (inl (may, inr (old, same))) = nothing_replies p q item c idle hands same
+head_replies p q item c idle hands (inl (may, inl (new, inl (none, same)))) = nothing_replies p q item c idle hands same
+head_replies p q item c idle hands (inl (may, inl (new, inr told))) = (
+  told_to_go_on,
+  (idle, c, λ trace stands. let y = hands trace stands in (y.0, (may y.0 y.1, new y.0 y.1), y.2)),
+  none_then (goes_on ∷ []) p.client c q.client (head_puts (SaysHead item) p.client c hands) told,
+)
+head_replies p q item c idle hands (inr (cannot, (true, refused, puts, gone))) = (
+  refused_head,
+  (idle, c, (λ trace stands. let y = hands trace stands in (y.0, refused y.0 y.1, y.2)), gone),
+  then_last [] (refusal_part BadHead) p.client c q.client (head_puts (SaysHead item) p.client c hands) puts,
+)
+head_replies p q item c idle hands (inr (cannot, (false, right, puts, gone))) = (
+  not_forwardable,
+  (idle, c, (λ trace stands. let y = hands trace stands in (y.0, (right y.0 y.1, cannot y.0 y.1), y.2)), gone),
+  then_last [] (own 501) p.client c q.client (head_puts (SaysHead item) p.client c hands) puts,
+)
+
+-- the client's connection, which isn't to end, hasn't closed
+pub closed_replies : (p : Proxy) (c : State) → HoldsNoRequest p → is_closing p ≡ false
     → ((trace : List Step) → Stands p.client trace → is_closing p ≡ true) → TurnReplies p (record p { client = c })
-closed_replies p c idle puts closing = (told_closed, (idle, closing), puts)
+closed_replies p c idle going closing =
+    (nothing_put, idle_cause p (record p { client = c }) idle, λ trace stands. absurd (false≢true (sym going ∙ closing trace stands)))
 
 -- ---- a server connection on which no request is under way
 
-pub head_keeps : (p b q : Proxy) (item : HeadItem) → b.server ≡ p.server → HandsHead (SaysHead item) p.client b.client → KeepsFor item b q → KeepsIdle p q
-head_keeps p b q item same hands (none, x) = λ idle. (none, by_case x)
+pub head_keeps : (p b q : Proxy) (item : HeadItem) → b.config ≡ p.config → b.server ≡ p.server → HandsHead (SaysHead item) p.client b.client → KeepsFor item b q
+    → KeepsIdle p q
+head_keeps p b q item config same hands (none, x) = λ idle. (none, by_case x)
   where
-    by_case : (q.server ≡ b.server) ⊎ ((q.server ≡ None) × ((h : Head) → SaysHead item h → is_forwardable h ≡ false)) → KeepsServer p q
+    by_case : (q.server ≡ b.server) ⊎ ((q.server ≡ None) × ((h : Head) → SaysHead item h → is_forwardable (edge_of b.config.edge) h ≡ false)) → KeepsServer p q
     by_case (inl x) = inl (x ∙ same)
-    by_case (inr x) = inr (inr (x.0, b.client, (λ trace stands. let y = hands trace stands in (y.0, x.1 y.0 y.1, y.2))))
+    by_case (inr x) = inr (inr (
+      x.0,
+      b.client,
+      (λ trace stands. let y = hands trace stands in (y.0, ap (λ (c : ProxyConfig). is_forwardable (edge_of c.edge) y.0) (sym config) ∙ x.1 y.0 y.1, y.2)),
+    ))
 
 pub busy_keeps : (p q : Proxy) (sent : SentRequest) → p.sent ≡ Some sent → KeepsIdle p q
 busy_keeps p q sent is = λ idle. let no : ◌≡◌ {A = Option SentRequest} None (Some sent) = sym idle.sent ∙ is in absurd (cc no)

@@ -1,6 +1,6 @@
 -- What a forwarder's moves make of what its client waits for.
 use Rattle.std.proofs.Common.{◌≡◌, ◌⊎◌, inl, inr, ℕ, ◌≤◌, Bool, true, false, not, ◌&&◌, ◌||◌, List, ◌∷◌, Option, Some, None, refl, sym, ap, ap₂, ◌∙◌, subst, subst₂}
-use Rattle.std.specs.Prelude.{[], IsTrue, zero, suc, is_some, is_none, if◌then◌else◌, length, map, nat_lt}
+use Rattle.std.specs.Prelude.{[], IsTrue, zero, suc, is_some, is_none, if◌then◌else◌, length, map, nat_lt, ◌==◌}
 use Rattle.std.specs.Option.{option_or}
 use Rattle.std.proofs.lemmas.Option.{none-some, same_Some}
 use Rattle.std.proofs.Math.Dec.{eqb-suc-zero}
@@ -11,9 +11,10 @@ use Rattle.model_h1.specs.Answer.{asked_of, BodySize, is_at_once}
 use Rattle.model_h1.specs.Request.{Head}
 use Rattle.model_h1.specs.End.{End}
 use Rattle.model_h1.specs.Sums.{Step, head_of, request}
+use Rattle.model_state.specs.Kept.{of_exchange}
 use Rattle.model_state.specs.Local.{closing_by, allowed_by, waits_for_answer, is_answering}
 use Rattle.model_state.specs.StandsFor.{StandsFor}
-use Rattle.model_proxy.specs.Wants.{is_running, awaits_continue}
+use Rattle.model_proxy.specs.Wants.{is_running, is_of_old}
 use Rattle.proxy.specs.Leaves.{IsAwaited, LacksBytes, LacksHead}
 use Rattle.http_framing.specs.declared.body.size.BodySize as ours
 use Rattle.http_framing.specs.declared.body.size.BodySize.TheVariants as sizes
@@ -27,7 +28,7 @@ use Rattle.model_client.specs.ClientEvent.{ClientEnd}
 use Rattle.model_client.specs.ClientKept.{client_closing}
 use Rattle.h1_client.specs.State as servers
 use Rattle.model_proxy.specs.Wants as wanted
-use Rattle.model_proxy.proofs.Wants.{asked_by}
+use Rattle.model_proxy.proofs.Wants.{asked_by, owed_old}
 use Rattle.model_proxy.specs.Exchange.{Pulled, pulled_by, newest_pulled, with_head, pulled}
 use Rattle.model_proxy.specs.Past.{ProxyStep}
 use Rattle.model_proxy.specs.Happenings.{Request, Happenings}
@@ -154,6 +155,14 @@ waits_serves is_head p c u is method brings wants tells x =
       );
     }
 
+-- the same of a client that isn't told, since it is one of HTTP/1.0
+pub old_serves : (is_head : Bool) (p : Proxy) (u : Unsent) → u.sent.is_answered ≡ false → u.sent.is_head ≡ is_head → HasNoReplyTo is_head p → IsTold p.client
+    → Serving (record p { unsent = Some u })
+old_serves is_head p u is method x on = record {
+  told = x.0.told;
+  served = ((x.0.complete, x.0.waited), is, subst (λ (b : Bool). IsAskedBy b p.client) (sym method) x.1, on);
+}
+
 -- it was sent on
 pub sent_serves : (p : Proxy) (u : Unsent) (o : Option servers.State)
     → GoesOnServing (record p { unsent = Some u }) (record p { unsent = None; sent = Some u.sent; server = o })
@@ -174,12 +183,12 @@ idle_serves p idle x = record {
 -- ---- a head, and an answer
 
 pub head_opens : (item : HeadItem) (p : Proxy) (c : State) → ClientBringsHead item p.client c → Wants (WantsNext (next.Head item)) p.client c
-    → Serving p → (h : Head) × SaysHead item h × HasNoReplyTo (asked_of h).is_head (record p { client = c })
+    → Serving p → (h : Head) × SaysHead item h × HasNoReplyTo (asked_of h).is_head (record p { client = c }) × ((h.minor == 0) ≡ true → IsTold c)
 head_opens item p c x wants s =
     let y = x.brings s.told.0 s.told.1 in
     let z = wants s.told.0 s.told.1 in
     let told : HasTrace c = (y.2, subst (λ (t : Settings). StandsFor (setting_of t) c.kept y.2) (sym x.settings) y.3) in
-    (y.0, y.1, (record { told = told; complete = z.0; waited = z.1 }, z.2 y.0 y.1))
+    (y.0, y.1, (record { told = told; complete = z.0; waited = z.1 }, z.2 y.0 y.1), z.3 y.0 y.1)
 
 -- the size of an answer without a byte
 pub at_once_of : (size : ours.BodySize) → ((size ≡ sizes.None) ⊎ (size ≡ sizes.Sized 0)) → is_at_once (size_of size) ≡ true
@@ -225,7 +234,7 @@ refused_no_reply p wants x =
     let u = some_unsent p.unsent (three_parts (is_some p.unsent) (is_none p.server) (not (is_closing p)) wants).0 in
     waiting_no_reply p u.0 u.1 x
 
-pub fresh_serves : (p : Proxy) (c : State) → c ≡ fresh_state p.config → IsServed (record p { client = c; server = None; unsent = None; sent = None })
+pub fresh_serves : (p : Proxy) (c : State) → c ≡ fresh_state p.config.connections → IsServed (record p { client = c; server = None; unsent = None; sent = None })
 fresh_serves p c is =
     subst (λ (c : State). IsServed (record p { client = c; server = None; unsent = None; sent = None })) (sym is) (λ runs. refl, λ runs. refl)
 
@@ -287,24 +296,24 @@ running_of p may over =
 -- ---- where no turns are made
 
 held_up : (waits : ℕ) (sent : Option SentRequest) (o : Option servers.State) (closes : Bool) → (nat_lt waits MAX_WAITING && (may_begin sent o || is_over o) && not closes) ≡ false
-    → (MAX_WAITING ≤ waits) ⊎ (IsFull o ⊎ (closes ≡ true))
+    → (MAX_WAITING ≤ waits) ⊎ (IsFull sent o ⊎ (closes ≡ true))
 held_up waits sent o closes none = by_room (nat_lt waits MAX_WAITING) refl
   where
     by_begin : (b : Bool) → (true && b && not closes) ≡ false → b ≡ true → closes ≡ true
     by_begin true still is = not_false closes still
     by_begin false still is = absurd (false≢true is)
 
-    by_server : (s : Option SentRequest) (o : Option servers.State) → (true && (may_begin s o || is_over o) && not closes) ≡ false → IsFull o ⊎ (closes ≡ true)
+    by_server : (s : Option SentRequest) (o : Option servers.State) → (true && (may_begin s o || is_over o) && not closes) ≡ false → IsFull s o ⊎ (closes ≡ true)
     by_server (Some s) o still = inr (by_begin true still refl)
     by_server None None still = inr (by_begin true still refl)
     by_server None (Some s) still = by_full (nat_lt (length s.kept.buffered) MAX_WAITING) (client_closing s.kept) refl refl
       where
-        by_full : (b : Bool) (e : Option ClientEnd) → nat_lt (length s.kept.buffered) MAX_WAITING ≡ b → client_closing s.kept ≡ e → IsFull (Some s) ⊎ (closes ≡ true)
+        by_full : (b : Bool) (e : Option ClientEnd) → nat_lt (length s.kept.buffered) MAX_WAITING ≡ b → client_closing s.kept ≡ e → IsFull None (Some s) ⊎ (closes ≡ true)
         by_full false None full over = inl (ltb-false (length s.kept.buffered) MAX_WAITING full, over)
         by_full true e full over = inr (by_begin _ still (ap (λ (b : Bool). b || is_some (client_closing s.kept)) full))
         by_full false (Some e) full over = inr (by_begin _ still (ap₂ (λ (b : Bool) (e : Option ClientEnd). b || is_some e) full over))
 
-    by_room : (b : Bool) → nat_lt waits MAX_WAITING ≡ b → (MAX_WAITING ≤ waits) ⊎ (IsFull o ⊎ (closes ≡ true))
+    by_room : (b : Bool) → nat_lt waits MAX_WAITING ≡ b → (MAX_WAITING ≤ waits) ⊎ (IsFull sent o ⊎ (closes ≡ true))
     by_room false is = inl (ltb-false waits MAX_WAITING is)
     by_room true is = inr (by_server sent o (subst (λ (b : Bool). (b && (may_begin sent o || is_over o) && not closes) ≡ false) is none))
 
@@ -330,27 +339,29 @@ no_head_in_vain p served rests may over waits going allowed =
 
 -- ---- nobody waits to be told to go on
 
-not_second : (a b : Bool) → b ≡ false → (a && b) ≡ false
-not_second true b is = is
-not_second false b is = refl
+-- a client that goes on, and to which 100 may be sent, is one of HTTP/1.0
+old_by : (client : State) (u : Option Unsent) (s : Option SentRequest) → Fits u s client → is_running (setting_of client.settings) client.kept ≡ true
+    → waits_for_answer client.kept ≡ true → of_exchange (λ x. x.expects && not x.had_continue) client.kept ≡ true → is_of_old client.kept ≡ true
+old_by client (Some u) s fits runs waits owed = owed_old client.kept client.kept.exchange (fits.3 runs) owed
+old_by client None (Some s) fits runs waits owed = owed_old client.kept client.kept.exchange (fits.2 runs) owed
+old_by client None None fits runs waits owed = absurd (false≢true (sym (fits.0 runs) ∙ waits))
 
-not_telling : (client : State) (u : Option Unsent) (s : Option SentRequest) → Fits u s client → is_running (setting_of client.settings) client.kept ≡ true
-    → (waits_for_answer client.kept && awaits_continue client.kept) ≡ false
-not_telling client (Some u) s fits runs = not_second (waits_for_answer client.kept) (awaits_continue client.kept) (fits.3 runs)
-not_telling client None (Some s) fits runs = not_second (waits_for_answer client.kept) (awaits_continue client.kept) (fits.2 runs)
-not_telling client None None fits runs = ap (λ (b : Bool). b && awaits_continue client.kept) (fits.0 runs)
+both_true : (a b : Bool) → (a && b) ≡ true → (a ≡ true) × (b ≡ true)
+both_true true b is = (refl, is)
+both_true false b is = absurd (false≢true is)
 
-pub none_to_tell : (p : Proxy) → IsServed p → allowed_by (setting_of p.client.settings) p.client.kept on.send_continue ≡ false
+pub old_to_tell : (p : Proxy) → IsServed p → allowed_by (setting_of p.client.settings) p.client.kept on.send_continue ≡ true → is_of_old p.client.kept ≡ true
 unfolding allowed_by
-none_to_tell p served =
-    by_parts p.client.kept.is_over (closing_by (setting_of p.client.settings) p.client.kept) (waits_for_answer p.client.kept && awaits_continue p.client.kept)
-    (not_telling p.client p.unsent p.sent served)
+old_to_tell p served may =
+    by_parts p.client.kept.is_over (closing_by (setting_of p.client.settings) p.client.kept) (waits_for_answer p.client.kept)
+    (of_exchange (λ x. x.expects && not x.had_continue) p.client.kept) (old_by p.client p.unsent p.sent served) may
   where
-    by_parts : (over : Bool) (closing : Option End) (may : Bool) → ((not over && is_none closing) ≡ true → may ≡ false)
-        → (not over && (if is_some closing then false else may)) ≡ false
-    by_parts true closing may none = refl
-    by_parts false (Some end) may none = refl
-    by_parts false None may none = none refl
+    by_parts : (over : Bool) (closing : Option End) (waits owed : Bool)
+        → ((not over && is_none closing) ≡ true → waits ≡ true → owed ≡ true → is_of_old p.client.kept ≡ true)
+        → (not over && (if is_some closing then false else (waits && owed))) ≡ true → is_of_old p.client.kept ≡ true
+    by_parts true closing waits owed old may = absurd (false≢true may)
+    by_parts false (Some end) waits owed old may = absurd (false≢true may)
+    by_parts false None waits owed old may = let two = both_true waits owed may in old refl two.0 two.1
 
 -- ---- the newest request
 
@@ -391,6 +402,6 @@ kept_asks client this None None fits is = absurd (none-some this is)
 pub kept_by_newest : (p : Proxy) (history : List ProxyStep) (all : Happenings) (this : SentRequest) → Forwards p history all → IsServed p → IsKeptAs this p.unsent p.sent
     → IsNewestBy this.is_head all.requests
 kept_by_newest p history all this f served is =
-    let x = asked_by (setting_of p.config) this.is_head p.client.kept all.client f.carries.stands (kept_asks p.client this p.unsent p.sent served is) in
+    let x = asked_by (setting_of p.config.connections) this.is_head p.client.kept all.client f.carries.stands (kept_asks p.client this p.unsent p.sent served is) in
     newest_of this.is_head all.requests
     (subst (NewestBy this.is_head) (sym f.carries.forwarded.sent.requests) (newest_by this.is_head all.client x.0 x.1 x.2))

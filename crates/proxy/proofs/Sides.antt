@@ -49,7 +49,7 @@ client_same a = record {
   brings = λ trace stands. (
     trace,
     stands,
-    record { taken = refl; written = refl; moment = refl; pulled = sym (nothing_more on.done done_brings_nothing (all_pulled trace)) },
+    record { taken = refl; written = refl; moment = refl; ended = refl; pulled = sym (nothing_more on.done done_brings_nothing (all_pulled trace)) },
   );
   left = λ trace stands. omega arith;
 }
@@ -63,23 +63,33 @@ stepped a b event o out trace settings is stands =
 
 -- an event that takes and gives nothing
 pub client_one : (a : State) (event : on.Event) (o : on.Outcome) (b : State) → b.settings ≡ a.settings → GoesOn a event (Is o) b
-    → sums.step_taken event o ≡ [] → sums.step_written o ≡ [] → sums.tick_of event ≡ None → LeavesNoMore a b → ClientBrings o a b
-client_one a event o b settings one takes gives tick left = record {
+    → sums.step_taken event o ≡ [] → sums.step_written o ≡ [] → sums.tick_of event ≡ None → sums.is_eof event ≡ false → LeavesNoMore a b → ClientBrings o a b
+client_one a event o b settings one takes gives tick going left = record {
   settings = settings;
   brings = λ trace stands.
       let s = one trace stands in (
         record { event = event; outcome = o } ∷ trace,
         stepped a b event o s.0 trace settings s.1 s.3,
-        brought event o trace takes gives tick,
+        brought event o trace takes gives tick going,
       );
   left = left;
 }
+
+-- a call that asks for nothing tells no end
+asks_no_end : (event : on.Event) → AsksNothing event → sums.is_eof event ≡ false
+asks_no_end on.drop_body asks = refl
+asks_no_end on.send_continue asks = refl
+asks_no_end (on.answer head size) asks = refl
+asks_no_end (on.chunk bytes) asks = refl
+asks_no_end on.body_end asks = refl
+asks_no_end on.body_error asks = refl
+asks_no_end event asks = absurd asks
 
 -- the same of a call that asks for nothing
 pub client_plain : (a : State) (event : on.Event) (o : on.Outcome) (b : State) → b.settings ≡ a.settings → GoesOn a event (Is o) b
     → sums.step_taken event o ≡ [] → sums.step_written o ≡ [] → sums.tick_of event ≡ None → AsksNothing event → ClientBrings o a b
 client_plain a event o b settings one takes gives tick asks =
-    client_one a event o b settings one takes gives tick (λ trace stands.
+    client_one a event o b settings one takes gives tick (asks_no_end event asks) (λ trace stands.
     let s = one trace stands in
     no_more (setting_of a.settings) a.kept b.kept trace event o asks stands (stepped a b event o s.0 trace settings s.1 s.3))
 
@@ -94,6 +104,7 @@ as_done o none trace new x = record {
   taken = x.taken;
   written = x.written;
   moment = x.moment;
+  ended = x.ended;
   pulled = x.pulled ∙ nothing_more o none (all_pulled trace) ∙ sym (nothing_more on.done done_brings_nothing (all_pulled trace));
 }
 
@@ -156,16 +167,16 @@ next_brings (next.Head item) a b settings one = record {
         s.1.1,
         record { event = on.next; outcome = on.head s.1.0 } ∷ trace,
         stepped a b on.next (on.head s.1.0) s.0 trace settings s.1.2 s.3,
-        brought on.next (on.head s.1.0) trace refl refl refl,
+        brought on.next (on.head s.1.0) trace refl refl refl refl,
       );
   left = next_left (next.Head item) a b settings one;
 }
 next_brings (next.Fault fault) a b settings one =
-    client_nothing _ (record { head = refl; more = λ p. refl }) a b (client_one a on.next _ b settings one refl refl refl (next_left (next.Fault fault) a b settings one))
+    client_nothing _ (record { head = refl; more = λ p. refl }) a b (client_one a on.next _ b settings one refl refl refl refl (next_left (next.Fault fault) a b settings one))
 next_brings next.Pending a b settings one =
-    client_nothing _ (record { head = refl; more = λ p. refl }) a b (client_one a on.next _ b settings one refl refl refl (next_left next.Pending a b settings one))
+    client_nothing _ (record { head = refl; more = λ p. refl }) a b (client_one a on.next _ b settings one refl refl refl refl (next_left next.Pending a b settings one))
 next_brings (next.Closed end) a b settings one =
-    client_nothing _ (record { head = refl; more = λ p. refl }) a b (client_one a on.next _ b settings one refl refl refl (next_left (next.Closed end) a b settings one))
+    client_nothing _ (record { head = refl; more = λ p. refl }) a b (client_one a on.next _ b settings one refl refl refl refl (next_left (next.Closed end) a b settings one))
 
 -- ---- more of a body
 
@@ -203,24 +214,24 @@ pull_left pulled.Pending a b settings may one = λ trace stands. (pulled_outcome
 pub pull_brings : (n : Pulled) (a b : State) → b.settings ≡ a.settings → allowed_by (setting_of a.settings) a.kept on.drop_body ≡ true
     → GoesOn a on.pull (SaysPulled n) b → BringsPulled n a b
 pull_brings (pulled.Bytes bytes) a b settings may one =
-    client_one a on.pull (on.bytes bytes) b settings one refl refl refl (pull_left (pulled.Bytes bytes) a b settings may one)
+    client_one a on.pull (on.bytes bytes) b settings one refl refl refl refl (pull_left (pulled.Bytes bytes) a b settings may one)
 pull_brings (pulled.Trailers entries) a b settings may one = record {
   settings = settings;
   brings = λ trace stands.
       let s = one trace stands in (
         record { event = on.pull; outcome = on.trailers s.1.0 } ∷ trace,
         stepped a b on.pull (on.trailers s.1.0) s.0 trace settings s.1.1 s.3,
-        as_done (on.trailers s.1.0) (record { head = refl; more = λ p. refl }) trace _ (brought on.pull (on.trailers s.1.0) trace refl refl refl),
+        as_done (on.trailers s.1.0) (record { head = refl; more = λ p. refl }) trace _ (brought on.pull (on.trailers s.1.0) trace refl refl refl refl),
       );
   left = pull_left (pulled.Trailers entries) a b settings may one;
 }
 pull_brings pulled.End a b settings may one =
-    client_one a on.pull on.body_ended b settings one refl refl refl (pull_left pulled.End a b settings may one)
+    client_one a on.pull on.body_ended b settings one refl refl refl refl (pull_left pulled.End a b settings may one)
 pull_brings (pulled.Broken fault) a b settings may one =
-    client_one a on.pull (on.broken_by _) b settings one refl refl refl (pull_left (pulled.Broken fault) a b settings may one)
+    client_one a on.pull (on.broken_by _) b settings one refl refl refl refl (pull_left (pulled.Broken fault) a b settings may one)
 pull_brings pulled.Pending a b settings may one =
     client_nothing on.pending pending_brings_nothing a b
-    (client_one a on.pull on.pending b settings one refl refl refl (pull_left pulled.Pending a b settings may one))
+    (client_one a on.pull on.pending b settings one refl refl refl refl (pull_left pulled.Pending a b settings may one))
 
 -- ---- a server's side
 

@@ -156,6 +156,6 @@ pub dated : (p : Proxy) (a b : servers.State) → p.server ≡ Some a → is_use
     → Forwards p history all → b.kept.now ≡ now history
 dated p a b is free told history all f =
     let g = subst (λ (s : Option servers.State). Forwards (record p { server = s }) history all) is f in
-    let y = trace_of (asking.setting_of p.config) a.kept all.links g.carries.server in
+    let y = trace_of (asking.setting_of p.config.connections) a.kept all.links g.carries.server in
     let stands = subst (λ (s : Settings). IsClientTrace (asking.setting_of s) y.0 a.kept) (sym g.server) y.1 in
     by_moment p.moment a b history y.0 stands free told g.time ∙ ap (λ (m : Option ℕ). unwrap_or m 0) f.time.last

@@ -23,11 +23,11 @@ plain_keeps head flags version =
     ∙ ap (λ (v : Version). model_type (unwrap_or (type_of_flags no_flags) (default_type v))) version
 
 -- its text, by its size and its connection type
-pub waiting_text : (h : Head) (head : RequestHead) (size : BodySize) (moment : ℕ) (given : RequestGiven) → size ≡ forwarded_size h.body
+pub waiting_text : (h : Head) (head : RequestHead) (size : BodySize) (moment : ℕ) (given : RequestGiven) → size ≡ forwarded_size h
     → (request_of head).connection ≡ keep_alive
-    → request_text (asked_head head) (asked_shape (forwarded_size h.body)) (forwarded_size h.body) keep_alive moment ≡ given_request_text given
+    → request_text (asked_head head) (asked_shape (forwarded_size h)) (forwarded_size h) keep_alive moment ≡ given_request_text given
     → request_text (request_of head).head (asked_shape size) size (request_of head).connection moment ≡ given_request_text given
 waiting_text h head size moment given sized kind text =
     ap (λ (s : BodySize). request_text (asked_head head) (asked_shape s) s (request_of head).connection moment) sized
-    ∙ ap (λ (k : ConnectionType). request_text (asked_head head) (asked_shape (forwarded_size h.body)) (forwarded_size h.body) k moment) kind
+    ∙ ap (λ (k : ConnectionType). request_text (asked_head head) (asked_shape (forwarded_size h)) (forwarded_size h) k moment) kind
     ∙ text

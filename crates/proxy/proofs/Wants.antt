@@ -1,6 +1,6 @@
 -- Which answers the client's connection wants after a call.
 use Rattle.std.proofs.Common.{◌≡◌, ℕ, true, false, List, Some, refl, sym, ap, ◌∙◌, subst}
-use Rattle.std.specs.Prelude.{IsTrue, bytes_eq, codes}
+use Rattle.std.specs.Prelude.{IsTrue, bytes_eq, codes, ◌==◌}
 use Rattle.std.proofs.lemmas.Bool.{false≢true}
 use Rattle.http_config.specs.Config.{Settings}
 use Rattle.model_h1.specs.Event as on
@@ -9,6 +9,7 @@ use Rattle.model_h1.specs.Request.{Head}
 use Rattle.model_state.specs.Local.{allowed_by}
 use Rattle.h1_payload.specs.Rests.{SaysPulled}
 use Rattle.h1_payload.specs.declared.pulled.Pulled.{Pulled}
+use Rattle.http_types.specs.Version.{is_below_http11}
 use Rattle.h1_decoder.specs.HeadItem.{SaysHead}
 use Rattle.h1_decoder.specs.declared.decoder.HeadItem.{HeadItem}
 use Rattle.h1_connection.specs.EventMeaning.{setting_of}
@@ -18,6 +19,7 @@ use Rattle.h1_connection.specs.declared.connection.heads.NextHead.{NextHead}
 use Rattle.h1_connection.specs.declared.connection.heads.NextHead.TheVariants as next
 use Rattle.model_proxy.specs.Wants as wanted
 use Rattle.model_proxy.proofs.Wants.{others_want, pull_wants, next_wants, answer_wants, waited, end_wants, cut_wants, continue_tells, no_answer, no_end, no_continue}
+use Rattle.proxy_heads.proofs.RequestLemmas.{old_is}
 use Rattle.proxy.specs.Wants.{IsAnswered, IsComplete, IsWaitedFor, IsAnswering, IsTold, WantsTheSame, Wants, WantsNext, HasHead, HasEnd, TellsToContinue}
 use Rattle.proxy.proofs.Sides.{stepped}
 
@@ -68,12 +70,23 @@ pulled_wants n a b settings one allowed = λ trace stands.
 same_mark : (item : HeadItem) (h g : Head) → SaysHead item h → SaysHead item g → (asked_of h).is_head ≡ (asked_of g).is_head
 same_mark item h g x y = ap (λ (m : List ℕ). bytes_eq m (codes "HEAD")) (sym x.method ∙ y.method)
 
+-- and one version
+pub age_of : (item : HeadItem) (h : Head) → SaysHead item h → is_below_http11 item.head.version ≡ (h.minor == 0)
+age_of item h x = ap is_below_http11 x.version ∙ old_is h.minor
+
+same_age : (item : HeadItem) (h g : Head) → SaysHead item h → SaysHead item g → (h.minor == 0) ≡ (g.minor == 0)
+same_age item h g x y = sym (age_of item h x) ∙ age_of item g y
+
 pub head_wants : (n : NextHead) (a b : State) → b.settings ≡ a.settings → GoesOn a on.next (SaysNext n) b
     → IsTrue (allowed_by (setting_of a.settings) a.kept on.next) → Wants (WantsNext n) a b
 head_wants (next.Head item) a b settings one allowed = λ trace stands.
     let s = one trace stands in
-    let x = next_wants (setting_of a.settings) a.kept b.kept trace (on.head s.1.0) allowed stands (stepped a b on.next (on.head s.1.0) s.0 trace settings s.1.2 s.3) in
-    (complete_as a b settings x.0, waited_as a b settings x.1, λ h says. x.2 ∙ ap Some (same_mark item s.1.0 h s.1.1 says))
+    let x = next_wants (setting_of a.settings) a.kept b.kept trace (on.head s.1.0) allowed stands (stepped a b on.next (on.head s.1.0) s.0 trace settings s.1.2 s.3) in (
+      complete_as a b settings x.0,
+      waited_as a b settings x.1,
+      λ h says. x.2 ∙ ap Some (same_mark item s.1.0 h s.1.1 says),
+      λ h says old. told_as a b settings (x.3 (same_age item s.1.0 h s.1.1 says ∙ old)),
+    )
 head_wants next.Pending a b settings one allowed = λ trace stands.
     let s = one trace stands in
     same_as a b settings

@@ -30,7 +30,7 @@ use Rattle.model_proxy.specs.Carried.{IsServer}
 use Rattle.proxy.specs.declared.proxy.Proxy.{Proxy}
 use Rattle.proxy.specs.declared.proxy.Unsent.{Unsent}
 use Rattle.proxy.specs.declared.proxy.SentRequest.{SentRequest}
-use Rattle.proxy.specs.Kept.{is_closing, HasSettings, Forwards, Goes, GoesBy, Runs, HoldsNoRequest}
+use Rattle.proxy.specs.Kept.{is_closing, HasSettings, Forwards, history_by, Goes, GoesBy, Runs, HoldsNoRequest}
 use Rattle.model_proxy.specs.Rests.{MAX_WAITING}
 use Rattle.proxy.specs.declared.notes.Notes.{Notes}
 use Rattle.proxy.specs.Replies.{HasReplied}
@@ -382,7 +382,7 @@ pub told_of : (p : Proxy) (history : List ProxyStep) (all : Happenings) → Forw
 told_of p history all f = record {
   trace = all.client;
   stands = subst (λ (s : Settings). StandsFor (setting_of s) p.client.kept all.client) (sym f.client) f.carries.stands;
-  server = server_told p.config p.server all.links f.server f.carries.server;
+  server = server_told p.config.connections p.server all.links f.server f.carries.server;
 }
 
 -- ---- how much can be left
@@ -395,7 +395,7 @@ pub server_held : (p : Proxy) (history : List ProxyStep) (all : Happenings) (s :
     → length s.kept.unread ≤ p.client.settings.h1_hold_size
 server_held p history all s f is =
     let stands = subst ServerTold is (told_of p history all f).server in
-    let same = subst (HasSettings p.config) is f.server in
+    let same = subst (HasSettings p.config.connections) is f.server in
     let held = held_fits (asking.setting_of s.settings) stands.0 s.kept stands.1 in
     let room = ap (λ (t : Settings). t.h1_hold_size) (same ∙ sym f.client) in
     omega (arith, held, room)
@@ -425,11 +425,11 @@ side_fits settings (Some s) same (trace, stands) =
     let room = ap (λ (t : Settings). t.h1_hold_size) same in
     omega (arith, held, room, reading_fits s.kept.reading)
 
-pub work_fits : (p : Proxy) (history : List ProxyStep) (all : Happenings) → Forwards p history all → work p < 32 * p.config.h1_hold_size + 8
+pub work_fits : (p : Proxy) (history : List ProxyStep) (all : Happenings) → Forwards p history all → work p < 32 * p.config.connections.h1_hold_size + 8
 work_fits p history all f =
     let told = told_of p history all f in
-    let held = unread_bounded (setting_of p.config) p.client.kept all.client f.carries.stands in
-    let side = side_fits p.config p.server f.server told.server in
+    let held = unread_bounded (setting_of p.config.connections) p.client.kept all.client f.carries.stands in
+    let side = side_fits p.config.connections p.server f.server told.server in
     omega (arith, held, side, exchange_fits p.client.kept.exchange, request_fits p.unsent p.sent, going_fits (is_closing p))
 
 -- ---- turns, one after another
@@ -451,7 +451,7 @@ no_more_turns true n p q r turned is x = absurd (true≢false is)
 no_more_turns false n p q r turned is x = λ history all f. (x (turned.leaves history all f).0).1
 
 -- more than are possible weren't
-pub too_many : (n : ℕ) (p q : Proxy) → HasTurned n p q → 32 * p.config.h1_hold_size + 8 ≤ n
+pub too_many : (n : ℕ) (p q : Proxy) → HasTurned n p q → 32 * p.config.connections.h1_hold_size + 8 ≤ n
     → Settles p q
 too_many n p q turned many = λ history all f.
     let y = turned.leaves history all f in
@@ -462,4 +462,4 @@ too_many n p q turned many = λ history all f.
 
 -- nothing is left behind what settles
 pub rests_by : (event : ProxyEvent) (outcome : ProxyOutcome) (a b c : Proxy) → GoesBy event outcome a b → Settles b c → Settles a c
-rests_by event outcome a b c first second = λ history all f. let y = first.1 history all f in second (record { event = event; outcome = outcome } ∷ history) y.0 y.1
+rests_by event outcome a b c first second = λ history all f. let y = first.1 history all f in second (history_by event outcome a history) y.0 y.1

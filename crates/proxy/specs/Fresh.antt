@@ -1,6 +1,6 @@
 -- When a turn may begin, and what it does with a request that waits: it sends that on where it can, and only after all earlier bytes of its
 -- server were read.
-use Rattle.std.specs.Prelude.{◌≡◌, ◌⊎◌, ℕ, Bool, true, false, not, ◌||◌, List, [], ◌++◌, slice_range, Option, Some, None, is_some, ⊤}
+use Rattle.std.specs.Prelude.{◌≡◌, ◌⊎◌, ℕ, ◌≤◌, Bool, true, false, not, ◌||◌, List, [], ◌++◌, length, slice_range, Option, Some, None, is_some, ⊤}
 use Rattle.model_h1.specs.HeadPiece.{IsHeadPiece}
 use Rattle.model_h1.specs.Setting.{Setting}
 use Rattle.model_client.specs.AnswerReading.{Answer, answer_is, IsAnswerReadingWithin}
@@ -14,9 +14,10 @@ use Rattle.proxy.specs.Sides.{ServerDid, IsToldMoment}
 use Rattle.proxy.specs.declared.proxy.Proxy.{Proxy}
 use Rattle.proxy.specs.declared.proxy.Unsent.{Unsent}
 use Rattle.model_proxy.specs.Past.{ProxyStep, now}
+use Rattle.model_proxy.specs.Rests.{MAX_WAITING}
 use Rattle.model_proxy.specs.Happenings.{Happenings}
 use Rattle.proxy.specs.Kept.{Forwards}
-use Rattle.proxy.specs.Rests.{may_begin, is_over, may_turn, IsNoted}
+use Rattle.proxy.specs.Rests.{is_over, may_turn, IsNoted}
 
 -- Nothing of an earlier answer is to come: no request waits for its answer, the last answer was read to its end, and no byte is left.
 pub record HasReadAll (s : servers.State) : Type 0 where
@@ -78,12 +79,25 @@ SendsWhereItCan old new = (u : Unsent) → old.unsent ≡ Some u → ((may_turn 
 abbrev pub ClosesOver : Proxy → Proxy → Type 0
 ClosesOver old new = is_over old.server ≡ true → old.sent ≡ None → new ≡ record old { server = None }
 
--- Where turns aren't made, nothing is done; and where 32768 bytes wait towards a server while no request was sent on, at most its connection is
--- closed, as it is to end.
+-- Where turns aren't made, nothing is done; and while no request was sent on, a server connection that is to end is closed before all else.
 abbrev pub BeginsWhereItMay : Proxy → Proxy → Type 0
-BeginsWhereItMay old new =
-    (new ≡ old)
-    ⊎ ((may_turn old ≡ true) × ((may_begin old.sent old.server ≡ true) ⊎ ((is_over old.server ≡ true) × (new ≡ record old { server = None }))))
+BeginsWhereItMay old new = (new ≡ old) ⊎ ((may_turn old ≡ true) × ClosesOver old new)
+
+-- Where 32768 bytes wait towards a server none come behind them: they wait on, or its connection is closed.
+abbrev pub AddsBelow : Option servers.State → Option servers.State → Type 0
+AddsBelow None new = ⊤
+AddsBelow (Some s) None = ⊤
+AddsBelow (Some s) (Some t) = MAX_WAITING ≤ length s.kept.buffered → t.kept.buffered ≡ s.kept.buffered
+
+-- one request at most is under way: where one waits, none was sent
+abbrev pub WaitsAlone : Proxy → Type 0
+WaitsAlone p = is_some p.unsent ≡ true → p.sent ≡ None
+
+-- So what waits towards either side stays below its bound and what one turn adds: where 32768 bytes wait towards the client no turn is made, and
+-- where as many wait towards the server a turn adds none.
+pub record SendsBelow (old new : Proxy) : Type 0 where
+  pub client : MAX_WAITING ≤ length old.client.kept.buffered → new ≡ old
+  pub server : WaitsAlone old → AddsBelow old.server new.server
 
 -- the answer's head is read from a piece of these bytes
 pub record IsReadFrom (setting : Setting) (bytes : List ℕ) (a : Answer) : Type 0 where

@@ -1,5 +1,5 @@
 -- A forwarder as its contracts see it, and how it goes on.
-use Rattle.std.specs.Prelude.{◌≡◌, ℕ, ◌-◌, ◌<◌, ◌≤◌, Bool, false, not, ◌&&◌, ◌||◌, List, [], ◌∷◌, length, min, nat_le, if◌then◌else◌, Option, Some, None, is_some, is_none, option_map, unwrap_or, ⊤, true}
+use Rattle.std.specs.Prelude.{◌≡◌, ℕ, ◌-◌, ◌<◌, ◌≤◌, Bool, false, not, ◌&&◌, ◌||◌, List, [], ◌∷◌, length, min, nat_le, nat_lt, if◌then◌else◌, Option, Some, None, is_some, is_none, option_map, unwrap_or, ⊤, true}
 use Rattle.http_config.specs.Config.{Settings}
 use Rattle.model_h1.specs.Limits.{MAX_MOMENT}
 use Rattle.model_h1.specs.Request.{Head, has_body}
@@ -16,12 +16,14 @@ use Rattle.h1_client.specs.ClientMeaning.{request_of}
 use Rattle.h1_client.specs.State as servers
 use Rattle.h1_connection.specs.EventMeaning.{setting_of}
 use Rattle.h1_connection.specs.State.{State}
+use Rattle.model_proxy.specs.Edge.{Edge}
 use Rattle.model_proxy.specs.Forward.{forwarded, forwarded_size}
-use Rattle.model_proxy.specs.Past.{ProxyStep, ProxyEvent, ProxyOutcome, last_tick}
+use Rattle.model_proxy.specs.Past.{ProxyStep, ProxyEvent, client_eof, ProxyOutcome, last_tick}
 use Rattle.model_proxy.specs.Exchange.{unpulled}
 use Rattle.model_proxy.specs.Rests.{MAX_WAITING}
 use Rattle.model_proxy.specs.Happenings.{Happenings, sent_of}
 use Rattle.model_proxy.specs.Carried.{UnderWay, nothing, waits, is_sent, ForwarderKept, Carries, IsNewest}
+use Rattle.proxy_heads.specs.Edges.{edge_of}
 use Rattle.proxy.specs.declared.proxy.Proxy.{Proxy}
 use Rattle.proxy.specs.declared.proxy.Unsent.{Unsent}
 use Rattle.proxy.specs.declared.proxy.SentRequest.{SentRequest}
@@ -64,12 +66,22 @@ pub record IsTimed (moment : Option ℕ) (server : Option servers.State) (histor
 
 -- What a forwarder keeps is what is left of all that happened after these events.
 pub record Forwards (p : Proxy) (history : List ProxyStep) (all : Happenings) : Type 0 where
-  pub client : p.client.settings ≡ p.config
-  pub server : HasSettings p.config p.server
-  pub carries : Carries (setting_of p.config) (asking.setting_of p.config) (kept_of p) history all
+  pub client : p.client.settings ≡ p.config.connections
+  pub server : HasSettings p.config.connections p.server
+  pub carries : Carries (edge_of p.config.edge) (setting_of p.config.connections) (asking.setting_of p.config.connections) (kept_of p) history all
   pub time : IsTimed p.moment p.server history
 
 -- ---- how it goes on
+
+-- the event is allowed on the client's connection
+abbrev pub client_takes : Proxy → on.Event → Bool
+client_takes proxy event = allowed_by (setting_of (client_of proxy).settings) (client_of proxy).kept event
+
+-- What comes to the history by an event: its step. The end of a client is one only where the client's connection takes it.
+abbrev pub history_by : ProxyEvent → ProxyOutcome → Proxy → List ProxyStep → List ProxyStep
+history_by client_eof outcome old history =
+    if client_takes old on.eof then record { event = client_eof; outcome = outcome } ∷ history else history
+history_by event outcome old history = record { event = event; outcome = outcome } ∷ history
 
 -- without an event of its own; its settings stay
 abbrev pub Goes : Proxy → Proxy → Type 0
@@ -80,6 +92,13 @@ Goes old new =
 -- by this event, with this outcome; its settings stay
 abbrev pub GoesBy : ProxyEvent → ProxyOutcome → Proxy → Proxy → Type 0
 GoesBy event outcome old new =
+    (new.config ≡ old.config)
+    × ((history : List ProxyStep) (all : Happenings) → Forwards old history all
+    → (after : Happenings) × Forwards new (history_by event outcome old history) after)
+
+-- where it is a step of the history
+abbrev pub StepsBy : ProxyEvent → ProxyOutcome → Proxy → Proxy → Type 0
+StepsBy event outcome old new =
     (new.config ≡ old.config)
     × ((history : List ProxyStep) (all : Happenings) → Forwards old history all
     → (after : Happenings) × Forwards new (record { event = event; outcome = outcome } ∷ history) after)
@@ -113,14 +132,14 @@ pub record Runs (this : SentRequest) (p : Proxy) : Type 0 where
   pub unsent : p.unsent ≡ None
   pub sent : p.sent ≡ Some this
 
--- a request that waits is what is to be sent on for this head
-pub record IsUnsent (u : Unsent) (h : Head) : Type 0 where
+-- a request that waits is what is to be sent on for this head, at this edge
+pub record IsUnsent (e : Edge) (u : Unsent) (h : Head) : Type 0 where
   pub method : (request_of u.head).head.method ≡ h.method
   pub whole : u.sent.is_whole ≡ not (has_body h.body)
   pub unbroken : u.sent.is_broken ≡ false
-  pub sized : size_of u.size ≡ forwarded_size h.body
+  pub sized : size_of u.size ≡ forwarded_size h
   pub text : (moment : ℕ) → request_text (request_of u.head).head (asked_shape (size_of u.size)) (size_of u.size) (request_of u.head).connection moment
-      ≡ given_request_text (forwarded (sent_of (unpulled h) moment))
+      ≡ given_request_text (forwarded (sent_of e (unpulled h) moment))
 
 -- ---- questions
 
@@ -142,10 +161,6 @@ abbrev pub server_allows : Option servers.State → asked.ClientEvent → Bool
 server_allows None event = false
 server_allows (Some s) event = client_allows (asking.setting_of s.settings) s.kept event
 
--- the event is allowed on the client's connection
-abbrev pub client_takes : Proxy → on.Event → Bool
-client_takes proxy event = allowed_by (setting_of (client_of proxy).settings) (client_of proxy).kept event
-
 -- how many bytes may be taken from the client now: none while its connection is to end or its input has ended, or 32768 wait towards the
 -- server
 abbrev pub client_room : Proxy → ℕ
@@ -160,6 +175,25 @@ room_of (Some s) = if client_allows (asking.setting_of s.settings) s.kept asked.
 
 abbrev pub server_room : Proxy → ℕ
 server_room p = if nat_le MAX_WAITING (length p.client.kept.buffered) then 0 else room_of p.server
+
+-- no request is under way
+abbrev pub is_idle : Proxy → Bool
+is_idle p = is_none p.unsent && is_none p.sent
+
+-- bytes of the client are held that weren't passed on
+abbrev pub has_unread : Proxy → Bool
+has_unread p = nat_lt 0 (length p.client.kept.unread)
+
+-- The client is to send more: there is room for it, and nothing waits for it to take. Of a body that is read all that came was passed on; or no
+-- request is under way, and a head is begun, or the rest of a body is dropped.
+abbrev pub is_to_send : Proxy → Bool
+is_to_send p =
+    nat_lt 0 (client_room p) && (not (nat_lt 0 (length p.client.kept.buffered))
+    && (if client_takes p on.pull then not (has_unread p) else (is_idle p && (not (client_takes p on.next) || has_unread p))))
+
+-- the reply is whole and was taken, and the rest of its request's body is dropped
+abbrev pub is_draining : Proxy → Bool
+is_draining p = not (is_closing p) && (not (nat_lt 0 (length p.client.kept.buffered)) && (is_idle p && not (client_takes p on.next)))
 
 -- so many of the bytes were taken as there was room for, whatever happened before
 abbrev pub TakesAll : ℕ → List ℕ → ℕ → Proxy → Type 0
@@ -180,3 +214,7 @@ was_answered (Some s) = s.is_answered
 
 abbrev pub is_answering : Proxy → Bool
 is_answering p = was_answered p.sent
+
+-- The client's input has ended while no answer to its request has begun: nothing tells such a client from one that has gone.
+abbrev pub may_be_gone : Proxy → Bool
+may_be_gone p = not (client_takes p on.eof) && (not (is_closing p) && (not (is_idle p) && not (is_answering p)))

@@ -33,12 +33,12 @@ pub record Put : Type 0 where
   pub size : BodySize
 
 -- What the client's connection is told of a reply: its head, a piece of its body, its end, or that it is cut. And what else counts of what is
--- done there: that the request's body was found broken, or cut; that its rest was left; that the connection told that it has closed; and any
--- event that isn't one of a forwarder's calls in between, as bytes that are read, or an upgrade.
+-- done there: that the client was told to go on; that the request's body was found broken, or cut; that its rest was left; that the connection
+-- told that it has closed; and any event that isn't one of a forwarder's calls in between, as bytes that are read, or an upgrade.
 pub data Part : Type 0 where
   begins : Put → Part
   continues : List ℕ → Part
-  ends breaks_off : Part
+  ends breaks_off goes_on : Part
   request_breaks : on.BodyFault → Part
   leaves_rest has_closed other_event : Part
 
@@ -47,7 +47,7 @@ parts_told (on.broken_by fault) = request_breaks fault ∷ []
 parts_told (on.closed end) = has_closed ∷ []
 parts_told o = []
 
--- asked for the next head or more of a body, or told to go on, the connection is told nothing of a reply
+-- asked for the next head or more of a body, the connection is told nothing of a reply
 abbrev pub parts_by : on.Event → on.Outcome → List Part
 parts_by (on.answer head size) o = begins (record { head = head; size = size }) ∷ []
 parts_by (on.chunk bytes) o = continues bytes ∷ []
@@ -56,7 +56,7 @@ parts_by on.body_error o = breaks_off ∷ []
 parts_by on.drop_body o = leaves_rest ∷ []
 parts_by on.next o = parts_told o
 parts_by on.pull o = parts_told o
-parts_by on.send_continue o = []
+parts_by on.send_continue o = goes_on ∷ []
 parts_by event o = other_event ∷ []
 
 -- these parts of all steps, the newest first
@@ -73,6 +73,7 @@ abbrev pub event_of : Part → on.Event
 event_of (begins put) = on.answer put.head put.size
 event_of (continues bytes) = on.chunk bytes
 event_of ends = on.body_end
+event_of goes_on = on.send_continue
 event_of part = on.body_error
 
 -- it may not be put

@@ -1,5 +1,5 @@
 -- Why a forwarder puts each part of a reply, turn by turn.
-use Rattle.std.specs.Prelude.{◌≡◌, ◌⊎◌, ℕ, Bool, true, false, not, ◌&&◌, if◌then◌else◌, List, [], ◌∷◌, ⊤, Option, Some, None, is_some, is_none}
+use Rattle.std.specs.Prelude.{◌≡◌, ◌⊎◌, ℕ, Bool, true, false, not, ◌&&◌, ◌==◌, if◌then◌else◌, List, [], ◌∷◌, ⊤, Option, Some, None, is_some, is_none}
 use Rattle.http_config.specs.Config.{Settings}
 use Rattle.model_h1.specs.Answer.{size_of, is_at_once}
 use Rattle.model_h1.specs.Event as on
@@ -18,32 +18,42 @@ use Rattle.model_client.specs.ClientEvent as asked
 use Rattle.model_client.specs.ClientKept.{client_closing}
 use Rattle.model_client.specs.ClientTrace.{Happened}
 use Rattle.h1_client.specs.State as servers
+use Rattle.model_proxy.specs.Edge.{Edge}
+use Rattle.model_proxy.specs.Judged.{is_refused as is_head_refused}
 use Rattle.model_proxy.specs.Forward.{is_forwardable}
 use Rattle.model_proxy.specs.Answers.{reply_head, reply_size, own_head, says_close}
 use Rattle.model_proxy.specs.Past as event
 use Rattle.proxy.specs.Leaves.{IsAwaited}
-use Rattle.proxy.specs.Puts.{Part, begins, continues, ends, breaks_off, request_breaks, has_closed, Puts, MayPut, MayLeave, HandsHead, is_refused, is_good, Handed, body_bytes, body_end, body_fault, Hands, HandsNone, Tells, IsRead, CannotTell, CannotPull, IsReadUp}
+use Rattle.proxy.specs.Puts.{Part, begins, continues, ends, breaks_off, goes_on, request_breaks, Puts, MayPut, MayLeave, HandsHead, is_refused, is_good, Handed, body_bytes, body_end, body_fault, Hands, HandsNone, Tells, IsRead, CannotTell, CannotPull, IsReadUp}
+use Rattle.proxy_heads.specs.Edges.{edge_of}
+use Rattle.proxy_heads.specs.ForwardedMeaning.{refusal_of}
+use Rattle.proxy_heads.specs.declared.refusal.Refusal.{Refusal}
+use Rattle.proxy_heads.specs.declared.refusal.Refusal.TheVariants.{BadHead, NotForwardable}
 use Rattle.proxy.specs.declared.proxy.Proxy.{Proxy}
 use Rattle.proxy.specs.declared.proxy.SentRequest.{SentRequest}
-use Rattle.proxy.specs.Fresh.{SendsWhereItCan, BeginsWhereItMay}
-use Rattle.proxy.specs.Kept.{HoldsNoRequest, Runs, Goes, GoesBy, is_closing}
+use Rattle.proxy.specs.Fresh.{SendsWhereItCan, BeginsWhereItMay, SendsBelow}
+use Rattle.proxy.specs.Kept.{HoldsNoRequest, Runs, Goes, GoesBy}
 
 -- ---- what is put
 
--- What a turn does of a reply, and tells of one: nothing; or the head of one of the forwarder's own, where the request can't be sent on, where
--- no answer is to be had, or where its body broke; or the head of an answer, to a request of HEAD or to another; then of that reply a piece of
--- its body, its end, or that it is cut. A request's body may also break while its reply is under way. And a connection that is to end may tell
--- that it has closed.
+-- What a turn does of a reply, and tells of one: nothing; or the head of one of the forwarder's own, where the request's head is refused, where it
+-- can't be sent on, where no answer is to be had, or where its body broke; or the head of an answer, to a request of HEAD or to another; then of that reply a piece of
+-- its body, its end, or that it is cut. Before a request is sent on its client may be told to go on. A request's body may also break while its
+-- reply is under way.
 pub data TurnPuts : Type 0 where
-  nothing_put not_forwardable no_answer : TurnPuts
+  nothing_put told_to_go_on refused_head not_forwardable no_answer : TurnPuts
   broken_body broken_late : on.BodyFault → TurnPuts
   passed_on : Bool → Answer → TurnPuts
   piece_on : List ℕ → TurnPuts
-  end_on cut_off told_closed : TurnPuts
+  end_on cut_off : TurnPuts
 
 -- the empty reply of the forwarder's own with this status
 abbrev pub own : ℕ → Part
 own status = begins (record { head = own_head status; size = size_of 0 })
+
+-- that of this cause: of a head that is refused the reply closes the connection
+abbrev pub refusal_part : Refusal → Part
+refusal_part refusal = begins (record { head = refusal_of refusal; size = size_of 0 })
 
 -- the head of a reply that passes an answer on, to a request of HEAD or to another
 abbrev pub passed : Bool → Answer → Part
@@ -66,6 +76,8 @@ PutsHead false part old new = MayPut part old new
 -- all that a turn does on the client's connection, by the parts of it
 abbrev pub HasPut : TurnPuts → State → State → Type 0
 HasPut nothing_put old new = Puts [] old new
+HasPut told_to_go_on old new = Puts (goes_on ∷ []) old new
+HasPut refused_head old new = PutsLast [] (refusal_part BadHead) old new
 HasPut not_forwardable old new = PutsLast [] (own 501) old new
 HasPut no_answer old new = PutsLast [] (own 502) old new
 HasPut (broken_body fault) old new = PutsLast (request_breaks fault ∷ []) (own 400) old new
@@ -74,7 +86,6 @@ HasPut (passed_on is_head a) old new = PutsHead (is_at_once (reply_size is_head 
 HasPut (piece_on bytes) old new = Puts (continues bytes ∷ []) old new
 HasPut end_on old new = PutsLast [] ends old new
 HasPut cut_off old new = MayPut breaks_off old new
-HasPut told_closed old new = Puts (has_closed ∷ []) old new
 
 -- ---- why
 
@@ -172,8 +183,8 @@ AwaitsAnswer None = ⊥
 AwaitsAnswer (Some s) = (t : servers.State) × HandsNone s t × ((trace : List Happened) → servers.Stands s trace → IsAwaited t)
 
 -- Why a turn does so. Where nothing is put, a request that was sent on and has its server connection goes on unchanged on that, which handed
--- out nothing of an answer; of other requests this says nothing. 501 is put for a head that was handed out and can't be sent on, while no other
--- request was under way; 502 where the request that was sent on has no server connection, or no answer will come by it that could be passed on;
+-- out nothing of an answer; of other requests this says nothing. A client of HTTP/1.1 is told to go on where a head was handed out that can be
+-- sent on, 400 is put for one that is refused, and 501 for one that can't be sent on, while no other request was under way; 502 where the request that was sent on has no server connection, or no answer will come by it that could be passed on;
 -- 400 where its body broke while no head of its answer was there. A request's body may break later, and then the reply goes on. The head of an
 -- answer is put as it was handed out for the request that was sent on, a piece of its body as it was handed out next, its end once that was
 -- handed out; and it is cut only where its body is broken, ended early, or can't come. The server connection is closed for 400, 501 and 502, and
@@ -186,9 +197,15 @@ HasCause (passed_on is_head a) old new = (sent : SentRequest) × IsUnanswered se
 HasCause (piece_on bytes) old new = (sent : SentRequest) × WasAnswered sent old × HasBytes (marks_of sent) bytes old.server new
 HasCause end_on old new = (sent : SentRequest) × WasAnswered sent old × HasEnd sent old.server new
 HasCause cut_off old new = (sent : SentRequest) × WasAnswered sent old × LacksEnd old.server × IsDropped new
-HasCause told_closed old new = HoldsNoRequest old × ((trace : List Step) → Stands old.client trace → is_closing old ≡ true)
 HasCause no_answer old new = (sent : SentRequest) × IsUnanswered sent old × LacksAnswer old.server × IsDropped new
-HasCause not_forwardable old new = HoldsNoRequest old × (c : State) × HandsHead (λ h. is_forwardable h ≡ false) old.client c × IsDropped new
+HasCause told_to_go_on old new =
+    HoldsNoRequest old × (c : State) × HandsHead (λ h. (is_forwardable (edge_of old.config.edge) h ≡ true) × ((h.minor == 0) ≡ false)) old.client c
+HasCause refused_head old new =
+    HoldsNoRequest old × (c : State) × HandsHead (λ h. is_head_refused (edge_of old.config.edge) h ≡ true) old.client c × IsDropped new
+HasCause not_forwardable old new =
+    HoldsNoRequest old × (c : State)
+    × HandsHead (λ h. (is_head_refused (edge_of old.config.edge) h ≡ false) × (is_forwardable (edge_of old.config.edge) h ≡ false)) old.client c
+    × IsDropped new
 HasCause (broken_body fault) old new = (sent : SentRequest) × IsUnanswered sent old × AwaitsAnswer old.server × IsDropped new
 
 -- a turn puts one part of a reply at most, for its cause
@@ -200,19 +217,21 @@ abbrev pub KeepsServer : Proxy → Proxy → Type 0
 KeepsServer old new =
     (new.server ≡ old.server)
     ⊎ (((new.server ≡ None) × (s : servers.State) × (old.server ≡ Some s) × (is_some (client_closing s.kept) ≡ true))
-    ⊎ ((new.server ≡ None) × (c : State) × HandsHead (λ h. is_forwardable h ≡ false) old.client c))
+    ⊎ ((new.server ≡ None) × (c : State) × HandsHead (λ h. is_forwardable (edge_of old.config.edge) h ≡ false) old.client c))
 
 -- a turn that begins while no request is under way sends none on, and keeps the server connection
 abbrev pub KeepsIdle : Proxy → Proxy → Type 0
 KeepsIdle old new = HoldsNoRequest old → (new.sent ≡ None) × KeepsServer old new
 
--- A turn. What is kept after it is what is left of all that happened; it begins where it may, and a request that waits is sent on where it can be.
+-- A turn. What is kept after it is what is left of all that happened; it begins where it may, a request that waits is sent on where it can be, and
+-- nothing is put behind more than may wait.
 pub record IsTurn (old new : Proxy) : Type 0 where
   pub goes : Goes old new
   pub begins : BeginsWhereItMay old new
   pub replies : TurnReplies old new
   pub keeps : KeepsIdle old new
   pub sends : SendsWhereItCan old new
+  pub below : SendsBelow old new
 
 -- turns one after another, if there are any
 pub data HasReplied (old : Proxy) : Proxy → Type 0 where
@@ -251,7 +270,7 @@ ServerDoes e config old new = new ≡ old
 -- an event changes neither the request that waits nor the one that was sent on, and puts no part of a reply
 pub record PutsNothing (by : event.ProxyEvent) (old new : Proxy) : Type 0 where
   pub client : ClientDoes by old.client new.client
-  pub server : ServerDoes by old.config old.server new.server
+  pub server : ServerDoes by old.config.connections old.server new.server
   pub unsent : new.unsent ≡ old.unsent
   pub sent : new.sent ≡ old.sent
 
@@ -335,9 +354,26 @@ TakesAnswer sent server item p q =
 -- no request is sent on yet, and the server connection is kept, or this request can't be sent on
 abbrev pub KeepsFor : HeadItem → Proxy → Proxy → Type 0
 KeepsFor item old new =
-    (new.sent ≡ None) × ((new.server ≡ old.server) ⊎ ((new.server ≡ None) × ((h : Head) → SaysHead item h → is_forwardable h ≡ false)))
+    (new.sent ≡ None) × ((new.server ≡ old.server) ⊎ ((new.server ≡ None) × ((h : Head) → SaysHead item h → is_forwardable (edge_of old.config.edge) h ≡ false)))
 
--- a request that is open can't be sent on
-abbrev pub Opens : HeadItem → State → Proxy → Type 0
-Opens item old q =
-    Puts [] old q.client ⊎ (((h : Head) → SaysHead item h → is_forwardable h ≡ false) × PutsLast [] (own 501) old q.client × IsDropped q)
+-- A client of HTTP/1.1 is told to go on where it waits for that; one of HTTP/1.0 is told nothing.
+abbrev pub TellsToGoOn : HeadItem → State → State → Type 0
+TellsToGoOn item old new =
+    (((h : Head) → SaysHead item h → (h.minor == 0) ≡ false) × MayPut goes_on old new)
+    ⊎ (((h : Head) → SaysHead item h → (h.minor == 0) ≡ true) × (new ≡ old))
+
+-- why a request isn't sent on, by whether its head is refused
+abbrev pub declined : Bool → Refusal
+declined true = BadHead
+declined false = NotForwardable
+
+-- the reply to a request that isn't sent on
+abbrev pub Declines : Edge → HeadItem → State → Proxy → Type 0
+Declines e item old q =
+    (refused : Bool) × ((h : Head) → SaysHead item h → is_head_refused e h ≡ refused) × PutsLast [] (refusal_part (declined refused)) old q.client × IsDropped q
+
+-- A request that is open can be sent on, and its client is told to go on; or it can't be.
+abbrev pub Opens : Edge → HeadItem → State → Proxy → Type 0
+Opens e item old q =
+    (((h : Head) → SaysHead item h → is_forwardable e h ≡ true) × TellsToGoOn item old q.client)
+    ⊎ (((h : Head) → SaysHead item h → is_forwardable e h ≡ false) × Declines e item old q)

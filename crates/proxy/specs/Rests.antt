@@ -2,6 +2,8 @@
 use Rattle.std.specs.Prelude.{◌≡◌, ◌⊎◌, ℕ, ◌+◌, ◌<◌, ◌≤◌, Bool, true, false, not, ◌&&◌, ◌||◌, List, length, nat_lt, if◌then◌else◌, Option, Some, None, is_some, ⊤}
 use Rattle.model_h1.specs.Event as on
 use Rattle.model_h1.specs.Sums as sums
+use Rattle.model_state.specs.Local.{closing_by}
+use Rattle.h1_connection.specs.EventMeaning.{setting_of}
 use Rattle.h1_connection.specs.State.{State, Stands, IsAllowed}
 use Rattle.h1_client.specs.State as servers
 use Rattle.model_client.specs.ClientKept.{client_closing}
@@ -35,14 +37,19 @@ is_over (Some s) = is_some (client_closing s.kept)
 abbrev pub may_turn : Proxy → Bool
 may_turn p = nat_lt (length p.client.kept.buffered) MAX_WAITING && (may_begin p.sent p.server || is_over p.server) && not (is_closing p)
 
--- No turns are made only while bytes wait for somebody to take them: towards the client, or towards a server connection that isn't to end; or
--- where the client's connection is to end.
-abbrev pub IsFull : Option servers.State → Type 0
-IsFull None = ⊥
-IsFull (Some s) = (MAX_WAITING ≤ length s.kept.buffered) × (client_closing s.kept ≡ None)
+-- The client's side holds turns up, whatever the server's does: 32768 bytes wait for it, or its connection is to end.
+abbrev pub holds_up : State → Bool
+holds_up client = not (nat_lt (length client.kept.buffered) MAX_WAITING) || is_some (closing_by (setting_of client.settings) client.kept)
+
+-- No turns are made only while bytes wait for somebody to take them: towards the client, or, while no request is sent on there, towards a server
+-- connection that isn't to end; or where the client's connection is to end.
+abbrev pub IsFull : Option SentRequest → Option servers.State → Type 0
+IsFull (Some sent) server = ⊥
+IsFull None None = ⊥
+IsFull None (Some s) = (MAX_WAITING ≤ length s.kept.buffered) × (client_closing s.kept ≡ None)
 
 abbrev pub IsHeldUp : Proxy → Type 0
-IsHeldUp p = (MAX_WAITING ≤ length p.client.kept.buffered) ⊎ (IsFull p.server ⊎ (is_closing p ≡ true))
+IsHeldUp p = (MAX_WAITING ≤ length p.client.kept.buffered) ⊎ (IsFull p.sent p.server ⊎ (is_closing p ≡ true))
 
 -- Of a request that was sent on: no head of its answer is there whole, and the server connection may bring it yet, since it isn't to end and
 -- has room for more; once it was passed on, nothing of the answer's body is there, where there is room for a piece: no byte and no end, and

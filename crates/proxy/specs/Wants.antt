@@ -1,5 +1,5 @@
 -- Which answers the client's connection wants after a call, whatever happened before.
-use Rattle.std.specs.Prelude.{◌≡◌, Bool, true, false, List}
+use Rattle.std.specs.Prelude.{◌≡◌, Bool, true, false, ◌==◌, List}
 use Rattle.model_h1.specs.Request.{Head}
 use Rattle.model_h1.specs.Answer.{asked_of, BodySize, is_at_once}
 use Rattle.model_h1.specs.Sums.{Step}
@@ -55,9 +55,13 @@ Wants What old new = (trace : List Step) → Stands old trace → What old new
 abbrev pub IsAskedFor : HeadItem → State → Type 0
 IsAskedFor item s = (h : Head) → SaysHead item h → IsAskedBy (asked_of h).is_head s
 
--- after a head its request is the newest, and waits, and no answer is under way
+-- a client of HTTP/1.0 doesn't wait to be told to go on
+abbrev pub IsToldIfOld : HeadItem → State → Type 0
+IsToldIfOld item s = (h : Head) → SaysHead item h → (h.minor == 0) ≡ true → IsTold s
+
+-- After a head its request is the newest, and waits, no answer is under way, and a client of HTTP/1.0 doesn't wait to be told to go on.
 abbrev pub WantsNext : NextHead → State → State → Type 0
-WantsNext (next.Head item) old new = IsComplete new × IsWaitedFor new × IsAskedFor item new
+WantsNext (next.Head item) old new = IsComplete new × IsWaitedFor new × IsAskedFor item new × IsToldIfOld item new
 WantsNext next.Pending old new = WantsTheSame old new
 WantsNext (next.Fault fault) old new = WantsTheSame old new
 WantsNext (next.Closed end) old new = WantsTheSame old new

@@ -1,13 +1,13 @@
 //! The calls of the client's connection, each where it is allowed.
 #![tactic(auto, using(crate::proofs::Sides::client_same))]
 
-ghost use Rattle.std.specs.Prelude.{IfOk, OnOk, []};
+ghost use Rattle.std.specs.Prelude.{IfOk, OnOk};
 ghost use Rattle.model_h1.specs.Event as on;
 ghost use Rattle.proxy.specs.Sides.{ClientBrings, BringsNext, BringsPulled};
 ghost use Rattle.h1_encoder.specs.Meaning.{answer_of, size_of};
 ghost use Rattle.proxy.specs.Leaves.{LeavesNext, LeavesPulled};
 ghost use Rattle.proxy.specs.Wants.{Wants, WantsTheSame, WantsNext, HasHead, HasEnd, TellsToContinue};
-ghost use Rattle.proxy.specs.Puts.{MayLeave, begins, continues, ends, breaks_off, Puts, MayPut, HandsNext, HandsPulled};
+ghost use Rattle.proxy.specs.Puts.{MayLeave, begins, continues, ends, breaks_off, goes_on, MayPut, HandsNext, HandsPulled};
 
 use h1_connection::{BodySize, Bytes, Connection, NextHead, NoMemory, Pulled, ResponseHead};
 
@@ -56,7 +56,7 @@ pub fn tell_to_continue(client: &mut Connection) -> Result<(), NoMemory>
     ensures brings { OnOk result (ClientBrings on.done client.old client.new) }
     ensures wants { OnOk result (Wants WantsTheSame client.old client.new) }
     ensures told { OnOk result (Wants TellsToContinue client.old client.new) }
-    ensures puts { OnOk result (Puts [] client.old client.new) }
+    ensures puts { OnOk result (MayPut goes_on client.old client.new) }
 {
     if !client.can_continue() {
         return Ok(());

@@ -1,14 +1,14 @@
 //! The events.
 #![tactic(auto)]
 
-ghost use Rattle.std.specs.Prelude.{◌≡◌, ◌≤◌, length, take, None, Some, IsTrue, IfOk, OnOk};
+ghost use Rattle.std.specs.Prelude.{◌≡◌, ◌≤◌, length, take, true, false, None, Some, IsTrue, IfOk, IsOk, OnOk};
 ghost use Rattle.model_h1.specs.Event as on;
 ghost use Rattle.model_client.specs.ClientEvent as asked;
 ghost use Rattle.h1_connection.specs.State.{State, GoesOn, Is};
 ghost use Rattle.h1_connection.specs.Ticks.{expiry_of};
 ghost use Rattle.model_proxy.specs.Past.{took, gave, done};
 ghost use Rattle.model_proxy.specs.Past as event;
-ghost use Rattle.proxy.specs.Rests.{Settles};
+ghost use Rattle.proxy.specs.Rests.{may_turn, holds_up, Settles};
 ghost use Rattle.proxy.specs.Replies.{PutsNothing, Replies, RepliesRefused};
 ghost use Rattle.proxy.specs.Served.{Serves, GoesOnServing};
 ghost use Rattle.proxy.specs.Kept.{client_of, server_of, wants_server, server_text, server_allows, client_takes, client_room, server_room, TakesAll, Goes, GoesBy};
@@ -26,6 +26,7 @@ impl Proxy {
         ensures rests { OnOk result (Settles self.old self.new) }
         ensures serves { OnOk result (Serves self.old self.new) }
         ensures replies { IfOk result (λ count. Replies (event.client bytes.now) (took count) self.old self.new) }
+        ensures no_memory_needed { client_room self.old ≡ 0 → may_turn self.old ≡ false → IsOk result }
     {
         let taken = self.take_from_client(bytes)?;
         self.settle()?;
@@ -37,6 +38,7 @@ impl Proxy {
         ensures took { IfOk result (λ count. TakesAll count bytes.now (client_room self.old) self.old) }
         ensures serves { OnOk result (GoesOnServing self.old self.new) }
         ensures replies { OnOk result (PutsNothing (event.client bytes.now) self.old self.new) }
+        ensures nothing { client_room self.old ≡ 0 → IsOk result × (self.new ≡ self.old) }
     {
         if self.client_room() == 0 {
             return Ok(0);
@@ -55,6 +57,7 @@ impl Proxy {
         ensures rests { OnOk result (Settles self.old self.new) }
         ensures serves { OnOk result (Serves self.old self.new) }
         ensures replies { IfOk result (λ count. Replies (event.server bytes.now) (took count) self.old self.new) }
+        ensures no_memory_needed { server_room self.old ≡ 0 → may_turn self.old ≡ false → IsOk result }
     {
         let taken = self.take_from_server(bytes)?;
         self.settle()?;
@@ -66,6 +69,7 @@ impl Proxy {
         ensures took { IfOk result (λ count. TakesAll count bytes.now (server_room self.old) self.old) }
         ensures serves { OnOk result (GoesOnServing self.old self.new) }
         ensures replies { OnOk result (PutsNothing (event.server bytes.now) self.old self.new) }
+        ensures nothing { server_room self.old ≡ 0 → IsOk result × (self.new ≡ self.old) }
     {
         if self.server_room() == 0 {
             return Ok(0);
@@ -87,6 +91,7 @@ impl Proxy {
         ensures rests { OnOk result (Settles self.old self.new) }
         ensures serves { OnOk result (Serves self.old self.new) }
         ensures replies { OnOk result (Replies event.client_eof done self.old self.new) }
+        ensures no_memory_needed { client_takes self.old on.eof ≡ false → may_turn self.old ≡ false → IsOk result }
     {
         self.end_client();
         self.settle()?;
@@ -97,6 +102,7 @@ impl Proxy {
         ensures goes { GoesBy event.client_eof done self.old self.new }
         ensures serves { GoesOnServing self.old self.new }
         ensures replies { PutsNothing event.client_eof self.old self.new }
+        ensures nothing { client_takes self.old on.eof ≡ false → self.new ≡ self.old }
     {
         if !self.client.can_read() {
             return;
@@ -111,6 +117,7 @@ impl Proxy {
         ensures rests { OnOk result (Settles self.old self.new) }
         ensures serves { OnOk result (Serves self.old self.new) }
         ensures replies { OnOk result (Replies event.server_eof done self.old self.new) }
+        ensures no_memory_needed { holds_up (client_of self.old) ≡ true → IsOk result }
     {
         self.end_server();
         self.settle()?;
@@ -137,8 +144,9 @@ impl Proxy {
         ensures rests { OnOk result (Settles self.old self.new) }
         ensures serves { OnOk result (Serves self.old self.new) }
         ensures replies { OnOk result (Replies event.connected done self.old self.new) }
+        ensures no_memory_needed { holds_up (client_of self.old) ≡ true → IsOk result }
     {
-        self.server = Some(ClientConnection::new(self.alloc, self.config));
+        self.server = Some(ClientConnection::new(self.alloc, self.config.connections));
         self.settle()?;
         Ok(())
     }
@@ -181,6 +189,7 @@ impl Proxy {
         ensures rests { OnOk result (Settles self.old self.new) }
         ensures serves { OnOk result (Serves self.old self.new) }
         ensures replies { OnOk result (Replies (event.to_server count) (gave (take count (server_text (server_of self.old)))) self.old self.new) }
+        ensures no_memory_needed { holds_up (client_of self.old) ≡ true → IsOk result }
     {
         self.write_server(count);
         self.settle()?;

@@ -1,42 +1,36 @@
 //! What a forwarder does of its own between two events, turn by turn.
 #![tactic(auto)]
 
-ghost use Rattle.std.specs.Prelude.{◌≡◌, ◌<◌, ◌+◌, ◌*◌, ◌||◌, [], IsTrue, None, Some, true, false, not, is_some, length, OnOk, IfOk};
-ghost use Rattle.model_h1.specs.Event as on;
-ghost use Rattle.model_h1.specs.Request.{Head};
-ghost use Rattle.model_h1.specs.Answer.{asked_of};
-ghost use Rattle.h1_decoder.specs.HeadItem.{SaysHead};
+ghost use Rattle.std.specs.Prelude.{◌≡◌, ◌<◌, ◌+◌, ◌*◌, ◌||◌, [], IsTrue, None, Some, true, false, not, is_some, length, OnOk, IfOk, IsOk};
 ghost use Rattle.proxy.specs.Sides.{ServerStays, SendsBody};
 ghost use Rattle.proxy.specs.Wants.{IsTold};
 ghost use Rattle.model_proxy.specs.Rests.{MAX_WAITING};
-ghost use Rattle.proxy.specs.Kept.{Goes, GoesWith, GoesUnsent, GoesFrom, HoldsNoRequest, Runs, GoesBroken};
+ghost use Rattle.proxy.specs.Kept.{Goes, GoesWith, GoesUnsent, HoldsNoRequest, Runs, GoesBroken, is_closing};
 ghost use Rattle.proxy.specs.Served.{Serving, GoesOnServing, HasNoReply, HasNoReplyTo};
-ghost use Rattle.proxy_heads.specs.ForwardedMeaning.{status_of};
 ghost use Rattle.h1_client.specs.State as servers;
 ghost use Rattle.model_client.specs.ClientKept.{client_closing};
 ghost use Rattle.proxy.specs.Puts.{ends};
-ghost use Rattle.proxy.specs.Fresh.{is_used, is_server_used, IsToldTime, SendsOrWaits, SendsWhereItCan, ClosesOver, BeginsWhereItMay};
-ghost use Rattle.proxy.specs.Replies.{own, KeepsIdle, KeepsFor, may_keep, ReplyIsOver, marks_of, PutsLast, TurnReplies, HasReplied, Fails, Breaks, PassesBody, PassesHead, TakesAnswer, Opens};
-ghost use Rattle.proxy.specs.Rests.{may_begin, is_over, may_turn, Settles, LeavesLess, LeavesMore, Works, WorksBody, Turns, IsNotToEnd};
+ghost use Rattle.proxy.specs.Fresh.{is_used, is_server_used, IsToldTime, SendsOrWaits, SendsWhereItCan, ClosesOver, BeginsWhereItMay, AddsBelow, SendsBelow};
+ghost use Rattle.proxy.specs.Replies.{refusal_part, KeepsIdle, may_keep, ReplyIsOver, marks_of, PutsLast, TurnReplies, HasReplied, Fails, Breaks, PassesBody, PassesHead, TakesAnswer};
+ghost use Rattle.proxy.specs.Rests.{may_begin, is_over, may_turn, Settles, LeavesLess, Works, WorksBody, Turns, IsNotToEnd};
 
 use crate::downstream::{
-    cut_reply, leave_body, next_bytes, next_head, put_end, put_head, put_piece, tell_to_continue,
+    cut_reply, leave_body, next_bytes, next_head, put_end, put_head, put_piece,
 };
 use crate::proxy::{MAX_WAITING, Proxy, SentRequest, Unsent};
 use crate::upstream::{ask, next_answer, next_piece, sends_body, tick_server};
 use h1_client::{ClientConnection, NextAnswer, ResponseItem};
-use h1_connection::{BodySize, HeadItem, NextHead, NoMemory, Pulled, StatusCode};
-use proxy_heads::{
-    AnswerUse, Refusal, answer_use, is_forwardable, reply_head, reply_size, says_close,
-};
+use h1_connection::{BodySize, NextHead, NoMemory, Pulled, StatusCode};
+use proxy_heads::{AnswerUse, Refusal, answer_use, reply_head, reply_size, says_close};
 
 impl Proxy {
-    /// Makes turns until none is possible.
+    /// Makes turns until none is possible. Where none may be made it takes no memory.
     pub(crate) fn settle(&mut self) -> Result<(), NoMemory>
         ensures goes { OnOk result (Goes self.old self.new) }
         ensures rests { OnOk result (Settles self.old self.new) }
         ensures serves { OnOk result (GoesOnServing self.old self.new) }
         ensures replies { OnOk result (HasReplied self.old self.new) }
+        ensures no_memory_needed { may_turn self.old ≡ false → IsOk result }
     {
         for turn in 0..self.most_turns() {
             let more = self.turn()?;
@@ -49,9 +43,9 @@ impl Proxy {
 
     // No more turns are possible one after another: 32 for each byte that may be held of a side, and 8.
     fn most_turns(&self) -> usize
-        ensures { result ≡ 32 * self.now.config.h1_hold_size + 8 }
+        ensures { result ≡ 32 * self.now.config.connections.h1_hold_size + 8 }
     {
-        32 * self.config.h1_hold_size() + 8
+        32 * self.config.connections.h1_hold_size() + 8
     }
 
     // The first turn that is possible; whether there was one.
@@ -63,6 +57,8 @@ impl Proxy {
         ensures begins { OnOk result (BeginsWhereItMay self.old self.new) }
         ensures sends { OnOk result (SendsWhereItCan self.old self.new) }
         ensures keeps { OnOk result (KeepsIdle self.old self.new) }
+        ensures no_memory_needed { may_turn self.old ≡ false → IsOk result }
+        ensures below { OnOk result (SendsBelow self.old self.new) }
     {
         if self.is_still() {
             return Ok(false);
@@ -115,6 +111,7 @@ impl Proxy {
         ensures replies { OnOk result (TurnReplies (record self.old { unsent = Some unsent }) self.new) }
         ensures sends { OnOk result (SendsOrWaits unsent (record self.old { unsent = Some unsent }) self.new) }
         ensures closes { OnOk result (ClosesOver (record self.old { unsent = Some unsent }) self.new) }
+        ensures below { OnOk result (self.old.sent ≡ None → may_turn self.old ≡ true → AddsBelow self.old.server self.new.server) }
     {
         if self.is_server_used() {
             self.server = None;
@@ -163,21 +160,24 @@ impl Proxy {
     fn tell_time(&self, server: &mut ClientConnection)
         ensures stays { ServerStays server.old server.new }
         ensures told { IsToldTime self.now.moment server.old server.new }
+        ensures waits { server.new.kept.buffered ≡ server.old.kept.buffered }
     {
         if let Some(moment) = self.moment {
             tick_server(server, moment);
         }
     }
 
-    // No request waits.
+    // No request waits, and the client's connection isn't to end.
     fn go_on(&mut self) -> Result<bool, NoMemory>
         requires unsent { self.old.unsent ≡ None }
+        requires going { is_closing self.old ≡ false }
         ensures goes { OnOk result (Goes self.old self.new) }
         ensures works { IfOk result (λ more. Works more self.old self.new) }
         ensures serves { OnOk result (GoesOnServing self.old self.new) }
         ensures replies { OnOk result (TurnReplies self.old self.new) }
         ensures keeps { OnOk result (KeepsIdle self.old self.new) }
         ensures closes { OnOk result (ClosesOver self.old self.new) }
+        ensures below { OnOk result (AddsBelow self.old.server self.new.server) }
     {
         match self.sent {
             Some(sent) => {
@@ -194,12 +194,14 @@ impl Proxy {
     // No request is under way: the server connection is idle.
     fn begin(&mut self) -> Result<bool, NoMemory>
         requires idle { HoldsNoRequest self.old }
+        requires going { is_closing self.old ≡ false }
         ensures goes { OnOk result (Goes self.old self.new) }
         ensures works { IfOk result (λ more. Works more self.old self.new) }
         ensures serves { OnOk result (GoesOnServing self.old self.new) }
         ensures replies { OnOk result (TurnReplies self.old self.new) }
         ensures keeps { OnOk result (KeepsIdle self.old self.new) }
         ensures closes { OnOk result (ClosesOver self.old self.new) }
+        ensures below { OnOk result (AddsBelow self.old.server self.new.server) }
     {
         if self.is_server_over() {
             self.server = None;
@@ -212,12 +214,14 @@ impl Proxy {
     // The next request's head; the server connection, if there is one, isn't to end.
     fn take_head(&mut self) -> Result<bool, NoMemory>
         requires idle { HoldsNoRequest self.old }
+        requires going { is_closing self.old ≡ false }
         requires goes_on { IsNotToEnd self.old.server }
         ensures goes { OnOk result (Goes self.old self.new) }
         ensures works { IfOk result (λ more. Works more self.old self.new) }
         ensures serves { OnOk result (GoesOnServing self.old self.new) }
         ensures replies { OnOk result (TurnReplies self.old self.new) }
         ensures keeps { OnOk result (KeepsIdle self.old self.new) }
+        ensures below { OnOk result (AddsBelow self.old.server self.new.server) }
     {
         match next_head(&mut self.client)? {
             NextHead::Head(item) => {
@@ -233,26 +237,6 @@ impl Proxy {
         }
     }
 
-    // A request is open. One that can't be sent on gets 501, and the server connection is closed.
-    fn open(&mut self, item: HeadItem) -> Result<(), NoMemory>
-        requires idle { HoldsNoRequest self.old }
-        ensures goes { OnOk result (GoesFrom item self.old self.new) }
-        ensures works { OnOk result (LeavesMore 3 self.old self.new) }
-        ensures serves { OnOk result ((h : Head) → SaysHead item h → HasNoReplyTo (asked_of h).is_head self.old → Serving self.new) }
-        ensures replies { OnOk result (Opens item self.old.client self.new) }
-        ensures keeps { OnOk result (KeepsFor item self.old self.new) }
-    {
-        if !is_forwardable(&item) {
-            self.server = None;
-            self.note_request(item.head);
-            self.reply(Refusal::NotForwardable)?;
-            return Ok(());
-        }
-        self.unsent = Some(Unsent::new(item));
-        tell_to_continue(&mut self.client)?;
-        Ok(())
-    }
-
     // A request is under way.
     fn pass_on(&mut self, sent: SentRequest) -> Result<bool, NoMemory>
         requires runs { Runs sent self.old }
@@ -260,6 +244,7 @@ impl Proxy {
         ensures works { IfOk result (λ more. Works more self.old self.new) }
         ensures serves { OnOk result (GoesOnServing self.old self.new) }
         ensures replies { OnOk result (TurnReplies self.old self.new) }
+        ensures below { OnOk result (AddsBelow self.old.server self.new.server) }
     {
         match self.server.take() {
             Some(server) => {
@@ -280,6 +265,7 @@ impl Proxy {
         ensures works { IfOk result (λ more. Works more (record self.old { server = Some server }) self.new) }
         ensures serves { OnOk result (GoesOnServing self.old self.new) }
         ensures replies { OnOk result (TurnReplies (record self.old { server = Some server }) self.new) }
+        ensures below { OnOk result (AddsBelow (Some server) self.new.server) }
     {
         if sent.is_answered {
             let moved = self.pass_piece(sent, server)?;
@@ -296,6 +282,7 @@ impl Proxy {
         ensures works { IfOk result (λ more. sent.is_answered ≡ false → Works more (record self.old { server = Some server }) self.new) }
         ensures serves { OnOk result (sent.is_answered ≡ false → GoesOnServing self.old self.new) }
         ensures replies { OnOk result (sent.is_answered ≡ false → TurnReplies (record self.old { server = Some server }) self.new) }
+        ensures below { OnOk result (AddsBelow (Some server) self.new.server) }
     {
         let mut server = server;
         match next_answer(&mut server)? {
@@ -330,6 +317,7 @@ impl Proxy {
         ensures works { OnOk result (LeavesLess 0 (record self.old { server = Some server }) self.new) }
         ensures serves { OnOk result (sent.is_answered ≡ false → GoesOnServing self.old self.new) }
         ensures replies { OnOk result (TakesAnswer sent server item self.old self.new) }
+        ensures below { OnOk result (AddsBelow (Some server) self.new.server) }
     {
         match answer_use(&item) {
             AnswerUse::Refuse => {
@@ -359,6 +347,7 @@ impl Proxy {
         ensures works { OnOk result (LeavesLess 0 (record self.old { server = Some server }) self.new) }
         ensures serves { OnOk result (HasNoReplyTo sent.is_head self.old → IsTold self.old.client → Serving self.new) }
         ensures replies { OnOk result (PassesHead sent server item self.old.client self.new) }
+        ensures below { OnOk result (AddsBelow (Some server) self.new.server) }
     {
         let status = status_of(&item);
         self.pass_head(sent, server, item)?;
@@ -377,6 +366,7 @@ impl Proxy {
         ensures works { OnOk result (LeavesLess 0 (record self.old { server = Some server }) self.new) }
         ensures serves { OnOk result (HasNoReplyTo sent.is_head self.old → IsTold self.old.client → Serving self.new) }
         ensures replies { OnOk result (PassesHead sent server item self.old.client self.new) }
+        ensures below { OnOk result (AddsBelow (Some server) self.new.server) }
     {
         let size = reply_size(sent.is_head, &item);
         let sent = answered(sent, says_close(&item));
@@ -400,6 +390,7 @@ impl Proxy {
         ensures works { IfOk result (λ more. sent.is_answered ≡ true → Works more (record self.old { server = Some server }) self.new) }
         ensures serves { OnOk result (sent.is_answered ≡ true → GoesOnServing self.old self.new) }
         ensures replies { OnOk result (sent.is_answered ≡ true → TurnReplies (record self.old { server = Some server }) self.new) }
+        ensures below { OnOk result (AddsBelow (Some server) self.new.server) }
     {
         if !self.client.can_chunk() {
             let moved = self.pass_body(sent, server)?;
@@ -439,6 +430,7 @@ impl Proxy {
         ensures serves { OnOk result (sent.is_answered ≡ true → GoesOnServing self.old self.new) }
         ensures replies { OnOk result (PutsLast [] ends self.old.client self.new.client) }
         ensures over { OnOk result (ReplyIsOver sent.is_whole sent.closes server self.new) }
+        ensures below { OnOk result (AddsBelow (Some server) self.new.server) }
     {
         leave_body(&mut self.client);
         put_end(&mut self.client)?;
@@ -454,6 +446,7 @@ impl Proxy {
         ensures serves { GoesOnServing (record self.old { sent = None }) self.new }
         ensures client { self.new.client ≡ self.old.client }
         ensures over { ReplyIsOver sent.is_whole sent.closes server self.new }
+        ensures below { AddsBelow (Some server) self.new.server }
     {
         self.sent = None;
         if may_keep(sent, &server) {
@@ -470,6 +463,7 @@ impl Proxy {
         ensures works { IfOk result (λ more. WorksBody sent server more self.old self.new) }
         ensures serves { OnOk result (GoesOnServing self.old self.new) }
         ensures replies { OnOk result (PassesBody sent server self.old.client self.new) }
+        ensures below { OnOk result (AddsBelow (Some server) self.new.server) }
     {
         if !may_send(sent, &server) {
             self.server = Some(server);
@@ -511,6 +505,7 @@ impl Proxy {
         ensures works { OnOk result (sent.is_whole ≡ false → sent.is_broken ≡ false → LeavesLess 1 (record self.old { server = Some server }) self.new) }
         ensures serves { OnOk result (GoesOnServing self.old self.new) }
         ensures replies { OnOk result (Breaks sent.is_answered sent server self.old.client self.new) }
+        ensures below { OnOk result (AddsBelow (Some server) self.new.server) }
     {
         if sent.is_answered {
             self.server = Some(server);
@@ -547,7 +542,7 @@ impl Proxy {
         ensures goes { OnOk result (Goes self.old self.new) }
         ensures works { OnOk result (LeavesLess 0 self.old self.new) }
         ensures serves { OnOk result (HoldsNoRequest self.old → HasNoReply self.old → Serving self.new) }
-        ensures replies { OnOk result (PutsLast [] (own (status_of refusal)) self.old.client self.new.client) }
+        ensures replies { OnOk result (PutsLast [] (refusal_part refusal) self.old.client self.new.client) }
         ensures idle { OnOk result (HoldsNoRequest self.old → HoldsNoRequest self.new) }
         ensures server { OnOk result (self.new.server ≡ self.old.server) }
     {
@@ -627,10 +622,11 @@ fn has_read_all(server: &ClientConnection) -> bool
     server.can_next()
 }
 
-// Whether more of the request's body may be sent on.
+// Whether more of the request's body may be sent on: never where 32768 bytes wait towards the server.
 fn may_send(sent: SentRequest, server: &ClientConnection) -> bool
     ensures sends { IsTrue result → SendsBody server.now }
     ensures more { IsTrue result → (sent.is_whole ≡ false) × (sent.is_broken ≡ false) }
+    ensures room { IsTrue result → length server.now.kept.buffered < MAX_WAITING }
     ensures none { result ≡ false → sent.is_whole ≡ false → sent.is_broken ≡ false → length server.now.kept.buffered < MAX_WAITING → SendsBody server.now → ⊥ }
 {
     if sent.is_whole {

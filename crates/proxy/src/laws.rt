@@ -12,6 +12,7 @@ ghost use Rattle.model_client.specs.ClientTrace.{Happened, IsClientTrace, taken}
 ghost use Rattle.h1_client.specs.State as servers;
 ghost use Rattle.model_proxy.specs.Past.{ProxyStep};
 ghost use Rattle.model_proxy.specs.Happenings.{Happenings};
+ghost use Rattle.model_proxy.specs.Wants.{is_of_old};
 ghost use Rattle.proxy.specs.Leaves.{LacksHead, IsAwaited, LacksBytes};
 ghost use Rattle.proxy.specs.declared.proxy.Proxy.{Proxy};
 ghost use Rattle.proxy.specs.Kept.{client_of, server_of, wants_server, client_takes, Forwards};
@@ -34,7 +35,8 @@ pub fn no_more_is_held()
 /// its answer waits for a server connection that is wanted, or for the answer of one that is there, which isn't to end, has room for more
 /// bytes, and whose next answer hasn't come; and an answer that isn't complete has a server connection whose input hasn't ended and from
 /// which a further pull would give nothing, neither bytes nor the answer's end, where there is room for a piece. And where the client's
-/// connection goes on, turns may be made unless 32768 bytes wait for the client to take them, or for a server whose connection isn't to end.
+/// connection goes on, turns may be made unless 32768 bytes wait for the client to take them, or, while no request is sent on there, for a
+/// server whose connection isn't to end.
 pub fn no_client_waits_in_vain()
     ensures answer { (p : Proxy) → IsServed p → RestsWhereItMay p → may_turn p ≡ true → (client_of p).kept.is_over ≡ false
         → waits_for_answer (client_of p).kept ≡ true → (wants_server p ≡ true) ⊎ ((s : servers.State) × (server_of p ≡ Some s) × IsAwaited s) }
@@ -53,10 +55,11 @@ pub fn no_request_is_left_behind()
         → LacksHead (client_of p) }
 {}
 
-/// No client waits to be told to go on. After an event no 100 may be sent: a request that is under way has a client that doesn't wait for it,
-/// or was told, while its connection goes on; and no other request waits for its answer.
+/// No client waits to be told to go on. After an event a 100 may be sent only where the newest request is of HTTP/1.0, whose client never gets one:
+/// any other that is under way has a client that doesn't wait for it, or was told, while its connection goes on; and no other request waits for its
+/// answer.
 pub fn no_client_waits_to_be_told()
-    ensures { (p : Proxy) → IsServed p → client_takes p on.send_continue ≡ false }
+    ensures { (p : Proxy) → IsServed p → client_takes p on.send_continue ≡ true → is_of_old (client_of p).kept ≡ true }
 {}
 
 /// A request counts as one of HEAD where its method is HEAD, and nowhere else. What is kept of the one under way, that it is one of HEAD or

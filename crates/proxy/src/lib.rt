@@ -9,7 +9,8 @@
 //! # Example
 //!
 //! ```ignore
-//! let mut proxy = Proxy::new(alloc, config);
+//! let edge = Edge::new(alloc, client, server)?;
+//! let mut proxy = Proxy::new(alloc, ProxyConfig { connections, edge });
 //! proxy.read_client(b"GET /x HTTP/1.1\r\nhost: a\r\n\r\n")?;
 //! if proxy.wants_server() {
 //!     proxy.connected()?;
@@ -28,9 +29,11 @@ mod events;
 mod forwarding;
 pub mod laws;
 mod notes;
+mod opening;
 mod proxy;
 pub mod upstream;
 
 pub use h1_connection::{Bytes, End, Expiry, NoMemory, RequestHead, ServiceConfig, StatusCode};
 pub use notes::BegunReply;
-pub use proxy::Proxy;
+pub use proxy::{Proxy, ProxyConfig};
+pub use proxy_heads::Edge;

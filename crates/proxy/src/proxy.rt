@@ -1,5 +1,5 @@
 //! A forwarder: what it keeps, and what it says of itself.
-ghost use Rattle.std.specs.Prelude.{◌≡◌, ◌≤◌, ◌++◌, ℕ, List, [], length, true, false, None, is_some, option_map};
+ghost use Rattle.std.specs.Prelude.{◌≡◌, ◌≤◌, ◌++◌, ℕ, List, [], length, true, false, None, is_some, option_map, IfOk};
 ghost use Rattle.model_h1.specs.Event as on;
 ghost use Rattle.model_h1.specs.Request.{Head};
 ghost use Rattle.model_h1.specs.Answer.{asked_of};
@@ -12,17 +12,28 @@ ghost use Rattle.model_state.specs.Deadline.{deadline_by};
 ghost use Rattle.model_state.specs.Local.{closing_by};
 ghost use Rattle.model_state.specs.Runs.{first_segment};
 ghost use Rattle.model_proxy.specs.Happenings.{nothing_happened};
+ghost use Rattle.proxy_heads.specs.Edges.{edge_of};
 ghost use Rattle.proxy.specs.Served.{IsServed};
-ghost use Rattle.proxy.specs.Kept.{client_of, server_of, Forwards, IsUnsent, is_closing, wants_server, server_text, server_allows, client_takes, client_room, server_room, is_reusable, is_answering};
+ghost use Rattle.proxy.specs.Kept.{client_of, server_of, Forwards, IsUnsent, is_closing, wants_server, server_text, server_allows, client_takes, client_room, server_room, is_idle, is_to_send, is_draining, is_reusable, is_answering, may_be_gone};
 
 use crate::notes::Notes;
 use h1_client::ClientConnection;
-use h1_connection::{BodySize, Connection, End, HeadItem, RequestHead, ServiceConfig};
-use proxy_heads::{forwarded_head, forwarded_size};
+use h1_connection::{BodySize, Connection, End, HeadItem, NoMemory, RequestHead, ServiceConfig};
+use proxy_heads::{Edge, forwarded_head, forwarded_size};
 use std::alloc::Global;
 
 /// Where so many bytes wait towards a side, nothing more is taken from the other side, and nothing more goes to it: 32768.
 pub(crate) const MAX_WAITING: usize = 32768;
+
+/// What a forwarder is set up with.
+#[derive(Drop)]
+pub struct ProxyConfig {
+    /// The settings of the client's connection, and of each to a server.
+    pub connections: ServiceConfig,
+
+    /// What servers are told of the client, and how its heads are judged.
+    pub edge: Edge,
+}
 
 /// A client's connection beside one to a server, which reads nothing and writes nothing itself.
 ///
@@ -30,7 +41,7 @@ pub(crate) const MAX_WAITING: usize = 32768;
 #[derive(Drop)]
 pub struct Proxy {
     pub(crate) alloc: Global,
-    pub(crate) config: ServiceConfig,
+    pub(crate) config: ProxyConfig,
 
     /// The client's connection.
     pub(crate) client: Connection,
@@ -79,10 +90,11 @@ pub(crate) struct SentRequest {
 }
 
 impl Unsent {
-    pub(crate) fn new(item: HeadItem) -> Unsent
-        ensures unsent { (h : Head) → SaysHead item h → is_forwardable h ≡ true → IsUnsent result h }
-        ensures unanswered { result.sent.is_answered ≡ false }
-        ensures asked { (h : Head) → SaysHead item h → result.sent.is_head ≡ (asked_of h).is_head }
+    pub(crate) fn new(alloc: Global, edge: &Edge, item: HeadItem) -> Result<Unsent, NoMemory>
+        ensures unsent { IfOk result (λ unsent. (h : Head) → SaysHead item h → is_forwardable (edge_of edge.now) h ≡ true
+            → IsUnsent (edge_of edge.now) unsent h) }
+        ensures unanswered { IfOk result (λ unsent. unsent.sent.is_answered ≡ false) }
+        ensures asked { IfOk result (λ unsent. (h : Head) → SaysHead item h → unsent.sent.is_head ≡ (asked_of h).is_head) }
     {
         let sent = SentRequest {
             is_head: item.is_head(),
@@ -91,27 +103,25 @@ impl Unsent {
             is_answered: false,
             closes: false,
         };
-        let size = forwarded_size(item.body);
-        Unsent {
-            head: forwarded_head(item),
-            size,
-            sent,
-        }
+        let size = forwarded_size(&item);
+        let head = forwarded_head(alloc, edge, item)?;
+        Ok(Unsent { head, size, sent })
     }
 }
 
 impl Proxy {
     /// A forwarder to which nothing has happened yet, without a server connection. It takes no memory.
-    pub fn new(alloc: Global, config: ServiceConfig) -> Proxy
-        ensures client { client_of result ≡ fresh_state config }
+    pub fn new(alloc: Global, config: ProxyConfig) -> Proxy
+        ensures client { client_of result ≡ fresh_state config.connections }
         ensures server { server_of result ≡ None }
         ensures forwards { Forwards result [] nothing_happened }
         ensures serves { IsServed result }
     {
+        let client = Connection::new(alloc, config.connections);
         Proxy {
             alloc,
             config,
-            client: Connection::new(alloc, config),
+            client,
             server: None,
             unsent: None,
             sent: None,
@@ -242,6 +252,57 @@ impl Proxy {
             return 0;
         }
         self.client.read_room()
+    }
+
+    /// Whether the client is to send more: there is room for it, and nothing waits for it to take. Of a body that is read all
+    /// that came was passed on; or no request is under way, and a head is begun, or the rest of a body is dropped.
+    pub fn is_to_send(&self) -> bool
+        ensures { result ≡ is_to_send self.now }
+    {
+        if self.client_room() == 0 {
+            return false;
+        }
+        if self.client.buffered() > 0 {
+            return false;
+        }
+        let has_unread = self.client.held() > 0;
+        if self.client.can_pull() {
+            return !has_unread;
+        }
+        self.is_idle() && (!self.client.can_next() || has_unread)
+    }
+
+    /// Whether the reply is whole and was taken, and the rest of its request's body is dropped.
+    pub fn is_draining(&self) -> bool
+        ensures { result ≡ is_draining self.now }
+    {
+        if self.is_closing() {
+            return false;
+        }
+        if self.client.buffered() > 0 {
+            return false;
+        }
+        self.is_idle() && !self.client.can_next()
+    }
+
+    /// Whether the client's input has ended while no answer to its request has begun. Nothing tells such a client from one
+    /// that has gone.
+    pub fn may_be_gone(&self) -> bool
+        ensures { result ≡ may_be_gone self.now }
+    {
+        if self.client.can_read() {
+            return false;
+        }
+        if self.is_closing() {
+            return false;
+        }
+        !self.is_idle() && !self.is_answering()
+    }
+
+    fn is_idle(&self) -> bool
+        ensures { result ≡ is_idle self.now }
+    {
+        self.unsent.is_none() && self.sent.is_none()
     }
 
     /// The most bytes that a read from the server takes now: none while 32768 wait towards the client.

@@ -16,6 +16,7 @@ use http_types::{NoMemory, RequestHead};
 pub fn tick_server(server: &mut ClientConnection, moment: u64)
     ensures stays { ServerStays server.old server.new }
     ensures told { IsToldMoment moment server.old server.new }
+    ensures waits { server.new.kept.buffered ≡ server.old.kept.buffered }
 {
     if !server.can_tick(moment) {
         return;
@@ -55,6 +56,7 @@ pub fn next_answer(server: &mut ClientConnection) -> Result<NextAnswer, NoMemory
     ensures time { OnOk result (KeepsTime server.old server.new) }
     ensures leaves { IfOk result (λ next. LeavesAnswer next server.old server.new) }
     ensures hands { IfOk result (λ next. HandsAnswer next server.old server.new) }
+    ensures waits { OnOk result (server.new.kept.buffered ≡ server.old.kept.buffered) }
 {
     if !server.can_next() {
         return Ok(NextAnswer::Closed(ClientEnd::BrokenAnswer));
@@ -69,6 +71,7 @@ pub fn next_piece(server: &mut ClientConnection) -> Result<Pulled, NoMemory>
     ensures time { OnOk result (KeepsTime server.old server.new) }
     ensures leaves { IfOk result (λ pulled. LeavesPiece pulled server.old server.new) }
     ensures hands { IfOk result (λ pulled. HandsPiece pulled server.old server.new) }
+    ensures waits { OnOk result (server.new.kept.buffered ≡ server.old.kept.buffered) }
 {
     if !server.can_pull() {
         return Ok(last_piece(server));

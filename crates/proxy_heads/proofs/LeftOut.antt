@@ -1,6 +1,6 @@
 -- The lines that stay behind, one name after another.
-use Rattle.std.proofs.Common.{◌≡◌, ℕ, Bool, true, false, not, List, [], ◌∷◌, ◌++◌, flat_map, bytes_eq, codes, refl, sym, ap, ◌∙◌, eqb, append-nil}
-use Rattle.std.specs.Prelude.{◌||◌}
+use Rattle.std.proofs.Common.{◌≡◌, ℕ, Bool, true, false, not, List, [], ◌∷◌, ◌++◌, flat_map, bytes_eq, codes, refl, sym, ap, ◌∙◌, eqb, append-nil, append_assoc}
+use Rattle.std.specs.Prelude.{◌||◌, if◌then◌else◌}
 use Rattle.std.specs.List.{IsDistinct}
 use Rattle.std.proofs.lemmas.Bool.{cond-true, cond-false}
 use Rattle.std.proofs.lemmas.List.Folds.{list_any-append, flat_map-map}
@@ -11,10 +11,10 @@ use Rattle.model_h1.specs.AnswerText.{by_name}
 use Rattle.h1_encoder.specs.Meaning.{headers_of}
 use Rattle.model_ends.proofs.ValuesByName.{by_name_values}
 use Rattle.model_proxy.specs.HopNames.{words_in, connection_words, standing_hops, hop_names, is_among, without}
-use Rattle.model_proxy.specs.Forward.{left_out, forwarded_lines}
-use Rattle.model_proxy.specs.Answers.{reply_lines}
+use Rattle.model_proxy.specs.Forward.{client_names}
 use Rattle.proxy_heads.specs.Words.{word_of, listed_words}
-use Rattle.proxy_heads.specs.ForwardedMeaning.{other_hops, length_name, passed_lines}
+use Rattle.proxy_heads.specs.Edges.{own_head_names, kept_lines}
+use Rattle.proxy_heads.specs.ForwardedMeaning.{other_hops, length_name, answer_lines}
 use Rattle.proxy_heads.proofs.MapLemmas.{map_values, by_name-without}
 
 -- names may be left out one part after the other
@@ -59,14 +59,18 @@ words_in_map m distinct =
 pub same_words : (hs : List Header) → connection_words (by_name hs) ≡ connection_words hs
 same_words hs = ap (flat_map words_in) (by_name_values (codes "connection") hs)
 
--- so the same lines stay behind
-pub forwarded_by_name : (hs : List Header) → forwarded_lines (by_name hs) ≡ by_name (forwarded_lines hs)
-forwarded_by_name hs =
-    ap (λ (words : List (List ℕ)). without ((standing_hops ++ words) ++ codes "content-length" ∷ codes "expect" ∷ []) (by_name hs)) (same_words hs)
-    ∙ sym (by_name-without (left_out hs) hs)
+-- the names by which earlier clients are told, unless they are trusted
+abbrev told_names : Bool → List (List ℕ)
+told_names trusts = if trusts then [] else client_names
 
-pub passed_by_name : (status : ℕ) (hs : List Header) → passed_lines status (by_name hs) ≡ reply_lines status hs
-passed_by_name status hs =
+-- so the same lines stay behind
+pub kept_by_name : (trusts : Bool) (hs : List Header) → kept_lines trusts (by_name hs) ≡ by_name (kept_lines trusts hs)
+kept_by_name trusts hs =
+    ap (λ (words : List (List ℕ)). without ((standing_hops ++ words) ++ (own_head_names ++ told_names trusts)) (by_name hs)) (same_words hs)
+    ∙ sym (by_name-without (hop_names hs ++ (own_head_names ++ told_names trusts)) hs)
+
+pub answer_by_name : (status : ℕ) (hs : List Header) → answer_lines status (by_name hs) ≡ by_name (answer_lines status hs)
+answer_by_name status hs =
     ap (λ (words : List (List ℕ)). without ((standing_hops ++ words) ++ length_name status) (by_name hs)) (same_words hs)
     ∙ sym (by_name-without (hop_names hs ++ length_name status) hs)
 
@@ -88,22 +92,29 @@ hops_removed m values a b c distinct values_are first others listed =
     ∙ sym (without-append standing_hops words hs)
     ∙ ap (λ (ws : List (List ℕ)). without (standing_hops ++ ws) hs) (sym (words_in_map m distinct))
 
--- the lines that aren't sent on
-pub unforwarded_removed : (hs a b c : List Header) → a ≡ without (hop_names hs) hs → b ≡ without (codes "content-length" ∷ []) a
-    → c ≡ without (codes "expect" ∷ []) b → c ≡ forwarded_lines hs
-unforwarded_removed hs a b c hops length expect =
-    let own : List (List ℕ) = codes "content-length" ∷ codes "expect" ∷ [] in
-    expect ∙ then_one (codes "content-length") (codes "expect" ∷ []) a b length ∙ ap (without own) hops ∙ sym (without-append (hop_names hs) own hs)
+-- the lines that aren't sent on, where the client is trusted and where it isn't
+pub trusted_kept : (hs a b : List Header) (trusts : Bool) → trusts ≡ true → a ≡ without (hop_names hs) hs → b ≡ without own_head_names a → b ≡ kept_lines trusts hs
+trusted_kept hs a b trusts is hops own =
+    own ∙ ap (without own_head_names) hops ∙ sym (without-append (hop_names hs) own_head_names hs)
+    ∙ ap (λ (t : Bool). kept_lines t hs) (sym is)
+
+pub others_kept : (hs a b c : List Header) (trusts : Bool) → trusts ≡ false → a ≡ without (hop_names hs) hs → b ≡ without own_head_names a
+    → c ≡ without client_names b → c ≡ kept_lines trusts hs
+others_kept hs a b c trusts is hops own told =
+    told ∙ ap (without client_names) (own ∙ ap (without own_head_names) hops ∙ sym (without-append (hop_names hs) own_head_names hs))
+    ∙ sym (without-append (hop_names hs ++ own_head_names) client_names hs)
+    ∙ ap (λ (names : List (List ℕ)). without names hs) (append_assoc (hop_names hs) own_head_names client_names)
+    ∙ ap (λ (t : Bool). kept_lines t hs) (sym is)
 
 -- the lines that aren't passed on, of a 304 and of another
-pub all_passed : (status : ℕ) (hs a : List Header) → eqb status 304 ≡ true → a ≡ without (hop_names hs) hs → a ≡ passed_lines status hs
+pub all_passed : (status : ℕ) (hs a : List Header) → eqb status 304 ≡ true → a ≡ without (hop_names hs) hs → a ≡ answer_lines status hs
 all_passed status hs a is hops =
     let none : length_name status ≡ [] = cond-true (eqb status 304) [] (codes "content-length" ∷ []) is in
     hops ∙ ap (λ (l : List (List ℕ)). without l hs) (sym (append-nil (hop_names hs)))
     ∙ ap (λ (l : List (List ℕ)). without (hop_names hs ++ l) hs) (sym none)
 
 pub length_removed : (status : ℕ) (hs a b : List Header) → eqb status 304 ≡ false → a ≡ without (hop_names hs) hs
-    → b ≡ without (codes "content-length" ∷ []) a → b ≡ passed_lines status hs
+    → b ≡ without (codes "content-length" ∷ []) a → b ≡ answer_lines status hs
 length_removed status hs a b other hops length =
     let one : length_name status ≡ codes "content-length" ∷ [] = cond-false (eqb status 304) [] (codes "content-length" ∷ []) other in
     length ∙ ap (without (codes "content-length" ∷ [])) hops ∙ sym (without-append (hop_names hs) (codes "content-length" ∷ []) hs)

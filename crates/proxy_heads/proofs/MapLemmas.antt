@@ -6,18 +6,21 @@ use Rattle.std.proofs.lemmas.Bool.{cond-true, cond-false}
 use Rattle.std.proofs.lemmas.Bool.Decides.{same_from_decides, Decides-like}
 use Rattle.std.proofs.lemmas.List.{map-append}
 use Rattle.std.proofs.lemmas.List.Elements.{filter-append}
+use Rattle.std.proofs.lemmas.List.Sums.{fold-append}
 use Rattle.std.proofs.lemmas.Slice.Eq.{bytes_eq-Decides}
 use Rattle.http_header.specs.FieldValue.{FieldValue, plain_value}
-use Rattle.http_map.specs.HeaderMap.{Entry, Entries, keys, get_all, append, remove}
+use Rattle.http_map.specs.HeaderMap.{Entry, Entries, keys, get_all, append, remove, IsHeaderMap}
 use Rattle.http_map.proofs.CallerLemmas.{same_bytes}
+use Rattle.http_map.proofs.DistinctLemmas.{IsDistinct-none, IsDistinct-append}
 use Rattle.http_framing.specs.HeaderLines.{header_map}
 use Rattle.model_h1.specs.Request.{Header}
 use Rattle.model_h1.specs.LengthTable.{values_of}
 use Rattle.model_h1.specs.AnswerText.{appended, by_name}
 use Rattle.h1_encoder.specs.Meaning.{lines_of, headers_of}
-use Rattle.h1_encoder.proofs.ByName.{AreFilled}
+use Rattle.h1_encoder.proofs.ByName.{AreFilled, all_filled, by_name-map}
 use Rattle.model_ends.proofs.Framing.{values-append}
 use Rattle.model_proxy.specs.HopNames.{is_among, without}
+use Rattle.proxy_heads.proofs.Groups.{groups_all}
 
 eq_sym : (a b : List ℕ) → bytes_eq a b ≡ bytes_eq b a
 eq_sym a b = same_from_decides (bytes_eq a b) (bytes_eq b a) (bytes_eq-Decides a b) (Decides-like (bytes_eq b a) sym sym (bytes_eq-Decides b a))
@@ -149,14 +152,15 @@ append_filled name v (e ∷ m) filled = by_test (bytes_eq name e.0) (append_fill
     by_test true others = (longer e.1 filled.0, filled.1)
     by_test false others = (filled.0, others)
 
-append_lines : (h : Header) (m : Entries) → AreFilled m → map lines_of (append m h.name (plain_value h.value)) ≡ appended (map lines_of m) h
+append_lines : (own : List ℕ) (w : FieldValue) (m : Entries) → AreFilled m
+    → map lines_of (append m own w) ≡ appended (map lines_of m) (record { name = own; value = w.bytes })
 unfolding appended
-append_lines h [] filled = refl
-append_lines h ((name, []) ∷ m) filled = absurd (omega (arith, filled.0))
-append_lines h ((name, v ∷ values) ∷ m) filled = by_test (bytes_eq h.name name) refl (append_lines h m filled.1)
+append_lines own w [] filled = refl
+append_lines own w ((name, []) ∷ m) filled = absurd (omega (arith, filled.0))
+append_lines own w ((name, v ∷ values) ∷ m) filled = by_test (bytes_eq own name) refl (append_lines own w m filled.1)
   where
-    value : FieldValue
-    value = plain_value h.value
+    h : Header
+    h = record { name = own; value = w.bytes }
 
     first : Header
     first = record { name = name; value = v.bytes }
@@ -164,27 +168,27 @@ append_lines h ((name, v ∷ values) ∷ m) filled = by_test (bytes_eq h.name na
     group : List Header
     group = lines_of (name, values)
 
-    by_test : (t : Bool) → bytes_eq h.name name ≡ t → map lines_of (append m h.name value) ≡ appended (map lines_of m) h
-        → map lines_of (append ((name, v ∷ values) ∷ m) h.name value) ≡ appended (map lines_of ((name, v ∷ values) ∷ m)) h
+    by_test : (t : Bool) → bytes_eq own name ≡ t → map lines_of (append m own w) ≡ appended (map lines_of m) h
+        → map lines_of (append ((name, v ∷ values) ∷ m) own w) ≡ appended (map lines_of ((name, v ∷ values) ∷ m)) h
     by_test true is others =
-        let same : lines_of (name, value ∷ []) ≡ h ∷ [] = ap (λ (n : List ℕ). lines_of (n, value ∷ [])) (sym (same_bytes h.name name is)) in
-        ap (map lines_of) (cond-true (bytes_eq h.name name) ((name, (v ∷ values) ++ value ∷ []) ∷ m) ((name, v ∷ values) ∷ append m h.name value) is)
+        let same : lines_of (name, w ∷ []) ≡ h ∷ [] = ap (λ (n : List ℕ). lines_of (n, w ∷ [])) (sym (same_bytes own name is)) in
+        ap (map lines_of) (cond-true (bytes_eq own name) ((name, (v ∷ values) ++ w ∷ []) ∷ m) ((name, v ∷ values) ∷ append m own w) is)
         ∙ ap (λ (l : List Header). (first ∷ l) ∷ map lines_of m)
-        (map-append (λ (w : FieldValue). record { name = name; value = w.bytes }) values (value ∷ []) ∙ ap (λ (l : List Header). group ++ l) same)
-        ∙ sym (cond-true (bytes_eq name h.name) ((first ∷ (group ++ h ∷ [])) ∷ map lines_of m) ((first ∷ group) ∷ appended (map lines_of m) h)
-        (eq_sym name h.name ∙ is))
+        (map-append (λ (x : FieldValue). record { name = name; value = x.bytes }) values (w ∷ []) ∙ ap (λ (l : List Header). group ++ l) same)
+        ∙ sym (cond-true (bytes_eq name own) ((first ∷ (group ++ h ∷ [])) ∷ map lines_of m) ((first ∷ group) ∷ appended (map lines_of m) h)
+        (eq_sym name own ∙ is))
     by_test false is others =
-        ap (map lines_of) (cond-false (bytes_eq h.name name) ((name, (v ∷ values) ++ value ∷ []) ∷ m) ((name, v ∷ values) ∷ append m h.name value) is)
+        ap (map lines_of) (cond-false (bytes_eq own name) ((name, (v ∷ values) ++ w ∷ []) ∷ m) ((name, v ∷ values) ∷ append m own w) is)
         ∙ ap (λ (l : List (List Header)). (first ∷ group) ∷ l) others
-        ∙ sym (cond-false (bytes_eq name h.name) ((first ∷ (group ++ h ∷ [])) ∷ map lines_of m) ((first ∷ group) ∷ appended (map lines_of m) h)
-        (eq_sym name h.name ∙ is))
+        ∙ sym (cond-false (bytes_eq name own) ((first ∷ (group ++ h ∷ [])) ∷ map lines_of m) ((first ∷ group) ∷ appended (map lines_of m) h)
+        (eq_sym name own ∙ is))
 
 put_lines : (hs : List Header) (m : Entries) → AreFilled m
     → map lines_of (fold (λ entries header. append entries header.name (plain_value header.value)) m hs) ≡ fold appended (map lines_of m) hs
 put_lines [] m filled = refl
 put_lines (h ∷ hs) m filled =
     put_lines hs (append m h.name (plain_value h.value)) (append_filled h.name (plain_value h.value) m filled)
-    ∙ ap (λ (groups : List (List Header)). fold appended groups hs) (append_lines h m filled)
+    ∙ ap (λ (groups : List (List Header)). fold appended groups hs) (append_lines h.name (plain_value h.value) m filled)
 
 flattened : (m : Entries) → flat_map (λ group. group) (map lines_of m) ≡ headers_of m
 flattened [] = refl
@@ -193,6 +197,58 @@ flattened (e ∷ m) = ap (λ (l : List Header). lines_of e ++ l) (flattened m)
 -- the lines of a head in a map stand name by name
 pub map_lines : (hs : List Header) → headers_of (header_map hs) ≡ by_name hs
 map_lines hs = sym (flattened (header_map hs)) ∙ ap (flat_map (λ (group : List Header). group)) (put_lines hs [] tt)
+
+-- ---- lines that are added
+
+-- the groups of lines that are put name by name
+abbrev groups : List Header → List (List Header)
+groups hs = fold appended [] hs
+
+abbrev flat : List (List Header) → List Header
+flat gs = flat_map (λ (group : List Header). group) gs
+
+put_distinct : (hs : List Header) (m : Entries) → IsDistinct bytes_eq (keys m)
+    → IsDistinct bytes_eq (keys (fold (λ entries header. append entries header.name (plain_value header.value)) m hs))
+put_distinct [] m distinct = distinct
+put_distinct (h ∷ hs) m distinct =
+    put_distinct hs (append m h.name (plain_value h.value)) (IsDistinct-append h.name (plain_value h.value) m distinct)
+
+put_filled : (hs : List Header) (m : Entries) → AreFilled m → AreFilled (fold (λ entries header. append entries header.name (plain_value header.value)) m hs)
+put_filled [] m filled = filled
+put_filled (h ∷ hs) m filled = put_filled hs (append m h.name (plain_value h.value)) (append_filled h.name (plain_value h.value) m filled)
+
+-- no name stands twice in the map of a head's lines
+pub map_distinct : (hs : List Header) → IsDistinct bytes_eq (keys (header_map hs))
+map_distinct hs = put_distinct hs [] IsDistinct-none
+
+-- lines that stand name by name already are in the same groups
+same_groups : (hs : List Header) → groups (by_name hs) ≡ groups hs
+same_groups hs =
+    ap groups (sym (map_lines hs)) ∙ groups_all [] (header_map hs) (map_distinct hs) (put_filled hs [] tt) ∙ put_lines hs [] tt
+
+-- so lines may be put name by name before others are added behind them
+pub absorbed : (a b : List Header) → by_name (by_name a ++ b) ≡ by_name (a ++ b)
+absorbed a b =
+    ap flat (fold-append appended [] (by_name a) b ∙ ap (λ (gs : List (List Header)). fold appended gs b) (same_groups a)
+    ∙ sym (fold-append appended [] a b))
+
+-- a line more in a map
+pub put_one : (m : Entries) (name : List ℕ) (v : FieldValue) → IsHeaderMap m
+    → headers_of (append m name v) ≡ by_name (headers_of m ++ record { name = name; value = v.bytes } ∷ [])
+put_one m name v is =
+    let filled = all_filled m is.entries in
+    let line : Header = record { name = name; value = v.bytes } in
+    sym (flattened (append m name v)) ∙ ap flat (append_lines name v m filled)
+    ∙ ap (λ (gs : List (List Header)). flat (appended gs line)) (sym (groups_all [] m is.distinct filled))
+    ∙ ap flat (sym (fold-append appended [] (headers_of m) (line ∷ [])))
+
+-- and more behind those
+pub then_put : (all some more new : List Header) → some ≡ by_name all → new ≡ by_name (some ++ more) → new ≡ by_name (all ++ more)
+then_put all some more new before e = e ∙ ap (λ (l : List Header). by_name (l ++ more)) before ∙ absorbed all more
+
+-- none more
+pub put_none : (m : Entries) → IsHeaderMap m → headers_of m ≡ by_name (headers_of m ++ [])
+put_none m is = sym (ap by_name (append-nil (headers_of m)) ∙ by_name-map m is)
 
 -- lines may be dropped before they are put name by name, or behind that
 pub by_name-without : (names : List (List ℕ)) (hs : List Header) → by_name (without names hs) ≡ without names (by_name hs)

@@ -1,5 +1,5 @@
 -- What a client gets for an answer's head.
-use Rattle.std.proofs.Common.{◌≡◌, ℕ, ◌≤◌, Bool, true, false, not, ◌&&◌, ◌||◌, if◌then◌else◌, eqb, List, [], ◌∷◌, map, get_or, bytes_eq, codes, Option, Some, None, refl, sym, ap, ◌∙◌, subst, inl, inr}
+use Rattle.std.proofs.Common.{◌≡◌, ℕ, ◌≤◌, Bool, true, false, not, ◌&&◌, ◌||◌, if◌then◌else◌, eqb, List, [], ◌∷◌, ◌++◌, map, get_or, bytes_eq, codes, Option, Some, None, refl, sym, ap, ◌∙◌, subst, inl, inr}
 use Rattle.std.specs.Prelude.{nat_le, nat_lt, IsUtf8, slice_get}
 use Rattle.std.specs.Str.{is_utf8}
 use Rattle.std.specs.List.{list_any, Any, IsDistinct}
@@ -12,24 +12,29 @@ use Rattle.http_map.specs.HeaderMap.{Entries, keys, get_all}
 use Rattle.http_types.specs.declared.message.ConnectionType.{ConnectionType}
 use Rattle.http_types.specs.Flags.{no_flags}
 use Rattle.http_types.specs.ResponseHead.{ResponseParts, IsLineByte}
-use Rattle.model_h1.specs.Request.{BodyKind, no_body, fixed_body, chunked_body, raw_body}
+use Rattle.http.specs.declared.version.Version.{Version}
+use Rattle.model_h1.specs.Request.{Header, BodyKind, no_body, fixed_body, chunked_body, raw_body}
 use Rattle.model_h1.specs.Request as model
 use Rattle.model_h1.specs.LengthTable.{values_of, length_value, stated_length}
 use Rattle.model_h1.specs.Answer.{BodySize}
+use Rattle.model_h1.specs.AnswerText.{by_name}
+use Rattle.model_client.specs.WrittenHead.{line_of}
 use Rattle.model_h1.specs.Parse.{Body}
 use Rattle.model_client.specs.AnswerParse.{Received}
 use Rattle.model_client.specs.AnswerReading.{Answer, answer_is, IsAnswerReading, IsTextOf}
 use Rattle.http_framing.specs.Kinds.{kind_of}
-use Rattle.h1_encoder.specs.Meaning.{answer_of, headers_of}
+use Rattle.h1_encoder.specs.Meaning.{answer_of, headers_of, minor_of}
 use Rattle.h1_decoder.specs.HeadItem.{connection_type_of}
 use Rattle.h1_decoder.specs.declared.response.ResponseItem.{ResponseItem}
 use Rattle.h1_decoder.specs.ResponseItem.{SaysAnswer}
 use Rattle.model_ends.proofs.ValuesByName.{by_name_values}
+use Rattle.model_proxy.specs.Edge.{via}
 use Rattle.model_proxy.specs.HopNames.{connection_words, is_among}
 use Rattle.model_proxy.specs.Answers.{Found, found_by, found_bad, found_body, says_close, reply_reason, reply_lines, reply_head, reply_size, head_size, open_size}
-use Rattle.proxy_heads.specs.ForwardedMeaning.{is_line_end, kept_reason, found_as, use_by, use_of, is_close_type, stated_or, other_size, length_or, passed_lines}
-use Rattle.proxy_heads.proofs.MapLemmas.{map_lines, map_values}
-use Rattle.proxy_heads.proofs.LeftOut.{passed_by_name, same_words}
+use Rattle.proxy_heads.specs.ForwardedMeaning.{is_line_end, kept_reason, found_as, use_by, use_of, is_close_type, stated_or, other_size, length_or, answer_lines}
+use Rattle.proxy_heads.proofs.MapLemmas.{map_lines, map_values, absorbed}
+use Rattle.proxy_heads.proofs.LeftOut.{answer_by_name, same_words}
+use Rattle.proxy_heads.proofs.RequestLemmas.{via_of}
 
 -- ---- how a head is used
 
@@ -148,13 +153,19 @@ ends_kept reason ends = by_test (is_utf8 reason)
 
 pub reply_is : (item : ResponseItem) (a : Answer) (piece : List ℕ) (head : ResponseParts) → IsAnswerReading piece (answer_is a) → SaysAnswer item a
     → head.status ≡ item.head.status → head.reason ≡ Some (kept_reason item.reason) → head.flags ≡ no_flags
-    → headers_of head.headers ≡ passed_lines item.head.status (headers_of item.head.headers) → answer_of head ≡ reply_head a
+    → headers_of head.headers ≡ by_name (answer_lines item.head.status (headers_of item.head.headers) ++ line_of (codes "via") (via (minor_of item.head.version)) ∷ [])
+    → answer_of head ≡ reply_head a
 reply_is item a piece head reading says status reason flags lines =
     let statuses = status ∙ says.status in
     let reasons = reason ∙ ap Some (reason_is item a piece reading says) in
-    let all : headers_of head.headers ≡ reply_lines a.status a.headers =
-    lines ∙ ap (λ (n : ℕ). passed_lines n (headers_of item.head.headers)) says.status
-    ∙ ap (passed_lines a.status) (ap headers_of says.headers ∙ map_lines a.headers) ∙ passed_by_name a.status a.headers in
+    let who : List Header = line_of (codes "via") (via (minor_of item.head.version)) ∷ [] in
+    let all : headers_of head.headers ≡ reply_lines a.minor a.status a.headers =
+    lines ∙ ap (λ (n : ℕ). by_name (answer_lines n (headers_of item.head.headers) ++ who)) says.status
+    ∙ ap (λ (hs : List Header). by_name (answer_lines a.status hs ++ who)) (ap headers_of says.headers ∙ map_lines a.headers)
+    ∙ ap (λ (hs : List Header). by_name (hs ++ who)) (answer_by_name a.status a.headers)
+    ∙ absorbed (answer_lines a.status a.headers) who
+    ∙ ap (λ (t : List ℕ). by_name (answer_lines a.status a.headers ++ line_of (codes "via") t ∷ []))
+    (ap (λ (v : Version). via (minor_of v)) says.version ∙ via_of a.minor) in
     λ i. record {
       status = statuses i;
       reason = reasons i;

@@ -4,20 +4,20 @@ use Rattle.std.specs.List.{list_any}
 use Rattle.std.specs.Str.{is_utf8}
 use Rattle.model_h1.specs.Request.{Header, BodyKind, fixed_body}
 use Rattle.model_h1.specs.LengthTable.{values_of, stated_length}
-use Rattle.model_h1.specs.Answer.{BodySize, size_none, size_of}
+use Rattle.model_h1.specs.Answer.{AnswerHead, BodySize, size_none, size_of}
 use Rattle.model_h1.specs.AnswerText.{by_name}
 use Rattle.model_client.specs.RequestText.{AskedHead}
 use Rattle.model_proxy.specs.HopNames.{hop_names, without}
 use Rattle.model_h1.specs.Parse.{Body}
 use Rattle.model_client.specs.AnswerParse.{Received}
 use Rattle.model_client.specs.AnswerReading.{Answer}
-use Rattle.model_proxy.specs.Answers.{Found, found_bad, found_body, open_size}
+use Rattle.model_proxy.specs.Answers.{Found, found_bad, found_body, open_size, own_head, refusal_head}
 use Rattle.http_types.specs.declared.message.ConnectionType.{ConnectionType}
 use Rattle.http_types.specs.declared.message.ConnectionType.TheVariants.{Close, KeepAlive, Upgrade}
 use Rattle.proxy_heads.specs.declared.replies.AnswerUse.{AnswerUse}
 use Rattle.proxy_heads.specs.declared.replies.AnswerUse.TheVariants.{Refuse, PassOver, PassOn}
 use Rattle.proxy_heads.specs.declared.refusal.Refusal.{Refusal}
-use Rattle.proxy_heads.specs.declared.refusal.Refusal.TheVariants.{BrokenBody, NotForwardable, NoAnswer}
+use Rattle.proxy_heads.specs.declared.refusal.Refusal.TheVariants.{BadHead, BrokenBody, NotForwardable, NoAnswer}
 
 -- the request's head with its lines name by name, as a map holds them and as they are written
 abbrev pub by_names : AskedHead → AskedHead
@@ -33,8 +33,8 @@ abbrev pub length_name : ℕ → List (List ℕ)
 length_name status = if status == 304 then [] else codes "content-length" ∷ []
 
 -- an answer's lines without those that stay behind
-abbrev pub passed_lines : ℕ → List Header → List Header
-passed_lines status headers = without (hop_names headers ++ length_name status) headers
+abbrev pub answer_lines : ℕ → List Header → List Header
+answer_lines status headers = without (hop_names headers ++ length_name status) headers
 
 -- a byte that ends the status line
 abbrev pub is_line_end : ℕ → Bool
@@ -46,9 +46,15 @@ kept_reason reason = if is_utf8 reason && not (list_any is_line_end reason) then
 
 -- the status of a reply of the forwarder's own
 abbrev pub status_of : Refusal → ℕ
+status_of BadHead = 400
 status_of BrokenBody = 400
 status_of NotForwardable = 501
 status_of NoAnswer = 502
+
+-- the head of such a reply: that of a head that is refused closes the connection
+abbrev pub refusal_of : Refusal → AnswerHead
+refusal_of BadHead = refusal_head
+refusal_of refusal = own_head (status_of refusal)
 
 -- what is found by a head that a forwarder uses so: of a bad one nothing, of an interim one what is found behind it
 abbrev pub found_as : AnswerUse → Received → Answer → Body → Found → Found

@@ -1,2 +1,3 @@
 pub mod Words
+pub mod Edges
 pub mod ForwardedMeaning

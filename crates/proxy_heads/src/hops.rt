@@ -4,9 +4,10 @@ ghost use Rattle.http_header.specs.FieldValue.{FieldValue};
 ghost use Rattle.http_header.specs.Token.{lowercase};
 ghost use Rattle.h1_encoder.specs.Meaning.{headers_of};
 ghost use Rattle.model_proxy.specs.HopNames.{words_in, hop_names, without};
-ghost use Rattle.model_proxy.specs.Forward.{forwarded_lines};
+ghost use Rattle.model_proxy.specs.Forward.{client_names};
 ghost use Rattle.proxy_heads.specs.Words.{listed_words};
-ghost use Rattle.proxy_heads.specs.ForwardedMeaning.{other_hops, passed_lines};
+ghost use Rattle.proxy_heads.specs.Edges.{own_head_names, kept_lines};
+ghost use Rattle.proxy_heads.specs.ForwardedMeaning.{other_hops, answer_lines};
 
 use crate::words::{split_at_comma, trimmed};
 use http_map::{AsHeaderName, CONNECTION, HeaderMap, Removed};
@@ -27,20 +28,42 @@ impl AsHeaderName for Word<'_> {
     }
 }
 
-/// Removes the lines of a request that stay behind: those for one connection alone, those that frame its body, and
-/// Expect. It takes no memory.
-pub(crate) fn remove_unforwarded(headers: &mut HeaderMap)
-    ensures { headers_of headers.new ≡ forwarded_lines (headers_of headers.old) }
+/// Removes the lines of a request that stay behind: those for one connection alone, Host, those that frame its body,
+/// Expect, and what is said of earlier clients, unless that is trusted. It takes no memory.
+pub(crate) fn remove_unforwarded(headers: &mut HeaderMap, trusts_client: bool)
+    ensures { headers_of headers.new ≡ kept_lines trusts_client (headers_of headers.old) }
 {
     remove_hops(headers);
+    remove_own(headers);
+    if trusts_client {
+        return;
+    }
+    remove_told(headers);
+}
+
+// Removes the lines that a forwarder writes of its own, or answers.
+fn remove_own(headers: &mut HeaderMap)
+    ensures { headers_of headers.new ≡ without own_head_names (headers_of headers.old) }
+{
+    remove_name(headers, b"host");
     remove_name(headers, b"content-length");
     remove_name(headers, b"expect");
+}
+
+// Removes what is said of earlier clients.
+fn remove_told(headers: &mut HeaderMap)
+    ensures { headers_of headers.new ≡ without client_names (headers_of headers.old) }
+{
+    remove_name(headers, b"x-forwarded-for");
+    remove_name(headers, b"x-forwarded-proto");
+    remove_name(headers, b"x-forwarded-host");
+    remove_name(headers, b"forwarded");
 }
 
 /// Removes the lines of an answer that stay behind: those for one connection alone, and the length but for a 304. It
 /// takes no memory.
 pub(crate) fn remove_unpassed(headers: &mut HeaderMap, status: u16)
-    ensures { headers_of headers.new ≡ passed_lines status (headers_of headers.old) }
+    ensures { headers_of headers.new ≡ answer_lines status (headers_of headers.old) }
 {
     remove_hops(headers);
     if status == 304 {

@@ -14,10 +14,12 @@ ghost use Rattle.model_proxy.specs.Answers.{Found, found_by, says_close, reply_h
 ghost use Rattle.proxy_heads.specs.ForwardedMeaning.{is_line_end, kept_reason, found_as, use_of, is_close_type, stated_or, other_size, length_or, empty_size};
 
 use crate::hops::remove_unpassed;
+use crate::own_lines::{put, via};
 use crate::words::{lists, trimmed};
 use h1_decoder::laws::marks_tell_the_answers_connection;
 use h1_decoder::{ResponseItem, content_length};
 use http_framing::{BodyKind, BodySize};
+use http_map::names::VIA;
 use http_map::{CONNECTION, CONTENT_LENGTH, HeaderMap};
 use http_types::{ConnectionType, NoMemory, ResponseHead, StatusCode};
 use std::alloc::Global;
@@ -92,9 +94,9 @@ fn lists_close(headers: &HeaderMap) -> bool
     lists(headers.get_all(CONNECTION).as_slice(), b"close")
 }
 
-/// The head that the client gets for an answer: its status and its reason, and its lines but for those that stay behind.
-/// It has no mark and no line that frames its body: that is written by `reply_size`. A reason that isn't UTF-8 is left
-/// out. Out of memory is the only error.
+/// The head that the client gets for an answer: its status and its reason, its lines but for those that stay behind, and who
+/// passes it on. It has no mark and no line that frames its body: that is written by `reply_size`. A reason that isn't
+/// UTF-8 is left out. Out of memory is the only error.
 pub fn reply_head(alloc: Global, item: ResponseItem) -> Result<ResponseHead, NoMemory>
     ensures { IfOk result (λ head. (piece : List ℕ) (a : Answer) → IsAnswerReading piece (answer_is a) → SaysAnswer item a
         → answer_of head ≡ reply_head a) }
@@ -106,6 +108,7 @@ pub fn reply_head(alloc: Global, item: ResponseItem) -> Result<ResponseHead, NoM
     } = item;
     let mut headers = read.headers;
     remove_unpassed(&mut headers, read.status.as_u16());
+    put(&mut headers, VIA, via(read.version))?;
     let mut head = headed(alloc, read.status, headers);
     put_reason(alloc, &mut head, reason.as_slice())?;
     Ok(head)

@@ -4,7 +4,7 @@ use Rattle.std.proofs.lemmas.Bool.{false≢true}
 use Rattle.model_proxy.specs.Past.{ProxyEvent, ProxyOutcome}
 use Rattle.model_proxy.specs.Happenings.{nothing_happened}
 use Rattle.proxy.specs.declared.proxy.Proxy.{Proxy}
-use Rattle.proxy.specs.Kept.{Forwards, Goes, GoesBy, TakesAll}
+use Rattle.proxy.specs.Kept.{Forwards, history_by, Goes, GoesBy, TakesAll}
 use Rattle.proxy.specs.Rests.{Settles, IsNoted}
 use Rattle.proxy.specs.Served.{IsServed, Serves}
 use Rattle.proxy_loop.specs.History.{HasHistory, RepliesBy, ForwarderDoes, IfTold}
@@ -21,7 +21,7 @@ pub goes_by : (event : ProxyEvent) (outcome : ProxyOutcome) (old new : Proxy) �
 goes_by event outcome old new x goes serves =
     let y = goes.1 x.history x.all x.stands in
     record {
-      history = record { event = event; outcome = outcome } ∷ x.history;
+      history = history_by event outcome old x.history;
       all = y.0;
       stands = y.1;
       served = serves x.history x.all x.stands x.served;

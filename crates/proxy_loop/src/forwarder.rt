@@ -10,7 +10,7 @@ ghost use Rattle.proxy.specs.Rests.{IsNoted};
 ghost use Rattle.proxy.specs.Served.{IsServed};
 ghost use Rattle.proxy_loop.specs.History.{ForwarderDoes, EndsServer, Connects, Refuses, Ticks};
 
-use proxy::{BegunReply, Expiry, NoMemory, Proxy, ServiceConfig};
+use proxy::{BegunReply, Edge, Expiry, NoMemory, Proxy, ProxyConfig, ServiceConfig};
 use std::alloc::Global;
 use std::marker::Model;
 
@@ -22,7 +22,7 @@ use std::marker::Model;
 #[derive(Drop)]
 pub struct Forwarder {
     alloc: Global,
-    config: ServiceConfig,
+    connections: ServiceConfig,
     proxy: Proxy,
 }
 
@@ -40,13 +40,14 @@ impl Model for Forwarder {
 impl Forwarder {
     /// A forwarder to which nothing happened. It takes no memory.
     #[tactic(auto, using(crate::proofs::Histories::begins))]
-    pub fn new(alloc: Global, config: ServiceConfig) -> Forwarder
+    pub fn new(alloc: Global, config: ProxyConfig) -> Forwarder
         ensures forwards { Forwards result [] nothing_happened }
         ensures served { IsServed result }
     {
+        let connections = config.connections;
         Forwarder {
             alloc,
-            config,
+            connections,
             proxy: Proxy::new(alloc, config),
         }
     }
@@ -83,7 +84,7 @@ impl Forwarder {
         match self.proxy.read_client(bytes) {
             Ok(count) => Ok(count),
             Err(error) => {
-                self.proxy = Proxy::new(self.alloc, self.config);
+                self.proxy = Proxy::new(self.alloc, unknown(self.connections));
                 Err(error)
             }
         }
@@ -98,7 +99,7 @@ impl Forwarder {
         match self.proxy.read_server(bytes) {
             Ok(count) => Ok(count),
             Err(error) => {
-                self.proxy = Proxy::new(self.alloc, self.config);
+                self.proxy = Proxy::new(self.alloc, unknown(self.connections));
                 Err(error)
             }
         }
@@ -112,7 +113,7 @@ impl Forwarder {
         match self.proxy.client_eof() {
             Ok(()) => Ok(()),
             Err(error) => {
-                self.proxy = Proxy::new(self.alloc, self.config);
+                self.proxy = Proxy::new(self.alloc, unknown(self.connections));
                 Err(error)
             }
         }
@@ -130,7 +131,7 @@ impl Forwarder {
         match self.proxy.server_eof() {
             Ok(()) => Ok(true),
             Err(error) => {
-                self.proxy = Proxy::new(self.alloc, self.config);
+                self.proxy = Proxy::new(self.alloc, unknown(self.connections));
                 Err(error)
             }
         }
@@ -148,7 +149,7 @@ impl Forwarder {
         match self.proxy.connected() {
             Ok(()) => Ok(true),
             Err(error) => {
-                self.proxy = Proxy::new(self.alloc, self.config);
+                self.proxy = Proxy::new(self.alloc, unknown(self.connections));
                 Err(error)
             }
         }
@@ -166,7 +167,7 @@ impl Forwarder {
         match self.proxy.refused() {
             Ok(()) => Ok(true),
             Err(error) => {
-                self.proxy = Proxy::new(self.alloc, self.config);
+                self.proxy = Proxy::new(self.alloc, unknown(self.connections));
                 Err(error)
             }
         }
@@ -182,7 +183,7 @@ impl Forwarder {
         match self.proxy.advance_client(count) {
             Ok(()) => Ok(()),
             Err(error) => {
-                self.proxy = Proxy::new(self.alloc, self.config);
+                self.proxy = Proxy::new(self.alloc, unknown(self.connections));
                 Err(error)
             }
         }
@@ -198,7 +199,7 @@ impl Forwarder {
         match self.proxy.advance_server(count) {
             Ok(()) => Ok(()),
             Err(error) => {
-                self.proxy = Proxy::new(self.alloc, self.config);
+                self.proxy = Proxy::new(self.alloc, unknown(self.connections));
                 Err(error)
             }
         }
@@ -217,9 +218,17 @@ impl Forwarder {
         match self.proxy.tick(moment) {
             Ok(expiry) => Ok(Some(expiry)),
             Err(error) => {
-                self.proxy = Proxy::new(self.alloc, self.config);
+                self.proxy = Proxy::new(self.alloc, unknown(self.connections));
                 Err(error)
             }
         }
+    }
+}
+
+// That of a forwarder that is done with.
+fn unknown(connections: ServiceConfig) -> ProxyConfig {
+    ProxyConfig {
+        connections,
+        edge: Edge::unknown(),
     }
 }

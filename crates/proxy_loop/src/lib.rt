@@ -26,4 +26,7 @@ mod forwarder;
 
 pub use flow::{TakenIn, take_in_client, take_in_server, write_client, write_server};
 pub use forwarder::Forwarder;
-pub use proxy::{BegunReply, End, Expiry, NoMemory, Proxy, RequestHead, ServiceConfig, StatusCode};
+pub use proxy::{
+    BegunReply, Edge, End, Expiry, NoMemory, Proxy, ProxyConfig, RequestHead, ServiceConfig,
+    StatusCode,
+};

@@ -3,8 +3,9 @@
 mod replies;
 
 use crate::forward::replies::put_replies;
-use proxy::{Proxy, ServiceConfig};
+use proxy::{Edge, Proxy, ProxyConfig, ServiceConfig};
 use std::alloc::Global;
+use std::net::{IpAddr, Ipv4Addr, SocketAddr};
 use vectors::{CaseError, Cursor, PiecePlayer, Report, read_joined};
 
 /// What is written where a call may not be made.
@@ -37,9 +38,20 @@ impl PiecePlayer for Forwards {
         size: usize,
         found: &mut Report,
     ) -> Result<(), CaseError> {
-        let mut proxy = Proxy::new(alloc, ServiceConfig::default());
+        let config = ProxyConfig {
+            connections: ServiceConfig::default(),
+            edge: edge(alloc)?,
+        };
+        let mut proxy = Proxy::new(alloc, config);
         take_all(alloc, &mut proxy, script, size, found)
     }
+}
+
+// That of a client at port 4711 of 192.0.2.1, whose server is at port 81 of 127.0.0.1.
+fn edge(alloc: Global) -> Result<Edge, CaseError> {
+    let client = SocketAddr::new(IpAddr::V4(Ipv4Addr::new(192, 0, 2, 1)), 4711);
+    let server = SocketAddr::new(IpAddr::V4(Ipv4Addr::new(127, 0, 0, 1)), 81);
+    Edge::new(alloc, client, server).map_err(|_| CaseError::NoMemory)
 }
 
 // Does what the lines say, and writes what each gets.

@@ -1,13 +1,13 @@
 -- Whole histories for worked examples, with the past of the client's connection in each.
-use Rattle.std.specs.Prelude.{ℕ, Bool, true, false, List, [], ◌∷◌, codes, Option, Some, None}
+use Rattle.std.specs.Prelude.{ℕ, Bool, true, false, List, [], ◌∷◌, ◌++◌, codes, Option, Some, None}
 use Rattle.model_h1.specs.Answer.{size_of}
 use Rattle.model_h1.specs.Event as on
 use Rattle.model_h1.specs.Past.{ParsedStep}
-use Rattle.model_h1.specs.Laws.ExampleTraces.{parsed, get_text, get_head, get, socket_text, socket_head, socket, broken_text, chunks_head, broken_chunks}
-use Rattle.model_proxy.specs.Answers.{reply_head, own_head}
+use Rattle.model_h1.specs.Laws.ExampleTraces.{parsed, get_text, get_head, get, close_text, close_head, closing_get, socket_text, socket_head, socket, broken_text, chunks_head, broken_chunks}
+use Rattle.model_proxy.specs.Answers.{reply_head, own_head, refusal_head}
 use Rattle.model_proxy.specs.Past.{client, server, connected, refused, to_client, to_server, tick, took, gave, done, ProxyStep}
 use Rattle.model_proxy.specs.Exchange.{Exchange}
-use Rattle.model_proxy.specs.Laws.Samples.{step, hi_text, hi}
+use Rattle.model_proxy.specs.Laws.Samples.{added, step, hi_text, hi}
 
 -- GET of `/` at the first moment: it is sent on the server connection with this number, by this step, or refused one
 abbrev pub get_exchange : Option ℕ → ℕ → Bool → Exchange
@@ -45,10 +45,10 @@ refused_exchanges = get_exchange None 0 true ∷ []
 -- ---- a request is sent on, and its answer passed on
 
 abbrev pub get_sent : List ℕ
-get_sent = codes "GET / HTTP/1.1\r\nhost: a\r\ndate: Thu, 01 Jan 1970 00:00:00 GMT\r\n\r\n"
+get_sent = codes "GET / HTTP/1.1\r\n" ++ added
 
 abbrev pub hi_passed : List ℕ
-hi_passed = codes "HTTP/1.1 200 OK\r\ncontent-length: 2\r\ndate: Thu, 01 Jan 1970 00:00:00 GMT\r\n\r\nhi"
+hi_passed = codes "HTTP/1.1 200 OK\r\ncontent-length: 2\r\nvia: 1.1 raspcream\r\ndate: Thu, 01 Jan 1970 00:00:00 GMT\r\n\r\nhi"
 
 abbrev pub whole_history : List ProxyStep
 whole_history =
@@ -72,6 +72,34 @@ whole_past =
 
 abbrev pub whole_exchanges : List Exchange
 whole_exchanges = get_exchange (Some 0) 3 false ∷ []
+
+-- ---- a head without a host
+
+abbrev pub bad_request_text : List ℕ
+bad_request_text = codes "HTTP/1.1 400 Bad Request\r\ncontent-length: 0\r\nconnection: close\r\ndate: Thu, 01 Jan 1970 00:00:00 GMT\r\n\r\n"
+
+abbrev pub hostless_history : List ProxyStep
+hostless_history =
+    step (to_client 500) (gave bad_request_text)
+    ∷ step (client close_text) (took 37)
+    ∷ step (tick 0) done ∷ []
+
+abbrev pub hostless_past : List ParsedStep
+hostless_past =
+    parsed (on.write 500) (on.gave bad_request_text) (closing_get ∷ [])
+    ∷ parsed (on.answer refusal_head (size_of 0)) on.done (closing_get ∷ [])
+    ∷ parsed on.next (on.head close_head) (closing_get ∷ [])
+    ∷ parsed (on.read close_text) (on.took 37) (closing_get ∷ [])
+    ∷ parsed (on.tick 0) on.done [] ∷ []
+
+abbrev pub hostless_exchanges : List Exchange
+hostless_exchanges =
+    record {
+      pulled = record { head = close_head; pieces = []; is_ended = true; is_broken = false };
+      server = None;
+      sent_at = 0;
+      was_refused = false;
+    } ∷ []
 
 -- ---- a request for another protocol
 

@@ -12,28 +12,29 @@ use Rattle.model_proxy.specs.Past.{client_taken, client_given, servers}
 use Rattle.model_proxy.specs.Past as proxy
 use Rattle.model_proxy.specs.Exchange.{pulled, sent_of, sent_on}
 use Rattle.model_proxy.specs.Forwarding.{IsGivenTo, AreWholeButLast, IsSentRightly}
+use Rattle.model_proxy.specs.Laws.Samples.{lax_edge}
 use Rattle.model_proxy.specs.Laws.Histories.{broken_history, broken_past, broken_exchange, broken_exchanges}
 use Rattle.model_proxy.proofs.Histories.{broken_legal}
 use Rattle.model_proxy.proofs.examples.a_broken_body_gives_400.Goals as goal
 
-rightly : IsSentRightly broken_history broken_exchange
+rightly : IsSentRightly lax_edge broken_history broken_exchange
 unfolding servers
 rightly = λ k e.
     let same : 0 ≡ k = cc in
     (refl, refl, subst (λ (n : ℕ). n < 1) same (lit< tt))
 
 -- nothing was given yet to the one server connection
-towards : (k : ℕ) → k < 1 → IsGivenTo broken_history None broken_exchanges k
+towards : (k : ℕ) → k < 1 → IsGivenTo lax_edge broken_history None broken_exchanges k
 unfolding servers
-towards zero low = (flat_map forward (sent_on broken_history 0 broken_exchanges), refl)
+towards zero low = (flat_map forward (sent_on lax_edge broken_history 0 broken_exchanges), refl)
 towards (suc k) low =
     let none : ⊥ = omega (arith, low) in
     absurd none
 
-whole : (k : ℕ) → AreWholeButLast (sent_on broken_history k broken_exchanges)
+whole : (k : ℕ) → AreWholeButLast (sent_on lax_edge broken_history k broken_exchanges)
 whole k = by_test (eqb 0 k)
   where
-    by_test : (t : Bool) → AreWholeButLast (map (sent_of broken_history) (reverse (cond t broken_exchanges [])))
+    by_test : (t : Bool) → AreWholeButLast (map (sent_of lax_edge broken_history) (reverse (cond t broken_exchanges [])))
     by_test true = tt
     by_test false = tt
 

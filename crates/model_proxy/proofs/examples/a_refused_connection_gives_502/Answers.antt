@@ -12,11 +12,12 @@ use Rattle.model_proxy.specs.Past.{client_taken, client_given, servers}
 use Rattle.model_proxy.specs.Past as proxy
 use Rattle.model_proxy.specs.Exchange.{pulled}
 use Rattle.model_proxy.specs.Forwarding.{IsGivenTo}
+use Rattle.model_proxy.specs.Laws.Samples.{usual_edge}
 use Rattle.model_proxy.specs.Laws.Histories.{refused_history, refused_past, refused_exchanges}
 use Rattle.model_proxy.proofs.Histories.{refused_legal}
 use Rattle.model_proxy.proofs.examples.a_refused_connection_gives_502.Goals as goal
 
-none_towards : (k : ℕ) → k < 0 → IsGivenTo refused_history None refused_exchanges k
+none_towards : (k : ℕ) → k < 0 → IsGivenTo usual_edge refused_history None refused_exchanges k
 none_towards k low = let none : ⊥ = omega (arith, low) in absurd none
 
 pub returns-clause-forwards : goal.returns-clause-forwards
@@ -39,7 +40,7 @@ pub returns-clause-rests : goal.returns-clause-rests
 unfolding sums.taken sums.accepted sums.request sums.since_head sums.answered sums.answer_len place_behind pulled_to told closing is_allowed outcome_of sums.last_tick
 returns-clause-rests c may = record {
   next = λ e. refl;
-  told = refl;
+  told = λ e. absurd (false≢true e);
   waits = λ e. absurd (false≢true e);
   body = λ there sent e. absurd (false≢true e);
   passing = λ e low. absurd (false≢true e);

@@ -11,11 +11,12 @@ use Rattle.model_proxy.specs.Past.{client_taken, client_given, servers}
 use Rattle.model_proxy.specs.Past as proxy
 use Rattle.model_proxy.specs.Exchange.{pulled}
 use Rattle.model_proxy.specs.Forwarding.{IsGivenTo}
+use Rattle.model_proxy.specs.Laws.Samples.{lax_edge}
 use Rattle.model_proxy.specs.Laws.Histories.{unforwardable_history, unforwardable_past, unforwardable_exchanges}
 use Rattle.model_proxy.proofs.Histories.{unforwardable_legal}
 use Rattle.model_proxy.proofs.examples.a_request_that_cannot_be_sent_on_gives_501.Goals as goal
 
-none_towards : (k : ℕ) → k < 0 → IsGivenTo unforwardable_history None unforwardable_exchanges k
+none_towards : (k : ℕ) → k < 0 → IsGivenTo lax_edge unforwardable_history None unforwardable_exchanges k
 none_towards k low =
     let none : ⊥ = omega (arith, low) in
     absurd none

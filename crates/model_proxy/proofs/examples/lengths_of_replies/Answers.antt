@@ -8,9 +8,9 @@ unfolding trim_ows appended
 returns-clause-kept c = refl
 
 pub returns-clause-named : goal.returns-clause-named
-unfolding trim_ows
+unfolding trim_ows appended
 returns-clause-named c = refl
 
 pub returns-clause-written_anew : goal.returns-clause-written_anew
-unfolding trim_ows
+unfolding trim_ows appended
 returns-clause-written_anew c = refl

@@ -1,8 +1,9 @@
-use Rattle.std.proofs.Common.{refl, sym, ◌∙◌, []}
+use Rattle.std.proofs.Common.{refl, sym, ◌∙◌, [], ◌∷◌, inl, inr}
 use Rattle.model_h1.specs.Event as on
 use Rattle.proxy.proofs.Sides.{client_plain}
 use Rattle.proxy.proofs.Wants.{wants_same, client_wants, continue_told, continue_not_wanted}
-use Rattle.proxy.proofs.Puts.{one_puts, puts_none}
+use Rattle.proxy.specs.Puts.{goes_on}
+use Rattle.proxy.proofs.Puts.{one_puts}
 use Rattle.proxy.proofs.downstream.tell_to_continue.Goals as goal
 
 pub returns-then-not-can_continue-clause-wants : goal.returns-then-not-can_continue-clause-wants
@@ -23,7 +24,7 @@ pub returns-clause-told : goal.returns-clause-told
 returns-clause-told c = continue_told c.args.client.now c.send_continue.new.self c.send_continue.ensures.settings c.in_ok-send_continue.ensures.stands
 
 pub returns-then-not-can_continue-clause-puts : goal.returns-then-not-can_continue-clause-puts
-returns-then-not-can_continue-clause-puts c = puts_none c.args.client.now
+returns-then-not-can_continue-clause-puts c = inl (sym c.can_continue.ensures ∙ c.if-not-can_continue.true, refl)
 
 pub returns-clause-puts : goal.returns-clause-puts
-returns-clause-puts c = one_puts c.args.client.now on.send_continue _ c.send_continue.new.self [] c.in_ok-send_continue.ensures.stands (λ o says. refl)
+returns-clause-puts c = inr (one_puts c.args.client.now on.send_continue _ c.send_continue.new.self (goes_on ∷ []) c.in_ok-send_continue.ensures.stands (λ o says. refl))

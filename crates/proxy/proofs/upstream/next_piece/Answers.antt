@@ -2,6 +2,7 @@ use Rattle.std.proofs.Common.{refl, sym, ◌∙◌}
 use Rattle.model_client.specs.ClientEvent as asked
 use Rattle.proxy.proofs.Sides.{pull_stays, piece_less, time_stays, time_same}
 use Rattle.proxy.proofs.Puts.{piece_hands}
+use Rattle.proxy.proofs.Below.{pull_keeps}
 use Rattle.proxy.proofs.upstream.next_piece.Goals as goal
 
 pub returns-clause-stays : goal.returns-clause-stays
@@ -23,3 +24,6 @@ returns-clause-hands c = piece_hands c.in_ok-pulled.pulled c.args.server.now c.p
 
 pub returns-then-not-can_pull-clause-hands : goal.returns-then-not-can_pull-clause-hands
 returns-then-not-can_pull-clause-hands c = c.last_piece.ensures.hands (sym c.can_pull.ensures ∙ c.if-not-can_pull.true)
+
+pub returns-clause-waits : goal.returns-clause-waits
+returns-clause-waits c = pull_keeps c.args.server.now c.pull.new.self _ c.in_ok-pulled.ensures.stands

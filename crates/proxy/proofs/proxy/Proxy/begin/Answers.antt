@@ -6,10 +6,11 @@ use Rattle.proxy.proofs.Work.{works, over_less}
 use Rattle.proxy.proofs.Served.{with_server}
 use Rattle.proxy.proofs.Replies.{no_part_put, idle_cause}
 use Rattle.proxy.proofs.Puts.{puts_none}
+use Rattle.proxy.proofs.Below.{below_none}
 use Rattle.proxy.proofs.proxy.Proxy.begin.Goals as goal
 
 pub take_head-requires : goal.take_head-requires
-take_head-requires c = record { idle = c.requires.idle; goes_on = c.is_server_over.ensures.goes_on c.if-is_server_over.false }
+take_head-requires c = record { idle = c.requires.idle; going = c.requires.going; goes_on = c.is_server_over.ensures.goes_on c.if-is_server_over.false }
 
 pub returns-then-is_server_over-clause-goes : goal.returns-then-is_server_over-clause-goes
 returns-then-is_server_over-clause-goes c = closes c.args.self.now
@@ -35,3 +36,6 @@ returns-then-is_server_over-clause-closes c = λ over none. refl
 
 pub returns-clause-closes : goal.returns-clause-closes
 returns-clause-closes c = goes_on_closes c.args.self.now c.take_head.new.self (sym c.is_server_over.ensures.is ∙ c.if-is_server_over.false)
+
+pub returns-then-is_server_over-clause-below : goal.returns-then-is_server_over-clause-below
+returns-then-is_server_over-clause-below c = below_none c.args.self.now.server

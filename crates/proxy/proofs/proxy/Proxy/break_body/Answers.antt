@@ -8,6 +8,7 @@ use Rattle.std.proofs.Common.{true, []}
 use Rattle.proxy.proofs.Puts.{puts_none, hands_same}
 use Rattle.proxy.proofs.Replies.{kept_breaks, own_breaks, goes_as, dropped}
 use Rattle.proxy.specs.Replies.{marks_of}
+use Rattle.proxy.proofs.Below.{below_same, below_closed}
 use Rattle.proxy.proofs.proxy.Proxy.break_body.Goals as goal
 
 pub returns-then-sent-clause-goes : goal.returns-then-sent-clause-goes
@@ -52,3 +53,9 @@ pub returns-clause-replies : goal.returns-clause-replies
 returns-clause-replies c =
     own_breaks c.args.sent.is_answered c.args.sent c.args.server c.args.self.now.client c.reply.new.self c.if-sent.false c.in_ok-reply.ensures.replies
     (dropped (record c.args.self.now { server = None; sent = None }) c.reply.new.self c.requires.runs.unsent refl refl c.in_ok-reply.ensures.idle c.in_ok-reply.ensures.server)
+
+pub returns-then-sent-clause-below : goal.returns-then-sent-clause-below
+returns-then-sent-clause-below c = below_same (Some c.args.server)
+
+pub returns-clause-below : goal.returns-clause-below
+returns-clause-below c = below_closed (Some c.args.server) _ c.in_ok-reply.ensures.server

@@ -9,6 +9,8 @@ use Rattle.proxy.proofs.Served.{serves_by, with_server}
 use Rattle.proxy.proofs.Replies.{replies_by}
 use Rattle.std.proofs.Common.{refl, ap}
 use Rattle.h1_client.specs.State.{State}
+use Rattle.std.proofs.lemmas.Bool.{false≢true}
+use Rattle.proxy.proofs.Still.{held_still}
 use Rattle.proxy.proofs.proxy.Proxy.connected.Goals as goal
 
 pub returns-clause-goes : goal.returns-clause-goes
@@ -35,3 +37,8 @@ returns-clause-replies c =
     let mid : Proxy = record p { server = Some c.new.result } in
     replies_by event.connected done p mid c.settle.new.self (connects p c.new.result c.requires.wants_server c.new.ensures.value)
     (record { client = refl; server = ap (λ (s : State). Some s) c.new.ensures.value; unsent = refl; sent = refl }) c.in_ok-settle.ensures.replies
+
+pub returns-in_err-settle-clause-no_memory_needed : goal.returns-in_err-settle-clause-no_memory_needed
+returns-in_err-settle-clause-no_memory_needed c = λ held.
+    let mid : Proxy = record c.args.self.now { server = Some c.new.result } in
+    absurd (false≢true (c.in_err-settle.ensures.no_memory_needed (held_still mid held)))

@@ -6,7 +6,7 @@ pub pass_on-requires : goal.pass_on-requires
 pass_on-requires c = record { runs = record { unsent = c.requires.unsent; sent = c.in-Some.is } }
 
 pub begin-requires : goal.begin-requires
-begin-requires c = record { idle = record { unsent = c.requires.unsent; sent = c.in-None.is } }
+begin-requires c = record { idle = record { unsent = c.requires.unsent; sent = c.in-None.is }; going = c.requires.going }
 
 pub returns-in_ok-more-in-Some-clause-keeps : goal.returns-in_ok-more-in-Some-clause-keeps
 returns-in_ok-more-in-Some-clause-keeps c = busy_keeps c.args.self.now c.pass_on.new.self c.in-Some.sent c.in-Some.is

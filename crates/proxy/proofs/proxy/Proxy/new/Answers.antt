@@ -9,25 +9,25 @@ returns-clause-forwards c =
     let p : Proxy = record {
       alloc = c.args.alloc;
       config = c.args.config;
-      client = c.new.result;
+      client = c.new-client.result;
       server = None;
       unsent = None;
       sent = None;
       moment = None;
-      notes = c.new-2.result;
+      notes = c.new.result;
     } in
-    new_forwards p c.new.result c.new.ensures
+    new_forwards p c.new-client.result c.new-client.ensures
 
 pub returns-clause-serves : goal.returns-clause-serves
 returns-clause-serves c =
     let p : Proxy = record {
       alloc = c.args.alloc;
       config = c.args.config;
-      client = c.new.result;
+      client = c.new-client.result;
       server = None;
       unsent = None;
       sent = None;
       moment = None;
-      notes = c.new-2.result;
+      notes = c.new.result;
     } in
-    fresh_serves p c.new.result c.new.ensures
+    fresh_serves p c.new-client.result c.new-client.ensures

@@ -3,6 +3,7 @@ use Rattle.proxy.proofs.Moves.{fails, is_over}
 use Rattle.proxy.proofs.Work.{less_same, weaker, closed_less}
 use Rattle.proxy.proofs.Served.{with_server}
 use Rattle.proxy.proofs.Replies.{kept_over, closed_over}
+use Rattle.proxy.proofs.Below.{below_none, below_same}
 use Rattle.proxy.proofs.proxy.Proxy.part.Goals as goal
 
 pub returns-then-may_keep-clause-goes : goal.returns-then-may_keep-clause-goes
@@ -30,3 +31,9 @@ returns-then-may_keep-clause-over c = record { sent = refl; server = kept_over _
 
 pub returns-clause-over : goal.returns-clause-over
 returns-clause-over c = record { sent = refl; server = closed_over _ c.args.server (sym c.may_keep.ensures.keeps ∙ c.if-may_keep.false) }
+
+pub returns-then-may_keep-clause-below : goal.returns-then-may_keep-clause-below
+returns-then-may_keep-clause-below c = below_same (Some c.args.server)
+
+pub returns-clause-below : goal.returns-clause-below
+returns-clause-below c = below_none (Some c.args.server)

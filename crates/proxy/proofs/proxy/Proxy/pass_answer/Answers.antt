@@ -12,6 +12,7 @@ use Rattle.std.proofs.Common.{inr}
 use Rattle.proxy.proofs.Replies.{answer_replies, fails_replies, closed_lacks, body_replies, body_before, awaits_by}
 use Rattle.proxy.specs.Puts.{HandsAnswer}
 use Rattle.model_client.specs.ClientEvent as asked
+use Rattle.proxy.proofs.Below.{below_kept, fails_below}
 use Rattle.proxy.proofs.proxy.Proxy.pass_answer.Goals as goal
 
 pub take_answer-requires : goal.take_answer-requires
@@ -108,3 +109,17 @@ returns-in_ok-more-in-Pending-clause-replies c = λ unanswered.
     (subst (λ (n : NextAnswer). LeavesAnswer n c.args.server c.next_answer.new.server) c.in-Pending.is c.in_ok-item.ensures.leaves))
     (body_before c.args.self.now.client c.pass_body.new.self c.args.sent c.args.server c.next_answer.new.server
     (subst (λ (n : NextAnswer). HandsAnswer n c.args.server c.next_answer.new.server) c.in-Pending.is c.in_ok-item.ensures.hands) c.in_ok-more-in-Pending.ensures.replies)
+
+pub returns-in_ok-take_answer-in-Answer-clause-below : goal.returns-in_ok-take_answer-in-Answer-clause-below
+returns-in_ok-take_answer-in-Answer-clause-below c =
+    below_kept c.args.server c.next_answer.new.server _ c.in_ok-item.ensures.waits c.in_ok-take_answer-in-Answer.ensures.below
+
+pub returns-in_ok-fail-in-Fault-clause-below : goal.returns-in_ok-fail-in-Fault-clause-below
+returns-in_ok-fail-in-Fault-clause-below c = fails_below c.args.sent.is_answered _ (Some c.args.server) _ c.in_ok-fail-in-Fault.ensures.replies
+
+pub returns-in_ok-fail-in-Closed-clause-below : goal.returns-in_ok-fail-in-Closed-clause-below
+returns-in_ok-fail-in-Closed-clause-below c = fails_below c.args.sent.is_answered _ (Some c.args.server) _ c.in_ok-fail-in-Closed.ensures.replies
+
+pub returns-in_ok-more-in-Pending-clause-below : goal.returns-in_ok-more-in-Pending-clause-below
+returns-in_ok-more-in-Pending-clause-below c =
+    below_kept c.args.server c.next_answer.new.server _ c.in_ok-item.ensures.waits c.in_ok-more-in-Pending.ensures.below

@@ -9,6 +9,7 @@ use Rattle.proxy.specs.Replies.{Marks}
 use Rattle.std.proofs.Common.{true, false, [], ap}
 use Rattle.model_proxy.specs.Answers.{says_close}
 use Rattle.proxy.proofs.Puts.{hands_same}
+use Rattle.proxy.proofs.Below.{below_same}
 use Rattle.proxy.proofs.proxy.Proxy.pass_head.Goals as goal
 
 pub returns-then-not-is_eof-clause-goes : goal.returns-then-not-is_eof-clause-goes
@@ -87,3 +88,6 @@ returns-clause-replies c = λ a read says. (
       (over_as _ c.args.sent.is_whole _ (says_close a) c.args.server c.part.new.self c.answered-sent.ensures.whole
       (ap (λ (m : Marks). m.closes) c.answered-sent.ensures.marks ∙ c.says_close.ensures read.0 a read.1 says) c.part.ensures.over),
 )
+
+pub returns-then-not-is_eof-clause-below : goal.returns-then-not-is_eof-clause-below
+returns-then-not-is_eof-clause-below c = below_same (Some c.args.server)

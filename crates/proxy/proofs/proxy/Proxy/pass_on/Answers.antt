@@ -4,6 +4,7 @@ use Rattle.std.proofs.Common.{Some, None, true, arith}
 use Rattle.proxy.proofs.Work.{works, works_of_server, less_then, over_sent}
 use Rattle.proxy.proofs.Served.{with_server, serves_of_sent}
 use Rattle.proxy.proofs.Replies.{replies_of_server, fails_replies}
+use Rattle.proxy.proofs.Below.{below_of, fails_below}
 use Rattle.proxy.proofs.proxy.Proxy.pass_on.Goals as goal
 
 pub pass-requires : goal.pass-requires
@@ -43,3 +44,9 @@ pub returns-in_ok-fail-in-None-clause-replies : goal.returns-in_ok-fail-in-None-
 returns-in_ok-fail-in-None-clause-replies c =
     replies_of_server c.args.self.now c.fail.new.self None (sym c.in-None.ensures.value)
     (fails_replies c.args.self.now c.fail.new.self c.args.sent None c.requires.runs (λ _. tt) (λ _. tt) c.in_ok-fail-in-None.ensures.replies)
+
+pub returns-in_ok-more-in-Some-clause-below : goal.returns-in_ok-more-in-Some-clause-below
+returns-in_ok-more-in-Some-clause-below c = below_of c.args.self.now.server c.in-Some.server _ (sym c.in-Some.ensures.value) c.in_ok-more-in-Some.ensures.below
+
+pub returns-in_ok-fail-in-None-clause-below : goal.returns-in_ok-fail-in-None-clause-below
+returns-in_ok-fail-in-None-clause-below c = fails_below c.args.sent.is_answered _ c.args.self.now.server _ c.in_ok-fail-in-None.ensures.replies

@@ -5,8 +5,7 @@ use Rattle.proxy.proofs.Work.{less_then, client_less, noted_less}
 use Rattle.proxy.proofs.Served.{noted_idle, noted_serves, idle_serves, head_put}
 use Rattle.std.proofs.Common.{subst}
 use Rattle.proxy.proofs.Replies.{left_put, last_as, noted_client, noted_server}
-use Rattle.proxy.specs.Replies.{own}
-use Rattle.proxy_heads.specs.ForwardedMeaning.{status_of}
+use Rattle.proxy.specs.Replies.{refusal_part}
 use Rattle.model_h1.specs.Answer.{AnswerHead, size_of}
 use Rattle.proxy.specs.Puts.{begins, MayPut}
 use Rattle.proxy.proofs.proxy.Proxy.reply.Goals as goal
@@ -35,7 +34,7 @@ returns-clause-serves c = λ idle x.
 pub returns-clause-replies : goal.returns-clause-replies
 returns-clause-replies c =
     last_as [] _ c.args.self.now.client c.put_head.new.client _ (noted_client (record c.args.self.now { client = c.put_head.new.client }) c.note_reply.new.self c.in_ok-note_reply.ensures.noted)
-    (left_put (own (status_of c.args.refusal)) c.args.self.now.client c.leave_body.new.client c.put_head.new.client c.leave_body.ensures.puts
+    (left_put (refusal_part c.args.refusal) c.args.self.now.client c.leave_body.new.client c.put_head.new.client c.leave_body.ensures.puts
     (subst (λ (h : AnswerHead). MayPut (begins (record { head = h; size = size_of 0 })) c.leave_body.new.client c.put_head.new.client) c.head-head.ensures c.in_ok-put_head.ensures.puts))
 
 pub returns-clause-idle : goal.returns-clause-idle

@@ -11,6 +11,7 @@ use Rattle.proxy.proofs.Puts.{puts_none}
 use Rattle.proxy.proofs.Fresh.{read_all, waits_as, cannot_used, cannot_none, cannot_refused, used_some, unused_closes}
 use Rattle.proxy.specs.Fresh.{is_server_used}
 use Rattle.proxy.proofs.Times.{dated}
+use Rattle.proxy.proofs.Below.{below_none, sends_below}
 use Rattle.proxy.proofs.proxy.Proxy.send.Goals as goal
 
 pub returns-then-is_server_used-clause-goes : goal.returns-then-is_server_used-clause-goes
@@ -133,3 +134,15 @@ returns-then-branch-clause-closes c = unused_closes (record c.args.self.now { un
 
 pub returns-clause-closes : goal.returns-clause-closes
 returns-clause-closes c = unused_closes (record c.args.self.now { unsent = Some c.args.unsent }) _ (sym c.is_server_used.ensures ∙ c.if-is_server_used.false)
+
+pub returns-then-is_server_used-clause-below : goal.returns-then-is_server_used-clause-below
+returns-then-is_server_used-clause-below c = λ none may. below_none c.args.self.now.server
+
+pub returns-in_default-clause-below : goal.returns-in_default-clause-below
+returns-in_default-clause-below c = λ none may. sends_below c.args.self.now _ none may (sym c.is_server_used.ensures ∙ c.if-is_server_used.false)
+
+pub returns-then-branch-clause-below : goal.returns-then-branch-clause-below
+returns-then-branch-clause-below c = λ none may. sends_below c.args.self.now _ none may (sym c.is_server_used.ensures ∙ c.if-is_server_used.false)
+
+pub returns-clause-below : goal.returns-clause-below
+returns-clause-below c = λ none may. sends_below c.args.self.now _ none may (sym c.is_server_used.ensures ∙ c.if-is_server_used.false)

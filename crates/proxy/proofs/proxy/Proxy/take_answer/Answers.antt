@@ -11,6 +11,7 @@ use Rattle.proxy_heads.specs.declared.replies.AnswerUse.{AnswerUse}
 use Rattle.proxy_heads.specs.ForwardedMeaning.{found_as}
 use Rattle.model_proxy.specs.Answers.{found_by}
 use Rattle.model_client.specs.AnswerReading.{answer_is}
+use Rattle.proxy.proofs.Below.{below_same, fails_below}
 use Rattle.proxy.proofs.proxy.Proxy.take_answer.Goals as goal
 
 pub fail-requires : goal.fail-requires
@@ -70,3 +71,9 @@ returns-in_ok-pass_noted-in-PassOn-clause-replies c = λ unanswered a read says.
       x.0,
       x.1,
     ))
+
+pub returns-in_ok-fail-in-Refuse-clause-below : goal.returns-in_ok-fail-in-Refuse-clause-below
+returns-in_ok-fail-in-Refuse-clause-below c = fails_below c.args.sent.is_answered _ (Some c.args.server) _ c.in_ok-fail-in-Refuse.ensures.replies
+
+pub returns-in-PassOver-clause-below : goal.returns-in-PassOver-clause-below
+returns-in-PassOver-clause-below c = below_same (Some c.args.server)

@@ -42,3 +42,15 @@ returns-then-not-can_read-clause-replies c = record { client = inl refl; server 
 
 pub returns-clause-replies : goal.returns-clause-replies
 returns-clause-replies c = record { client = inr (client_adds (on.read c.args.bytes.now) _ c.args.self.now.client c.read.new.self c.in_ok-count.ensures.stands); server = refl; unsent = refl; sent = refl }
+
+pub returns-then-client_room-eq0-clause-nothing : goal.returns-then-client_room-eq0-clause-nothing
+returns-then-client_room-eq0-clause-nothing c = λ none. (refl, refl)
+
+pub returns-then-not-can_read-clause-nothing : goal.returns-then-not-can_read-clause-nothing
+returns-then-not-can_read-clause-nothing c = λ none. absurd (c.if-client_room-eq0.false (c.client_room.ensures ∙ none))
+
+pub returns-in_err-count-clause-nothing : goal.returns-in_err-count-clause-nothing
+returns-in_err-count-clause-nothing c = λ none. absurd (c.if-client_room-eq0.false (c.client_room.ensures ∙ none))
+
+pub returns-clause-nothing : goal.returns-clause-nothing
+returns-clause-nothing c = λ none. absurd (c.if-client_room-eq0.false (c.client_room.ensures ∙ none))

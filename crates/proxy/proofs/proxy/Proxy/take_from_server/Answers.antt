@@ -41,3 +41,18 @@ returns-then-not-can_read_server-clause-replies c = record { client = refl; serv
 pub returns-clause-replies : goal.returns-clause-replies
 returns-clause-replies c =
     record { client = refl; server = inr (adds_to (asked.read c.args.bytes.now) _ c.args.self.now.server c.in-Some.server c.read.new.self (sym c.in-Some.ensures.value) c.in_ok-count.ensures.stands); unsent = refl; sent = refl }
+
+pub returns-then-server_room-eq0-clause-nothing : goal.returns-then-server_room-eq0-clause-nothing
+returns-then-server_room-eq0-clause-nothing c = λ none. (refl, refl)
+
+pub returns-then-not-can_read_server-clause-nothing : goal.returns-then-not-can_read_server-clause-nothing
+returns-then-not-can_read_server-clause-nothing c = λ none. absurd (c.if-server_room-eq0.false (c.server_room.ensures ∙ none))
+
+pub returns-in_default-clause-nothing : goal.returns-in_default-clause-nothing
+returns-in_default-clause-nothing c = λ none. absurd (c.if-server_room-eq0.false (c.server_room.ensures ∙ none))
+
+pub returns-in_err-count-clause-nothing : goal.returns-in_err-count-clause-nothing
+returns-in_err-count-clause-nothing c = λ none. absurd (c.if-server_room-eq0.false (c.server_room.ensures ∙ none))
+
+pub returns-clause-nothing : goal.returns-clause-nothing
+returns-clause-nothing c = λ none. absurd (c.if-server_room-eq0.false (c.server_room.ensures ∙ none))

@@ -10,6 +10,7 @@ use Rattle.proxy.proofs.Served.{client_serves, head_opens, noted_serves}
 use Rattle.std.proofs.Common.{sym, [], refl, inl, ◌∙◌}
 use Rattle.proxy.proofs.Replies.{head_replies, head_keeps, no_part_put, idle_cause, noted_client, noted_sent, noted_server, closed_replies}
 use Rattle.proxy.specs.Puts.{Puts, HandsNext}
+use Rattle.proxy.proofs.Below.{below_same, below_as, keeps_below}
 use Rattle.proxy.proofs.proxy.Proxy.take_head.Goals as goal
 
 pub open-requires : goal.open-requires
@@ -46,7 +47,7 @@ returns-in-Closed-clause-works c = idle_rests on.done c.args.self.now c.next_hea
 pub returns-in_ok-open-in-Head-clause-serves : goal.returns-in_ok-open-in-Head-clause-serves
 returns-in_ok-open-in-Head-clause-serves c = λ s.
     let x = head_opens c.in-Head.item c.args.self.now c.next_head.new.client (subst (λ (n : NextHead). BringsNext n c.args.self.now.client c.next_head.new.client) c.in-Head.is c.in_ok-item.ensures.brings) (subst (λ (n : NextHead). Wants (WantsNext n) c.args.self.now.client c.next_head.new.client) c.in-Head.is c.in_ok-item.ensures.wants) s in
-    c.in_ok-open-in-Head.ensures.serves x.0 x.1 x.2
+    c.in_ok-open-in-Head.ensures.serves x.0 x.1 x.2 x.3
 
 pub returns-in_ok-note_fault-in-Fault-clause-serves : goal.returns-in_ok-note_fault-in-Fault-clause-serves
 returns-in_ok-note_fault-in-Fault-clause-serves c = λ s.
@@ -78,11 +79,11 @@ returns-in-Pending-clause-replies c =
 pub returns-in-Closed-clause-replies : goal.returns-in-Closed-clause-replies
 returns-in-Closed-clause-replies c =
     let x = subst (λ (n : NextHead). HandsNext n c.args.self.now.client c.next_head.new.client) c.in-Closed.is c.in_ok-item.ensures.hands in
-    closed_replies c.args.self.now c.next_head.new.client c.requires.idle x.0 x.1
+    closed_replies c.args.self.now c.next_head.new.client c.requires.idle c.requires.going x.1
 
 pub returns-in_ok-open-in-Head-clause-keeps : goal.returns-in_ok-open-in-Head-clause-keeps
 returns-in_ok-open-in-Head-clause-keeps c =
-    head_keeps c.args.self.now (record c.args.self.now { client = c.next_head.new.client }) c.open.new.self c.in-Head.item refl
+    head_keeps c.args.self.now (record c.args.self.now { client = c.next_head.new.client }) c.open.new.self c.in-Head.item refl refl
     (subst (λ (n : NextHead). HandsNext n c.args.self.now.client c.next_head.new.client) c.in-Head.is c.in_ok-item.ensures.hands) c.in_ok-open-in-Head.ensures.keeps
 
 pub returns-in_ok-note_fault-in-Fault-clause-keeps : goal.returns-in_ok-note_fault-in-Fault-clause-keeps
@@ -96,3 +97,16 @@ returns-in-Pending-clause-keeps c = λ idle. (idle.sent, inl refl)
 
 pub returns-in-Closed-clause-keeps : goal.returns-in-Closed-clause-keeps
 returns-in-Closed-clause-keeps c = λ idle. (idle.sent, inl refl)
+
+pub returns-in_ok-open-in-Head-clause-below : goal.returns-in_ok-open-in-Head-clause-below
+returns-in_ok-open-in-Head-clause-below c = keeps_below _ c.args.self.now.server _ c.in_ok-open-in-Head.ensures.keeps.1
+
+pub returns-in_ok-note_fault-in-Fault-clause-below : goal.returns-in_ok-note_fault-in-Fault-clause-below
+returns-in_ok-note_fault-in-Fault-clause-below c =
+    below_as c.args.self.now.server _ (noted_server (record c.args.self.now { client = c.next_head.new.client }) _ c.in_ok-note_fault-in-Fault.ensures.noted)
+
+pub returns-in-Pending-clause-below : goal.returns-in-Pending-clause-below
+returns-in-Pending-clause-below c = below_same c.args.self.now.server
+
+pub returns-in-Closed-clause-below : goal.returns-in-Closed-clause-below
+returns-in-Closed-clause-below c = below_same c.args.self.now.server

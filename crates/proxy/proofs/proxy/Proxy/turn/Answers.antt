@@ -5,6 +5,9 @@ use Rattle.proxy.proofs.Served.{serves_of_unsent}
 use Rattle.proxy.proofs.Replies.{still_replies, replies_of_unsent, waiting_keeps, keeps_of_unsent}
 use Rattle.std.proofs.Common.{refl, inl}
 use Rattle.proxy.proofs.Fresh.{still_sends, may_of, idle_sends, sends_of_unsent, begins_by, closes_of_unsent}
+use Rattle.std.proofs.lemmas.Bool.{false≢true}
+use Rattle.proxy.proofs.Below.{still_below, turn_below}
+use Rattle.std.proofs.Common.{ap, is_some}
 use Rattle.proxy.proofs.proxy.Proxy.turn.Goals as goal
 
 pub returns-then-is_still-clause-goes : goal.returns-then-is_still-clause-goes
@@ -14,7 +17,7 @@ pub returns-in_ok-more-in-Some-clause-goes : goal.returns-in_ok-more-in-Some-cla
 returns-in_ok-more-in-Some-clause-goes c = of_unsent c.args.self.now _ c.in-Some.unsent (sym c.in-Some.ensures.value) c.in_ok-more-in-Some.ensures.goes
 
 pub go_on-requires : goal.go_on-requires
-go_on-requires c = record { unsent = c.take.ensures.after }
+go_on-requires c = record { unsent = c.take.ensures.after; going = runs_on c.is_still.result c.args.self.now c.is_still.ensures c.if-is_still.false }
 
 pub returns-in_ok-more-in-None-clause-goes : goal.returns-in_ok-more-in-None-clause-goes
 returns-in_ok-more-in-None-clause-goes c = of_no_unsent c.args.self.now _ _ (sym c.in-None.ensures.value ∙ sym c.take.ensures.after) c.in_ok-more-in-None.ensures.goes
@@ -83,3 +86,24 @@ returns-in_ok-more-in-Some-clause-keeps c = waiting_keeps c.args.self.now c.send
 pub returns-in_ok-more-in-None-clause-keeps : goal.returns-in_ok-more-in-None-clause-keeps
 returns-in_ok-more-in-None-clause-keeps c =
     keeps_of_unsent c.args.self.now c.go_on.new.self _ (sym c.in-None.ensures.value ∙ sym c.take.ensures.after) c.in_ok-more-in-None.ensures.keeps
+
+pub returns-in_err-more-in-Some-clause-no_memory_needed : goal.returns-in_err-more-in-Some-clause-no_memory_needed
+returns-in_err-more-in-Some-clause-no_memory_needed c = λ still.
+    absurd (false≢true (sym still ∙ may_of c.is_still.result c.args.self.now c.is_still.ensures c.if-is_still.false))
+
+pub returns-in_err-more-in-None-clause-no_memory_needed : goal.returns-in_err-more-in-None-clause-no_memory_needed
+returns-in_err-more-in-None-clause-no_memory_needed c = λ still.
+    absurd (false≢true (sym still ∙ may_of c.is_still.result c.args.self.now c.is_still.ensures c.if-is_still.false))
+
+pub returns-then-is_still-clause-below : goal.returns-then-is_still-clause-below
+returns-then-is_still-clause-below c = still_below c.args.self.now
+
+pub returns-in_ok-more-in-Some-clause-below : goal.returns-in_ok-more-in-Some-clause-below
+returns-in_ok-more-in-Some-clause-below c =
+    let may = may_of c.is_still.result c.args.self.now c.is_still.ensures c.if-is_still.false in
+    turn_below c.args.self.now c.send.new.self may (λ alone. c.in_ok-more-in-Some.ensures.below (alone (ap is_some (sym c.in-Some.ensures.value))) may)
+
+pub returns-in_ok-more-in-None-clause-below : goal.returns-in_ok-more-in-None-clause-below
+returns-in_ok-more-in-None-clause-below c =
+    turn_below c.args.self.now c.go_on.new.self (may_of c.is_still.result c.args.self.now c.is_still.ensures c.if-is_still.false)
+    (λ alone. c.in_ok-more-in-None.ensures.below)
