@@ -1,12 +1,12 @@
 -- The lines that a forwarder adds to a request are clean.
-use Rattle.std.proofs.Common.{◌≡◌, ℕ, ◌+◌, Bool, true, false, cond, List, [], ◌∷◌, ◌++◌, length, reverse, map, filter, take, drop, codes, refl, sym, ap, ◌∙◌, subst, arith, Option, Some, None, IsTrue}
+use Rattle.std.proofs.Common.{◌≡◌, ℕ, ◌+◌, Bool, true, false, cond, List, [], ◌∷◌, reverse, map, filter, codes, refl, sym, ap, ◌∙◌, subst, arith, Option, Some, None, IsTrue}
 use Rattle.std.specs.Prelude.{bytes_eq, unwrap_or, slice_get, option_map, ◌==◌}
 use Rattle.std.specs.Option.{option_or}
 use Rattle.std.specs.List.{AllByRecursion, list_all}
 use Rattle.std.proofs.lemmas.Bool.{cond-false}
 use Rattle.std.proofs.lemmas.Bool.Decides.{nat_tests}
 use Rattle.std.proofs.lemmas.List.{reverse-reverse}
-use Rattle.std.proofs.lemmas.List.Elements.{All-head, All-tail, All-take, All-drop, All-weaker}
+use Rattle.std.proofs.lemmas.List.Elements.{All-head, All-take, All-drop, All-weaker}
 use Rattle.std.proofs.lemmas.List.Sums.{AllPass-from_list_all}
 use Rattle.http_header.specs.Token.{lowercase}
 use Rattle.http_header.specs.FieldName.{is_field_name}
@@ -59,7 +59,7 @@ trim_none text all =
     ap (λ l. reverse (skip_ows (reverse l))) (skip_none text all)
     ∙ ap reverse (skip_none (reverse text) (AllPass-reverse is_uri_byte text all)) ∙ reverse-reverse text
 
-visible_clean : (text : List ℕ) → AllPass is_uri_byte text → IsCleanValue text
+pub visible_clean : (text : List ℕ) → AllPass is_uri_byte text → IsCleanValue text
 visible_clean text all = record {
   bytes = All-weaker (λ b. IsTrue (is_uri_byte b)) (λ b. IsTrue (is_value_byte b)) value_byte text all;
   trimmed = trim_none text all;

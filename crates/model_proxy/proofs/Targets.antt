@@ -1,5 +1,5 @@
 -- What a server gets for a target is one.
-use Rattle.std.proofs.Common.{◌≡◌, ℕ, ◌+◌, ◌<◌, ◌≤◌, Bool, true, false, not, ◌&&◌, ◌||◌, cond, List, [], ◌∷◌, ◌++◌, length, get_or, take, drop, codes, refl, sym, ap, ◌∙◌, subst, inl, inr, arith, lit≤, lt-ltb, length-take, length-drop, length-append, Option, Some, None, IsTrue}
+use Rattle.std.proofs.Common.{◌≡◌, ℕ, ◌+◌, ◌<◌, ◌≤◌, Bool, true, false, ◌&&◌, ◌||◌, cond, List, [], ◌∷◌, ◌++◌, length, get_or, take, drop, codes, refl, sym, ap, ◌∙◌, subst, inl, inr, arith, lit≤, lt-ltb, length-take, length-append, Option, Some, None, IsTrue}
 use Rattle.std.specs.Prelude.{nat_eq, nat_lt, bytes_eq, IsUtf8, IfSome, ◌==◌, if◌then◌else◌, option_map}
 use Rattle.std.specs.List.{starts_with}
 use Rattle.std.proofs.lemmas.Bool.{false≢true, eqb-true, and_parts, and_right}
@@ -8,15 +8,15 @@ use Rattle.std.proofs.lemmas.Slice.Eq.{bytes_eq-Decides}
 use Rattle.std.proofs.lemmas.Str.{IsUtf8-append, IsUtf8-from_ascii}
 use Rattle.std.proofs.lemmas.Str.Ascii.{IsAscii-cons, IsAscii-nil}
 use Rattle.httparse.specs.Grammar.{AllPass, is_uri_byte}
-use Rattle.http_uri.specs.ByteClasses.{is_delimiter, is_path_byte, is_query_byte, hash_sign}
+use Rattle.http_uri.specs.ByteClasses.{is_path_byte, is_query_byte}
 use Rattle.http_uri.specs.Grammar as uris
 use Rattle.http_uri.specs.Grammar.{HasScheme, IsAuthority, IsPathAndQuery, IsPathInput, IsTail, IsAbsoluteForm, IsUriText, scheme_len, authority_len, without_fragment, path_and_query_text}
 use Rattle.http_uri.proofs.SchemeLemmas.{length_of_folded}
-use Rattle.http_uri.proofs.UriLemmas.{cut_rest, cut_authority, cut_tail, cut_long, IsAuthority_no_scheme}
+use Rattle.http_uri.proofs.UriLemmas.{cut_rest, cut_authority, cut_tail, IsAuthority_no_scheme}
 use Rattle.http_uri.proofs.PathLemmas.{IsPathAndQuery_slash}
 use Rattle.model_h1.specs.RequestHead.{IsTarget}
-use Rattle.model_proxy.specs.Targets.{is_http, behind_http, authority_in, authority_of, is_asterisk, is_at_host, is_servable, origin_of, has_no_path, asks_for_all, target_sent}
-use Rattle.model_proxy.proofs.Paths.{cut_cons, cut_hash, cut_again, cut_short, cut_path, slashed, target_cut, some_cut, utf8_cut, visible_cut}
+use Rattle.model_proxy.specs.Targets.{is_http, behind_http, authority_in, is_asterisk, is_at_host, is_servable, origin_of, has_no_path, asks_for_all, target_sent}
+use Rattle.model_proxy.proofs.Paths.{cut_cons, cut_hash, cut_again, cut_short, slashed, target_cut, some_cut, utf8_cut, visible_cut}
 
 -- ---- a target of `http`
 
@@ -205,7 +205,7 @@ slash_sound : (text : List ℕ) → starts_with nat_eq text (codes "/") ≡ true
 slash_sound text begins x = record { target = target_cut text begins x; some = some_cut text begins; utf8 = utf8_cut text begins x }
 
 -- `*` is one for a server as a whole
-IsPathAndQuery_star : IsPathAndQuery (codes "*")
+pub IsPathAndQuery_star : IsPathAndQuery (codes "*")
 IsPathAndQuery_star = record {
   start = inr (inl refl);
   path = All-cons (λ b. IsTrue (is_path_byte b)) 42 [] refl (All-nil (λ b. IsTrue (is_path_byte b)));

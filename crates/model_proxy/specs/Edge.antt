@@ -1,5 +1,5 @@
 -- What a forwarder tells a server of itself and of its client (RFC 9110, section 7.6.3; RFC 7239).
-use Rattle.std.specs.Prelude.{◌≡◌, ℕ, Bool, List, [], ◌∷◌, ◌++◌, codes, ◌==◌, if◌then◌else◌}
+use Rattle.std.specs.Prelude.{◌≡◌, ℕ, Bool, List, ◌∷◌, ◌++◌, codes, ◌==◌, if◌then◌else◌}
 use Rattle.httparse.specs.Grammar.{AllPass, is_value_byte, trim_ows}
 
 -- What is the same for all requests of one client: its address as X-Forwarded-For has it, and as an element of Forwarded; the host that a

@@ -5,3 +5,4 @@ pub mod LeftOut
 pub mod TargetLemmas
 pub mod RequestLemmas
 pub mod ReplyLemmas
+pub mod EdgeTexts

@@ -1,8 +1,9 @@
 -- What the parts of a target are, and what a server gets for it.
-use Rattle.std.proofs.Common.{◌≡◌, ◌≢◌, ℕ, suc, ◌+◌, ◌<◌, ◌≤◌, Bool, true, false, not, ◌&&◌, ◌||◌, cond, List, [], ◌∷◌, ◌++◌, length, take, drop, get_or, codes, refl, sym, ap, ◌∙◌, subst, inl, inr, arith, ltb-true, ltb-false, length-append, Option, Some, None, is_some, unwrap_or, IsTrue}
-use Rattle.std.specs.Prelude.{bytes_eq, nat_eq, nat_lt, option_map, if◌then◌else◌}
+use Rattle.std.proofs.Common.{◌≡◌, ℕ, ◌+◌, ◌≤◌, Bool, true, false, not, ◌&&◌, ◌||◌, cond, List, [], ◌∷◌, ◌++◌, length, take, drop, codes, refl, sym, ap, ◌∙◌, subst, inl, inr, arith, ltb-false, length-append, Option, Some, None, is_some, unwrap_or}
+use Rattle.std.specs.Prelude.{bytes_eq, nat_eq, nat_lt, option_map, slice_get, ◌==◌, if◌then◌else◌}
 use Rattle.std.specs.List.{prefix_len, position, position_or_len, starts_with}
-use Rattle.std.proofs.lemmas.Bool.{false≢true, cond-true, cond-false}
+use Rattle.std.proofs.Math.Dec.{eqb-suc-zero}
+use Rattle.std.proofs.lemmas.Bool.{false≢true}
 use Rattle.std.proofs.lemmas.List.{drop-drop}
 use Rattle.std.proofs.lemmas.Slice.Eq.{bytes_eq-Decides}
 use Rattle.http_uri.specs.declared.uri.Uri.{Uri}
@@ -10,9 +11,9 @@ use Rattle.http_uri.specs.Uri.{Spells, uri_scheme, uri_authority, uri_data}
 use Rattle.http_uri.specs.ByteClasses.{lowercase, is_scheme_byte, is_delimiter}
 use Rattle.http_uri.specs.Grammar.{IsUriText, IsAbsoluteForm, IsTail, scheme_len, authority_len, without_fragment, path_and_query_text}
 use Rattle.h1_encoder.specs.RequestMeaning.{target_of}
-use Rattle.model_proxy.specs.Targets.{is_http, behind_http, authority_in, authority_of, is_asterisk, is_at_host, is_servable, origin_of, asks_for_all, target_sent}
-use Rattle.model_proxy.proofs.Paths.{slashed, no_parts, cut_cons}
-use Rattle.model_proxy.proofs.Targets.{IsHttp, http_of, IsAbsolute, absolute_of, tail_is}
+use Rattle.model_proxy.specs.Targets.{behind_http, authority_in, is_asterisk, is_at_host, is_servable, origin_of, asks_for_all, target_sent}
+use Rattle.model_proxy.proofs.Paths.{slashed, no_parts, cut_cons, cut_hash}
+use Rattle.model_proxy.proofs.Targets.{IsHttp, http_of, absolute_of, tail_is}
 use Rattle.proxy_heads.specs.Edges.{is_no_scheme_byte}
 
 -- ---- where scans stop
@@ -82,6 +83,25 @@ pub is_behind : (target rest : List ℕ) → bytes_eq (lowercase (take (scheme_l
 is_behind target rest name marks e =
     (λ i. behind_by target (name i) (marks i)) ∙ ap Some (sym (e ∙ drop-drop 3 (scheme_len target) target))
 
+-- ---- what is left without a fragment
+
+-- nothing, where that comes first
+pub first_kept : (tail : List ℕ) (b : ℕ) → Some b ≡ slice_get tail 0 → (b == 35) ≡ (length (without_fragment tail) == 0)
+first_kept [] b e = absurd (cc e)
+first_kept (x ∷ bytes) b e =
+    let same : b ≡ x = cc e in
+    ap (λ (k : ℕ). k == 35) same ∙ by_test (x == 35) refl
+  where
+    by_test : (t : Bool) → (x == 35) ≡ t → (x == 35) ≡ (length (without_fragment (x ∷ bytes)) == 0)
+    by_test true is = is ∙ sym (ap (λ (l : List ℕ). length l == 0) (cut_hash x bytes is))
+    by_test false other =
+        other ∙ sym (ap (λ (l : List ℕ). length l == 0) (cut_cons x bytes other) ∙ eqb-suc-zero (length (without_fragment bytes)))
+
+-- and of nothing
+pub none_kept : (tail : List ℕ) → None ≡ slice_get tail 0 → true ≡ (length (without_fragment tail) == 0)
+none_kept [] e = refl
+none_kept (x ∷ bytes) e = absurd (cc e)
+
 -- ---- what a server gets
 
 -- a path begins with a slash, so that none is put before it
@@ -111,6 +131,7 @@ star_short scheme authority kept form =
       ap length form.spelled,
       length-append ((form.name ++ codes "://") ++ authority) form.tail,
       length-append (form.name ++ codes "://") authority,
+      length-append form.name (codes "://"),
       form.is_authority.nonempty,
     )
 
@@ -120,7 +141,7 @@ star_by None (Some a) kept x = absurd (x.1.1 refl)
 star_by (Some s) None kept x = absurd x.1
 star_by (Some s) (Some a) kept x = absurd (star_short s a kept x.1)
 
-star_sent : (text : List ℕ) (u : Uri) → text ≡ codes "*" → Spells text u → target_of u ≡ without_fragment text
+pub star_sent : (text : List ℕ) (u : Uri) → text ≡ codes "*" → Spells text u → target_of u ≡ without_fragment text
 star_sent text u is spells =
     star_by (uri_scheme u) (uri_authority u) (uri_data u) (subst (λ (t : List ℕ). IsUriText t (uri_scheme u) (uri_authority u) (uri_data u)) is spells)
     ∙ ap without_fragment (sym is)

@@ -60,10 +60,10 @@ fn can_go(refused: bool, method: &str, body: BodyKind, target: &[u8]) -> bool
     is_servable(method, target)
 }
 
-/// The head that is sent on for a request that can be: its method; the path and the query of its target, or `*` for OPTIONS of
-/// a whole URI that has neither; HTTP/1.1; its lines but for those that stay behind; and which host it is for, who passes it on, and whom it comes from. It has no mark, so
-/// its connection is to be kept, and no line that frames its body: that is written by `forwarded_size`. Out of memory is
-/// the only error.
+/// The head that is sent on for a request that can be: its method; the path and the query of its target, or `*` for
+/// OPTIONS of a whole URI that has neither; HTTP/1.1; its lines but for those that stay behind; and which host it is for,
+/// who passes it on, and whom it comes from. It has no mark, so its connection is to be kept, and no line that frames its
+/// body: that is written by `forwarded_size`. Out of memory is the only error.
 pub fn forwarded_head(alloc: Global, edge: &Edge, item: HeadItem) -> Result<RequestHead, NoMemory>
     ensures says { IfOk result (λ head. (h : Head) → SaysHead item h → is_forwardable (edge_of edge.now) h ≡ true
         → asked_head head ≡ by_names (forwarded_head (edge_of edge.now) h)) }
@@ -77,12 +77,13 @@ pub fn forwarded_head(alloc: Global, edge: &Edge, item: HeadItem) -> Result<Requ
     let asks_for_all = asks_for_all(item.head.method.as_str(), item.target.as_slice());
     let version = item.head.version;
     let mut headers = item.head.headers;
+    let method = item.head.method;
+    let uri = uri_sent(asks_for_all, item.head.uri);
     remove_unforwarded(&mut headers, edge.trusts_client);
     add_own(&mut headers, edge, named, version)?;
     // Called for its clause alone: the lines stand name by name.
     let _valid = headers.len();
-    let uri = uri_sent(asks_for_all, item.head.uri);
-    Ok(RequestHead::from_parts(item.head.method, uri, Version::HTTP_11, headers))
+    Ok(RequestHead::from_parts(method, uri, Version::HTTP_11, headers))
 }
 
 // The URI by which a server is asked: `*` where it is asked for as a whole.

@@ -28,8 +28,8 @@ returns-clause-says c = λ h says can.
     let lines = lines_are e c.args.item h (option_map (λ (v : FieldValue). v.bytes) c.in_ok-named.named) (minor_of c.args.item.head.version)
     (headers_of c.remove_unforwarded.new.headers) (headers_of c.add_own.new.headers) says c.remove_unforwarded.ensures (c.in_ok-named.ensures h says)
     (ap (λ (v : Version). via (minor_of v)) says.version ∙ via_of h.minor) c.in_ok-add_own.ensures in
-    let uri = uri_is c.from_parts.result.uri c.uri_sent-uri.result c.args.item.head.uri c.asks_for_all.result (asks_for_all c.args.item.head.method c.args.item.target)
-    c.from_parts.ensures.uri c.uri_sent-uri.ensures c.asks_for_all.ensures in
+    let uri = uri_is c.from_parts.result.uri c.uri_sent-uri.result c.args.item.head.uri c.asks_for_all-asks_for_all.result (asks_for_all c.args.item.head.method c.args.item.target)
+    c.from_parts.ensures.uri c.uri_sent-uri.ensures (c.asks_for_all-asks_for_all.ensures ∙ (λ i. asks_for_all (c.as_str.ensures.value i) (c.as_slice.ensures i))) in
     head_is e c.from_parts.result c.args.item h says can c.from_parts.ensures.method uri c.from_parts.ensures.version
     c.from_parts.ensures.flags (ap headers_of c.from_parts.ensures.headers ∙ lines)
 
@@ -39,8 +39,8 @@ returns-clause-text c = λ h says can s edges same.
     let lines = lines_are e c.args.item h (option_map (λ (v : FieldValue). v.bytes) c.in_ok-named.named) (minor_of c.args.item.head.version)
     (headers_of c.remove_unforwarded.new.headers) (headers_of c.add_own.new.headers) says c.remove_unforwarded.ensures (c.in_ok-named.ensures h says)
     (ap (λ (v : Version). via (minor_of v)) says.version ∙ via_of h.minor) c.in_ok-add_own.ensures in
-    let uri = uri_is c.from_parts.result.uri c.uri_sent-uri.result c.args.item.head.uri c.asks_for_all.result (asks_for_all c.args.item.head.method c.args.item.target)
-    c.from_parts.ensures.uri c.uri_sent-uri.ensures c.asks_for_all.ensures in
+    let uri = uri_is c.from_parts.result.uri c.uri_sent-uri.result c.args.item.head.uri c.asks_for_all-asks_for_all.result (asks_for_all c.args.item.head.method c.args.item.target)
+    c.from_parts.ensures.uri c.uri_sent-uri.ensures (c.asks_for_all-asks_for_all.ensures ∙ (λ i. asks_for_all (c.as_str.ensures.value i) (c.as_slice.ensures i))) in
     let is = head_is e c.from_parts.result c.args.item h says can c.from_parts.ensures.method uri c.from_parts.ensures.version
     c.from_parts.ensures.flags (ap headers_of c.from_parts.ensures.headers ∙ lines) in
     let P : Entries → Type 0 = λ m. IsHeaderMap m in

@@ -1,4 +1,4 @@
-use Rattle.std.proofs.Common.{◌≡◌, List, ◌∷◌, [], ◌++◌, codes, ap, ◌∙◌, Some}
+use Rattle.std.proofs.Common.{◌≡◌, ◌∷◌, [], ◌++◌, codes, ap, ◌∙◌, Some}
 use Rattle.http_header.specs.FieldValue.{FieldValue}
 use Rattle.http_types.specs.ResponseHead.{ResponseParts}
 use Rattle.model_h1.specs.AnswerText.{by_name}
