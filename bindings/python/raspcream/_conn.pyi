@@ -1,8 +1,13 @@
-from collections.abc import Sequence
+from collections.abc import Callable, Iterable, Sequence
+from typing import ClassVar, Final
 
 from typing_extensions import Buffer
 
+from ._words import Headers, _Word
+
 Pair = tuple[bytes, bytes]
+Text = Buffer | str
+Lines = Iterable[tuple[Text, Text]]
 
 class Misplaced(RuntimeError): ...
 class Invalid(ValueError): ...
@@ -39,3 +44,78 @@ class Conn:
     def send(self, opcode: int, close_code: int, payload: Buffer, /) -> int: ...
     def ahead(self) -> int: ...
     def state(self) -> tuple[int, int, int, int, int, int, int, int]: ...
+
+class Event:
+    __hash__: ClassVar[None]  # type: ignore[assignment]
+
+class Request(Event):
+    method: Final[bytes]
+    headers: Final[Headers]
+    target: Final[bytes]
+    http_version: Final[bytes]
+    def __init__(self, *, method: Text, target: Text, headers: Headers | Lines = (), http_version: Text = b"1.1") -> None: ...
+
+class InformationalResponse(Event):
+    status_code: Final[int]
+    headers: Final[Headers]
+    http_version: Final[bytes]
+    reason: Final[bytes]
+    def __init__(self, *, status_code: int, headers: Headers | Lines = (), http_version: Text = b"1.1", reason: Text = b"") -> None: ...
+
+class Response(Event):
+    status_code: Final[int]
+    headers: Final[Headers]
+    http_version: Final[bytes]
+    reason: Final[bytes]
+    def __init__(self, *, status_code: int, headers: Headers | Lines = (), http_version: Text = b"1.1", reason: Text = b"") -> None: ...
+
+class Data(Event):
+    data: Final[bytes]
+    chunk_start: Final[bool]
+    chunk_end: Final[bool]
+    def __init__(self, data: object, chunk_start: bool = False, chunk_end: bool = False) -> None: ...
+
+class EndOfMessage(Event):
+    headers: Final[Headers]
+    def __init__(self, *, headers: Headers | Lines | None = None) -> None: ...
+
+class ConnectionClosed(Event): ...
+
+class Connection:
+    def __init__(
+        self,
+        our_role: _Word,
+        *,
+        max_incomplete_event_size: int = 131072,
+        now: Callable[[], float] | None = None,
+        keep_alive_ms: int = 5000,
+        request_ms: int = 5000,
+        disconnect_ms: int = 0,
+        write_buffer: int = 32768,
+        half_closed: bool = True,
+    ) -> None: ...
+    @property
+    def our_role(self) -> _Word: ...
+    @property
+    def their_role(self) -> _Word: ...
+    @property
+    def our_state(self) -> _Word: ...
+    @property
+    def their_state(self) -> _Word: ...
+    @property
+    def states(self) -> dict[_Word, _Word]: ...
+    @property
+    def their_http_version(self) -> bytes | None: ...
+    @property
+    def client_is_waiting_for_100_continue(self) -> bool: ...
+    @property
+    def they_are_waiting_for_100_continue(self) -> bool: ...
+    @property
+    def trailing_data(self) -> tuple[bytes, bool]: ...
+    def receive_data(self, data: Buffer, /) -> None: ...
+    def next_event(self) -> Event | _Word: ...
+    def send(self, event: Event, /) -> bytes | None: ...
+    def send_with_data_passthrough(self, event: Event, /) -> list[bytes] | None: ...
+    def send_failed(self) -> None: ...
+    def start_next_cycle(self) -> None: ...
+    def bytes_to_send(self) -> bytes: ...

@@ -8,11 +8,6 @@ typedef struct {
     rc_event event;
 } Conn;
 
-#define OPEN(SELF) \
-    do { \
-        if (!(SELF)->conn) return PyErr_SetString(PyExc_ValueError, "no connection"), NULL; \
-    } while (0)
-
 /* ---- making one */
 
 static int Conn_init(Conn *self, PyObject *args, PyObject *words) {
@@ -20,7 +15,9 @@ static int Conn_init(Conn *self, PyObject *args, PyObject *words) {
     int client = 0, half_closed = 1;
     unsigned long long keep_alive = 5000, request = 5000, disconnect = 0;
     Py_ssize_t write_buffer = 32768, hold_size = 131072;
-    if (!PyArg_ParseTupleAndKeywords(args, words, "|$pKKKnnp", known, &client, &keep_alive, &request, &disconnect, &write_buffer, &hold_size, &half_closed)) return -1;
+    if (!PyArg_ParseTupleAndKeywords(args, words, "|$pKKKnnp", known, &client, &keep_alive, &request, &disconnect, &write_buffer, &hold_size,
+                                     &half_closed))
+        return -1;
     rc_config config = {keep_alive, request, disconnect, (size_t)write_buffer, (size_t)hold_size, half_closed != 0, client != 0};
     rc_free(self->conn);
     self->conn = NULL;

@@ -104,12 +104,15 @@ static int find_role(Connection *self, PyObject *role_word) {
 }
 
 static int Connection_init(Connection *self, PyObject *args, PyObject *named) {
-    static char *known[] = {"our_role", "max_incomplete_event_size", "now", "keep_alive_ms", "request_ms", "disconnect_ms", "write_buffer", "half_closed", NULL};
+    static char *known[] = {"our_role",   "max_incomplete_event_size", "now",         "keep_alive_ms",
+                            "request_ms", "disconnect_ms",             "write_buffer", "half_closed", NULL};
     PyObject *role_word, *now = Py_None;
     int half_closed = 1;
     unsigned long long keep_alive = 5000, request = 5000, disconnect = 0;
     Py_ssize_t write_buffer = 32768, most = 131072;
-    if (!PyArg_ParseTupleAndKeywords(args, named, "O|$nOKKKnp", known, &role_word, &most, &now, &keep_alive, &request, &disconnect, &write_buffer, &half_closed)) return -1;
+    if (!PyArg_ParseTupleAndKeywords(args, named, "O|$nOKKKnp", known, &role_word, &most, &now, &keep_alive, &request, &disconnect, &write_buffer,
+                                     &half_closed))
+        return -1;
     if (self->conn) return PyErr_SetString(PyExc_TypeError, "a connection begins once"), -1;
     if (find_role(self, role_word) < 0) return -1;
     size_t hold_size = most < 8192 ? 8192 : (size_t)most;
@@ -147,6 +150,7 @@ static void Connection_dealloc(Connection *self) {
 
 static PyObject *Connection_bytes_to_send(Connection *self, PyObject *unused) {
     (void)unused;
+    OPEN(self);
     return all_waiting(self->conn, &self->event);
 }
 
@@ -178,6 +182,7 @@ static PyObject *both_states(Connection *self, void *unused) {
 
 static PyObject *trailing_data(Connection *self, void *unused) {
     (void)unused;
+    OPEN(self);
     PyObject *all = all_held(self->conn, &self->event), *left = all ? left_of(self) : NULL;
     if (left) PyBytes_ConcatAndDel(&all, left);
     return all ? Py_BuildValue("(NN)", all, PyBool_FromLong(self->has_ended)) : NULL;
@@ -195,7 +200,7 @@ static PyGetSetDef properties[] = {
     {NULL, NULL, NULL, NULL, NULL},
 };
 static PyMemberDef members[] = {
-    {"their_http_version", T_OBJECT, offsetof(Connection, version), READONLY, "What the peer speaks: b\"1.0\", b\"1.1\", or None before its first head."},
+    {"their_http_version", T_OBJECT, offsetof(Connection, version), READONLY, "b\"1.0\" or b\"1.1\"; None before the peer's first head."},
     {NULL, 0, 0, 0, NULL},
 };
 static PyMethodDef methods[] = {

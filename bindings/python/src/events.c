@@ -49,13 +49,14 @@ PyObject *headers_in(PyObject *event) { return value_of(event, kind_of_event(eve
 
 const char *name_of_event(PyObject *event) { return event_names[kind_of_event(event)]; }
 
-/* Puts values into an event, which are taken over. 0, or -1 where one is NULL. */
+/* Puts values into an event, once, and takes them over. 0, or -1 where one is NULL. */
 static int fill(PyObject *self, event_kind kind, PyObject *const *values) {
     int done = 0;
     for (int i = 0; i < VALUES && value_names[kind][i]; i++) {
-        PyObject *old = ((Event *)self)->values[i];
-        ((Event *)self)->values[i] = values[i];
-        Py_XDECREF(old);
+        PyObject **at = &((Event *)self)->values[i];
+        if (*at) done = (PyErr_SetString(PyExc_TypeError, "an event doesn't change"), -1);
+        if (*at) Py_XDECREF(values[i]);
+        else *at = values[i];
         if (!values[i]) done = -1;
     }
     return done;
@@ -82,8 +83,8 @@ static int arguments(event_kind kind, PyObject *args, PyObject *named, PyObject 
         found += value != NULL;
         values[i] = i < given ? PyTuple_GetItem(args, i) : value;
     }
-    if (named && found < PyDict_Size(named)) return PyErr_Format(PyExc_TypeError, "%s has no value of one of these names: %R", event_names[kind], named), -1;
-    return 0;
+    if (!named || found == PyDict_Size(named)) return 0;
+    return PyErr_Format(PyExc_TypeError, "%s has no value of one of these names: %R", event_names[kind], named), -1;
 }
 
 static int lacks(event_kind kind, PyObject *const *values, int place) {
@@ -97,8 +98,8 @@ static int check_request(PyObject *self) {
     PyObject *method = value_of(self, METHOD_AT), *headers = value_of(self, 1), *target = value_of(self, TARGET_AT);
     int hosts = 0;
     for (Py_ssize_t i = 0; i < PyList_Size(headers); i++) {
-        PyObject *pair = PyList_GetItem(headers, i);
-        if (is_pair(pair)) hosts += kind_of_line(PyBytes_AsString(PyTuple_GetItem(pair, 0)), (size_t)PyBytes_Size(PyTuple_GetItem(pair, 0))) == HOST;
+        PyObject *pair = PyList_GetItem(headers, i), *name = is_pair(pair) ? PyTuple_GetItem(pair, 0) : NULL;
+        if (name) hosts += kind_of_line(PyBytes_AsString(name), (size_t)PyBytes_Size(name)) == HOST;
     }
     if (hosts > 1) return broken(local_error, "Found multiple Host: headers", 400), -1;
     if (hosts == 0 && is_1_1(value_of(self, REQUEST_VERSION_AT))) return broken(local_error, "Missing mandatory Host: header", 400), -1;
@@ -132,7 +133,8 @@ static int init_answer(PyObject *self, event_kind kind, PyObject *args, PyObject
     PyObject *given[VALUES];
     if (arguments(kind, args, named, given) < 0 || lacks(kind, given, STATUS_AT)) return -1;
     if (!PyLong_Check(given[0])) return broken(local_error, "status code must be integer", 400), -1;
-    PyObject *number = PyLong_CheckExact(given[0]) ? Py_NewRef(given[0]) : PyObject_CallFunctionObjArgs((PyObject *)&PyLong_Type, given[0], NULL);
+    bool is_plain = PyLong_CheckExact(given[0]);
+    PyObject *number = is_plain ? Py_NewRef(given[0]) : PyObject_CallFunctionObjArgs((PyObject *)&PyLong_Type, given[0], NULL);
     PyObject *values[VALUES] = {number, NULL, NULL, NULL};
     if (values[0]) values[2] = given[2] ? bytes_from(given[2]) : Py_NewRef(versions[1]);
     if (values[2]) values[3] = given[3] ? bytes_from(given[3]) : Py_NewRef(no_bytes);
@@ -170,7 +172,8 @@ static PyObject *Event_repr(PyObject *self) {
     PyObject *name = PyObject_GetAttrString((PyObject *)Py_TYPE(self), "__name__"), *text = NULL;
     if (name) text = PyUnicode_FromFormat("%U(", name);
     for (int i = 0; text && kind < EVENTS && i < VALUES && value_names[kind][i]; i++) {
-        PyObject *more = PyUnicode_FromFormat("%U%s%s=%R", text, i ? ", " : "", value_names[kind][i], value_of(self, i) ? value_of(self, i) : Py_None);
+        PyObject *value = value_of(self, i) ? value_of(self, i) : Py_None;
+        PyObject *more = PyUnicode_FromFormat("%U%s%s=%R", text, i ? ", " : "", value_names[kind][i], value);
         Py_DECREF(text);
         text = more;
     }

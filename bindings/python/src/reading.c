@@ -63,6 +63,7 @@ static PyObject *receive(Connection *self, const Py_buffer *data) {
 
 PyObject *Connection_receive_data(Connection *self, PyObject *data) {
     Py_buffer buffer;
+    OPEN(self);
     int is_more = PyObject_IsTrue(data);
     if (is_more < 0) return NULL;
     if (!is_more) {
@@ -144,7 +145,8 @@ static PyObject *response(Connection *self) {
     rc_event *head = &self->event;
     uint32_t status = head->reason;
     PyObject *headers = with_fields(no_headers(), head), *number = PyLong_FromUnsignedLong(status);
-    PyObject *event = event_of(status < 200 ? INFORMATIONAL : RESPONSE, number, headers, Py_NewRef(versions[head->minor != 0]), bytes_of(head->method));
+    PyObject *version = Py_NewRef(versions[head->minor != 0]), *reason = bytes_of(head->method);
+    PyObject *event = event_of(status < 200 ? INFORMATIONAL : RESPONSE, number, headers, version, reason);
     if (!event) return NULL;
     bool lasts, upgrades;
     int done = 0;
@@ -189,7 +191,8 @@ static PyObject *broken_body(Connection *self) {
     static const char how[] = "the peer closed the connection inside a body";
     if (self->event.reason == 1) return refuse("the body is malformed", 400);
     if (!self->has_length) return PyErr_Format(remote_error, "%s (incomplete chunked read)", how);
-    return PyErr_Format(remote_error, "%s (received %llu bytes, expected %llu)", how, (unsigned long long)self->came, (unsigned long long)self->length);
+    unsigned long long came = self->came, length = self->length;
+    return PyErr_Format(remote_error, "%s (received %llu bytes, expected %llu)", how, came, length);
 }
 
 static PyObject *end_of_message(Connection *self, const rc_event *trailers) {
@@ -235,6 +238,7 @@ static PyObject *next_of(Connection *self) {
 
 PyObject *Connection_next_event(Connection *self, PyObject *unused) {
     (void)unused;
+    OPEN(self);
     if (self->states[self->theirs] == ERROR) return refuse("can't receive data when the peer's state is ERROR", 400);
     for (;;) {
         PyObject *event = next_of(self);

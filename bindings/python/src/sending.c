@@ -397,6 +397,7 @@ static PyObject *parts_of(Connection *self, PyObject *event) {
         [REQUEST] = send_request, [INFORMATIONAL] = send_informational, [RESPONSE] = send_answer,
         [DATA] = send_data, [END] = send_end, [ENDED] = send_closed,
     };
+    OPEN(self);
     if (tell_time(self) < 0) return NULL;
     if (self->states[self->ours] == ERROR) return refuse("can't send data when our state is ERROR");
     event_kind kind = kind_of_event(event);

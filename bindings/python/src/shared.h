@@ -19,6 +19,12 @@ PyObject *failed(rc_code code);
         if (code_ != RC_OK) return failed(code_); \
     } while (0)
 
+/* An object whose __init__ never ran has no connection. */
+#define OPEN(SELF) \
+    do { \
+        if (!(SELF)->conn) return PyErr_SetString(PyExc_ValueError, "no connection"), NULL; \
+    } while (0)
+
 #define METHOD(TYPE, NAME, FLAGS, TEXT) {#NAME, (PyCFunction)(void (*)(void))TYPE##_##NAME, FLAGS, TEXT}
 
 /* What a heap type's own deallocation ends with. */
