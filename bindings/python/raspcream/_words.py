@@ -10,7 +10,7 @@ class _Word(type):
 
     def __new__(cls, name: str) -> "_Word":
         word = super().__new__(cls, name, (cls,), {})
-        word.__class__ = word
+        word.__class__ = word  # type: ignore[assignment]
         return word
 
     def __init__(self, name: str) -> None:
@@ -41,12 +41,12 @@ class RemoteProtocolError(ProtocolError):
     """By the peer."""
 
 
-class Headers(list):
+class Headers(list[tuple[bytes, bytes]]):
     """Lines as pairs of a name in lower case and a value."""
 
     __slots__ = ()
 
-    def raw_items(self) -> "list[tuple[bytes, bytes]]":
+    def raw_items(self) -> list[tuple[bytes, bytes]]:
         """The lines with their names as the caller wrote them; those that came have them in lower case."""
         return list(self)
 
@@ -55,6 +55,7 @@ class WrittenHeaders(Headers):
     """Lines of a caller that has capitals in a name. The extension sets `raw`."""
 
     __slots__ = ("raw",)
+    raw: list[tuple[bytes, bytes]]
 
-    def raw_items(self) -> "list[tuple[bytes, bytes]]":
+    def raw_items(self) -> list[tuple[bytes, bytes]]:
         return list(self.raw)

@@ -204,18 +204,20 @@ static PyMemberDef members[] = {
     {NULL, 0, 0, 0, NULL},
 };
 static PyMethodDef methods[] = {
-    METHOD(Connection, receive_data, METH_O, "Bytes came; none is the end of the input."),
-    METHOD(Connection, next_event, METH_NOARGS, "The next event, NEED_DATA or PAUSED."),
-    METHOD(Connection, send, METH_O, "The bytes of an event, or None for ConnectionClosed."),
-    METHOD(Connection, send_with_data_passthrough, METH_O, "The same as a list, with the caller's own data in it."),
-    METHOD(Connection, send_failed, METH_NOARGS, "What `send` gave couldn't be written."),
-    METHOD(Connection, start_next_cycle, METH_NOARGS, "Both sides are done: another request may follow."),
-    METHOD(Connection, bytes_to_send, METH_NOARGS, "After RemoteProtocolError the engine's own answer, where none was sent in its place."),
+    METHOD(Connection, receive_data, METH_O, ", data", "Bytes came; none is the end of the input."),
+    METHOD(Connection, next_event, METH_NOARGS, "", "The next event, NEED_DATA or PAUSED."),
+    METHOD(Connection, send, METH_O, ", event", "The bytes of an event, or None for ConnectionClosed."),
+    METHOD(Connection, send_with_data_passthrough, METH_O, ", event", "The same as a list, with the caller's own data in it."),
+    METHOD(Connection, send_failed, METH_NOARGS, "", "What `send` gave couldn't be written."),
+    METHOD(Connection, start_next_cycle, METH_NOARGS, "", "Both sides are done: another request may follow."),
+    METHOD(Connection, bytes_to_send, METH_NOARGS, "", "After RemoteProtocolError the engine's own answer, where none was sent in its place."),
     {NULL, NULL, 0, NULL},
 };
 
 static PyType_Slot slots[] = {
-    {Py_tp_doc, "One side of one connection, for one thread at a time."},
+    {Py_tp_doc, "Connection(our_role, *, max_incomplete_event_size=131072, now=None, keep_alive_ms=5000, request_ms=5000, "
+                "disconnect_ms=0, write_buffer=32768, half_closed=True)\n--\n\n"
+                "One side of one connection, for one thread at a time. `now` tells the time in seconds, as time.time does."},
     {Py_tp_new, PyType_GenericNew},
     {Py_tp_init, Connection_init},
     {Py_tp_traverse, Connection_traverse},

@@ -231,12 +231,24 @@ static const struct {
     const char *name, *doc;
     initproc init;
 } makers[EVENTS] = {
-    {"raspcream.h11.Request", "A request's head.", Request_init},
-    {"raspcream.h11.InformationalResponse", "An answer of status 100 to 199.", InformationalResponse_init},
-    {"raspcream.h11.Response", "An answer's head.", Response_init},
-    {"raspcream.h11.Data", "A piece of a body.", Data_init},
-    {"raspcream.h11.EndOfMessage", "A body's end, with the lines behind its chunks.", EndOfMessage_init},
-    {"raspcream.h11.ConnectionClosed", "Nothing more comes.", ConnectionClosed_init},
+    {"raspcream.h11.Request",
+     "Request(*, method, target, headers=(), http_version=b'1.1')\n--\n\nA request's head.",
+     Request_init},
+    {"raspcream.h11.InformationalResponse",
+     "InformationalResponse(*, status_code, headers=(), http_version=b'1.1', reason=b'')\n--\n\nAn answer of status 100 to 199.",
+     InformationalResponse_init},
+    {"raspcream.h11.Response",
+     "Response(*, status_code, headers=(), http_version=b'1.1', reason=b'')\n--\n\nAn answer's head.",
+     Response_init},
+    {"raspcream.h11.Data",
+     "Data(data, chunk_start=False, chunk_end=False)\n--\n\nA piece of a body.",
+     Data_init},
+    {"raspcream.h11.EndOfMessage",
+     "EndOfMessage(*, headers=None)\n--\n\nA body's end, with the lines behind its chunks.",
+     EndOfMessage_init},
+    {"raspcream.h11.ConnectionClosed",
+     "ConnectionClosed()\n--\n\nNothing more comes.",
+     ConnectionClosed_init},
 };
 
 static PyTypeObject *type_of(event_kind kind, PyObject *base) {

@@ -25,7 +25,8 @@ PyObject *failed(rc_code code);
         if (!(SELF)->conn) return PyErr_SetString(PyExc_ValueError, "no connection"), NULL; \
     } while (0)
 
-#define METHOD(TYPE, NAME, FLAGS, TEXT) {#NAME, (PyCFunction)(void (*)(void))TYPE##_##NAME, FLAGS, TEXT}
+/* A method with what it takes, besides the object, and what it does. */
+#define METHOD(TYPE, NAME, FLAGS, TAKES, TEXT) {#NAME, (PyCFunction)(void (*)(void))TYPE##_##NAME, FLAGS, #NAME "($self" TAKES ", /)\n--\n\n" TEXT}
 
 /* What a heap type's own deallocation ends with. */
 void release(PyObject *self);
