@@ -141,10 +141,11 @@ static int read_headers(said *s, PyObject *headers) {
 static bool is_1_1(PyObject *version) { return version && PyBytes_Size(version) == 3 && !memcmp(PyBytes_AsString(version), "1.1", 3); }
 
 /* Whether a head may be sent now. */
-static int check_head(const Connection *self, event_kind kind, role side, PyObject *version) {
-    if (!is_1_1(version)) return refuse("only HTTP/1.1 is sent"), -1;
+static int check_head(const Connection *self, event_kind kind, role side, PyObject *event) {
+    if (!is_1_1(value_of(event, kind == REQUEST ? REQUEST_VERSION_AT : ANSWER_VERSION_AT))) return refuse("only HTTP/1.1 is sent"), -1;
     if (side == self->ours && may_step(self, side, kind)) return 0;
-    return PyErr_Format(local_error, "can't send this head when our state is %R", states[self->states[self->ours]]), -1;
+    PyObject *now = states[self->states[self->ours]];
+    return PyErr_Format(local_error, "can't send %s when our state is %R", name_of_event(event), now), -1;
 }
 
 static bool contains(rc_span in, const char *what) { return memmem(in.at, in.len, what, strlen(what)) != NULL; }
@@ -224,7 +225,7 @@ static void begin_body(Connection *self, uint64_t size, bool is_chunked) {
 static PyObject *send_answer(Connection *self, PyObject *event) {
     unsigned status = (unsigned)PyLong_AsUnsignedLong(value_of(event, STATUS_AT));
     said s = {.size = RC_SIZE_STREAM};
-    if (check_head(self, RESPONSE, SERVER, value_of(event, ANSWER_VERSION_AT)) < 0 || read_headers(&s, headers_in(event)) < 0) return NULL;
+    if (check_head(self, RESPONSE, SERVER, event) < 0 || read_headers(&s, headers_in(event)) < 0) return NULL;
     bool is_tunnel = self->is_connect && status < 300 && !self->is_refused;
     if (status == 204 || status == 304 || is_tunnel) s.size = RC_SIZE_NONE;
     bool is_stream = s.size == RC_SIZE_STREAM;
@@ -269,7 +270,7 @@ static int engine_goes_on(Connection *self, PyObject *event) {
 static PyObject *send_informational(Connection *self, PyObject *event) {
     text t;
     unsigned status = (unsigned)PyLong_AsUnsignedLong(value_of(event, STATUS_AT));
-    if (check_head(self, INFORMATIONAL, SERVER, value_of(event, ANSWER_VERSION_AT)) < 0) return NULL;
+    if (check_head(self, INFORMATIONAL, SERVER, event) < 0) return NULL;
     int done = status == 101 ? engine_switches(self, event) : status == 100 ? engine_goes_on(self, event) : 0;
     if (done < 0) return NULL;
     begin(&t);
@@ -300,7 +301,7 @@ static PyObject *send_request(Connection *self, PyObject *event) {
     text t;
     said s = {.size = RC_SIZE_NONE};
     PyObject *headers = headers_in(event);
-    if (check_head(self, REQUEST, CLIENT, value_of(event, REQUEST_VERSION_AT)) < 0 || read_headers(&s, headers) < 0) return NULL;
+    if (check_head(self, REQUEST, CLIENT, event) < 0 || read_headers(&s, headers) < 0) return NULL;
     if (engine_asks(self, event, &s) < 0) return NULL;
     self->is_connect = is_method(event, "CONNECT");
     self->is_head = false;
