@@ -1,4 +1,5 @@
 """Builds the extension over libraspcream.a: the one in RASPCREAM_LIB_DIR, or else the one that `make` in bindings/c leaves."""
+import glob
 import os
 import shutil
 
@@ -18,7 +19,8 @@ setup(
     ext_modules=[
         Extension(
             "raspcream._conn",
-            ["raspcream/_conn.c"],
+            sorted(glob.glob("src/*.c")),
+            depends=glob.glob("src/*.h"),
             include_dirs=[header],
             extra_objects=[os.path.join(library, "libraspcream.a")],
             extra_compile_args=["-O2"],

@@ -130,6 +130,63 @@ class Server(unittest.TestCase):
         self.assertIs(conn.our_state, h11.MUST_CLOSE)
 
 
+class Events(unittest.TestCase):
+    def test_names_keep_their_capitals(self):
+        event = h11.Response(status_code=200, headers=[(b"a", b"1"), ("X-B", "2"), (b"Content-Length", b"5, 5"), (b"content-length", b"5")])
+        self.assertEqual(event.headers, [(b"a", b"1"), (b"x-b", b"2"), (b"content-length", b"5")])
+        self.assertEqual(event.headers.raw_items(), [(b"a", b"1"), (b"X-B", b"2"), (b"Content-Length", b"5")])
+        again = h11.Response(status_code=201, headers=event.headers)
+        self.assertIs(again.headers, event.headers)
+
+    def test_events_are_compared_and_shown(self):
+        event = h11.Data(b"ab", True)
+        self.assertEqual(repr(event), "Data(data=b'ab', chunk_start=True, chunk_end=False)")
+        self.assertEqual(event, h11.Data(data=b"ab", chunk_start=True))
+        self.assertNotEqual(event, h11.Data(data=b"ab"))
+        self.assertNotEqual(h11.Response(status_code=200), h11.InformationalResponse(status_code=100))
+        self.assertEqual(repr(h11.ConnectionClosed()), "ConnectionClosed()")
+        with self.assertRaises(TypeError):
+            hash(event)
+
+    def test_an_event_does_not_change(self):
+        event = h11.Data(data=b"ab")
+        with self.assertRaises(AttributeError):
+            event.data = b""
+        with self.assertRaises(TypeError):
+            event.__init__(data=b"")
+        self.assertEqual(event.data, b"ab")
+
+    def test_wrong_values(self):
+        for words in ({}, {"status_code": 200, "body": b""}, {"status_code": 200, "headers": 1}, {"status_code": 200, "headers": [(1, b"a")]}):
+            with self.assertRaises(TypeError):
+                h11.Response(**words)
+        with self.assertRaises(TypeError):
+            h11.Response(200)
+        for headers in ([(b"content-length", b"1, 2")], [(b"a", b" b")], [(b"transfer-encoding", b"gzip")]):
+            with self.assertRaises(h11.LocalProtocolError):
+                h11.Response(status_code=200, headers=headers)
+        for status in ("200", 99, 199, 1000, 10**30):
+            with self.assertRaises(h11.LocalProtocolError):
+                h11.Response(status_code=status)
+
+    def test_a_line_that_was_changed_is_checked_again(self):
+        for line in ((b"date", b"a\r\nb: c"), (b"x", b"a\r\nb: c"), (b"content-length", b"-1")):
+            conn, event = server(), h11.Response(status_code=200)
+            conn.receive_data(b"GET / HTTP/1.1\r\nHost: a\r\n\r\n")
+            conn.next_event()
+            event.headers.append(line)
+            with self.assertRaises(h11.LocalProtocolError):
+                conn.send(event)
+
+    def test_what_never_began(self):
+        conn = h11.Connection.__new__(h11.Connection)
+        for call in (conn.next_event, conn.bytes_to_send, lambda: conn.receive_data(b"a"), lambda: conn.send(h11.Data(b"a")), lambda: conn.trailing_data):
+            with self.assertRaises(ValueError):
+                call()
+        with self.assertRaises(h11.LocalProtocolError):
+            server().send(h11.Request.__new__(h11.Request))
+
+
 class TwoEnds(unittest.TestCase):
     def test_exchanges(self):
         server, client = h11.Connection(h11.SERVER), h11.Connection(h11.CLIENT)
