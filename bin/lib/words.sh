@@ -130,8 +130,14 @@ launch_chat() {
 }
 
 launch_proxy() {
-    flags="--quiet --ignore-input"
-    valued="--bind"
+    flags="--trust-forwarded --lax --quiet --ignore-input"
+    valued="--bind --limit"
+    value() {
+        case $1 in
+            --bind) [ $# -gt 1 ] || wrong Bind ;;
+            --limit) [ $# -gt 1 ] && is_limit "$2" || wrong Limit ;;
+        esac
+    }
     operand() {
         case $1 in
             1) is_number "$2" 65535 || wrong Port ;;
@@ -146,6 +152,12 @@ launch_proxy() {
     fi
     more=(--ignore-input)
     serve_to_input_end "$@"
+}
+
+# NAME=NUMBER, with a name that the program's help lists.
+is_limit() {
+    [[ $1 =~ ^[a-z]+= ]] && is_number "${1#*=}" "$most_64" \
+        && [[ " $(text_of HELP | sed -n 's/^  \([a-z]*\)=[0-9].*/\1/p' | tr '\n' ' ') " == *" ${1%%=*} "* ]]
 }
 
 launch_replay() {

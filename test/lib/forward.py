@@ -1,11 +1,10 @@
 """Clients of app_proxy, before servers that answer well and badly."""
-import os, re, resource, socket, struct, subprocess, tempfile, threading, time
+import os, re, socket, subprocess, tempfile, threading, time
 
 from checks import check, connect, differs, free_port, has, read_all, run, statuses_of, wait_for
+from edge import default_clients, edge_clients
+from forwarder import GET, LAST, Forwarder, exchange
 from upstream import BIG, Upstream
-
-GET = b"GET /%s HTTP/1.1\r\nhost: a\r\n\r\n"
-LAST = b"GET /%s HTTP/1.1\r\nhost: a\r\nconnection: close\r\n\r\n"
 
 NGINX = """
 worker_processes 1; daemon off; master_process off; pid %(place)s/pid; error_log %(place)s/error.log;
@@ -20,45 +19,6 @@ http { access_log off; default_type text/plain; client_max_body_size 0; client_b
 """
 
 
-class Forwarder:
-    """The program before a server."""
-    def __init__(self, program, server, *words, descriptors=None):
-        def limit():
-            if descriptors:
-                resource.setrlimit(resource.RLIMIT_NOFILE, (descriptors, descriptors))
-        self.address = ("127.0.0.1", free_port())
-        self.log = tempfile.TemporaryFile()
-        self.process = subprocess.Popen([program, str(self.address[1]), "%s:%d" % server, *words], preexec_fn=limit,
-                                        stdin=subprocess.PIPE, stdout=self.log, stderr=subprocess.DEVNULL)
-        wait_for(self.address)
-
-    def __enter__(self):
-        return self
-
-    def __exit__(self, *_):
-        self.process.terminate()
-        self.process.wait()
-
-    def lines(self):
-        time.sleep(0.2)
-        self.log.seek(0)
-        return self.log.read().decode().splitlines()
-
-
-def exchange(address, data, seconds=20):
-    with connect(address) as sock:
-        sock.settimeout(seconds)
-        threading.Thread(target=send_all, args=(sock, data), daemon=True).start()
-        return read_all(sock)
-
-
-def send_all(sock, data):
-    try:
-        sock.sendall(data)
-    except OSError:
-        pass
-
-
 def forward_clients(program, quick, files=None):
     """Without an app_files the browser is passed over."""
     server = Upstream()
@@ -70,9 +30,8 @@ def forward_clients(program, quick, files=None):
         bad_clients(forwarder.address)
         smuggling_clients(forwarder.address, server)
         log_clients(forwarder)
-        option_clients(program, server)
-        gone_clients(program)
-        slow = [] if quick else silent_clients(forwarder.address)
+        slow = [] if quick else silent_clients(forwarder.address) + [default_clients(program, server)]
+        edge_clients(program, server)
         if has("nginx"):
             nginx_clients(program)
         for thread in slow:
@@ -345,118 +304,7 @@ def smuggling_clients(address, server):
     arrives("a URL with a user", b"GET http://smuggled@b/ HTTP/1.1\r\nhost: a\r\n\r\n" + inner, [b"400"], [])
     arrives("a URL of another scheme", b"GET ftp://smuggled/ HTTP/1.1\r\nhost: a\r\nconnection: close\r\n\r\n", [b"501"], [])
     arrives("OPTIONS of all", b"OPTIONS * HTTP/1.1\r\nhost: a\r\nconnection: close\r\n\r\n", [b"200"], [b"OPTIONS * HTTP/1.1"])
-    for name, head in (
-        ("no Host", b"GET /smuggled HTTP/1.1\r\n"),
-        ("two Hosts", b"GET /smuggled HTTP/1.1\r\nhost: a\r\nhost: a\r\n"),
-        ("a Host with a blank", b"GET /smuggled HTTP/1.1\r\nhost: a b\r\n"),
-        ("a Host with a user", b"GET /smuggled HTTP/1.1\r\nhost: u@a\r\n"),
-        ("a Host with a path", b"GET /smuggled HTTP/1.1\r\nhost: a/b\r\n"),
-        ("a byte from 128 on in the target", b"GET /\xc3\xa4 HTTP/1.1\r\nhost: a\r\n"),
-        ("a fragment", b"GET /smuggled#x HTTP/1.1\r\nhost: a\r\n"),
-        ("a target that is no path", b"GET smuggled HTTP/1.1\r\nhost: a\r\n"),
-    ):
-        arrives(name, head + b"\r\n" + inner, [b"400"], [])
     arrives("a head of 200,000 bytes", b"GET / HTTP/1.1\r\nx: " + b"x" * 200_000 + b"\r\n\r\n", [b"431"], [])
-
-
-def option_clients(program, server):
-    with Forwarder(program, server.address, "--trust-forwarded") as forwarder:
-        def trusted():
-            seen = exchange(forwarder.address, b"GET /head HTTP/1.1\r\nhost: a\r\nconnection: close\r\nx-forwarded-for: 10.0.0.1\r\n"
-                                               b"x-forwarded-proto: https\r\n\r\n")
-            return differs([wanted in seen for wanted in (b"x-forwarded-for: 10.0.0.1\r\nx-forwarded-for: 127.0.0.1\r\n",
-                                                          b"x-forwarded-proto: https\r\n", b"x-forwarded-proto: http\r\n")], [True, True, False])
-        check("forwarder, --trust-forwarded", trusted)
-    with Forwarder(program, server.address, "--limit", "stall=2000", "--limit", "drain=1000", "--limit", "reuse=100") as forwarder:
-        def slow(name, begin, wanted, least, most):
-            """A client that begins so, and then sends a byte now and then."""
-            def make():
-                start = time.monotonic()
-                seen = b""
-                with connect(forwarder.address) as sock:
-                    sock.sendall(begin)
-                    sock.settimeout(0.2)
-                    while time.monotonic() - start < 20:
-                        try:
-                            piece = sock.recv(65536)
-                            if not piece:
-                                break
-                            seen += piece
-                        except TimeoutError:
-                            send_all(sock, b"x")
-                        except OSError:
-                            break
-                return differs((statuses_of(seen), least < time.monotonic() - start < most), (wanted, True))
-            check("forwarder, " + name, make)
-        slow("a client that sends little of a body", b"POST /echo HTTP/1.1\r\nhost: a\r\ncontent-length: 1000\r\n\r\n", [], 1.9, 6)
-        slow("a client that sends little of its second head", GET % b"" + b"GET / HTTP/1.1\r\nx: ", [b"200"], 1.9, 6)
-        slow("a client that sends on behind its reply", b"POST /early HTTP/1.1\r\nhost: a\r\ncontent-length: 1000\r\n\r\n", [b"413"], 0, 4)
-
-        def reuse():
-            before = len(server.came)
-            with connect(forwarder.address) as sock:
-                for _ in range(3):
-                    sock.sendall(GET % b"")
-                    sock.recv(65536)
-                    time.sleep(0.4)
-            return differs(len(server.came) - before, 3)
-        check("forwarder, a server connection that was idle for too long isn't used again", reuse)
-    with Forwarder(program, server.address, descriptors=60) as forwarder:
-        def many():
-            socks = [connect(forwarder.address) for _ in range(40)]
-            for sock in socks:
-                sock.sendall(LAST % b"")
-            return differs([statuses_of(read_all(sock)) for sock in socks], [[b"200"]] * 40)
-        check("forwarder, forty clients with 60 descriptors", many)
-    with Forwarder(program, server.address, "--lax") as forwarder:
-        def lax():
-            seen = exchange(forwarder.address, b"GET /head HTTP/1.1\r\nconnection: close\r\n\r\n")
-            return differs((statuses_of(seen), b"host: %s:%d\r\n" % (b"127.0.0.1", server.address[1]) in seen), ([b"200"], True))
-        check("forwarder, --lax", lax)
-
-        def user():
-            seen = exchange(forwarder.address, b"GET http://u@a/ HTTP/1.1\r\nhost: a\r\nconnection: close\r\n\r\n")
-            return differs(statuses_of(seen), [b"501"])
-        check("forwarder, --lax, and a user in a URL", user)
-
-
-def gone_clients(program):
-    """Before a server that answers late, or not."""
-    with socket.create_server(("127.0.0.1", 0)) as server, Forwarder(program, server.getsockname()) as forwarder:
-        def gone(name, leave, most):
-            def make():
-                client = connect(forwarder.address)
-                client.sendall(GET % b"")
-                at_server, _ = server.accept()
-                with at_server:
-                    at_server.settimeout(20)
-                    head = at_server.recv(65536)
-                    start = time.monotonic()
-                    leave(client)
-                    try:
-                        rest = at_server.recv(65536)
-                    except ConnectionError:
-                        rest = b""
-                    return differs((head[:4], rest, time.monotonic() - start < most), (b"GET ", b"", True))
-            check("forwarder, " + name, make)
-
-        def reset(client):
-            client.setsockopt(socket.SOL_SOCKET, socket.SO_LINGER, struct.pack("ii", 1, 0))
-            client.close()
-        gone("a client that closes while its server thinks lets go of it", socket.socket.close, 5)
-        gone("so does one that resets", reset, 2)
-
-        def half():
-            with connect(forwarder.address) as client:
-                client.sendall(LAST % b"")
-                client.shutdown(socket.SHUT_WR)
-                at_server, _ = server.accept()
-                with at_server:
-                    at_server.recv(65536)
-                    time.sleep(0.5)
-                    at_server.sendall(b"HTTP/1.1 200 OK\r\ncontent-length: 2\r\n\r\nhi")
-                    return differs(statuses_of(read_all(client)), [b"200"])
-        check("forwarder, a client that sends no more gets its answer", half)
 
 
 def log_clients(forwarder):

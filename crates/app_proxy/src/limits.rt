@@ -11,7 +11,7 @@ const SPARE: u64 = 16;
 const MOST_KEPT: u64 = 128;
 
 /// What the program allows its peers. Times are in milliseconds.
-#[derive(Clone, Copy, Debug)]
+#[derive(Clone, Copy)]
 pub struct Limits {
     /// The most clients at once: at most 10,000, and as many as each may have two descriptors.
     pub clients: u64,

@@ -22,12 +22,16 @@ pub enum Link {
 }
 
 impl Link {
-    /// Whether the server has to move next: a connection is to come about, or an answer to go on.
+    /// Whether the server has to move next: a connection is to come about, bytes are to be taken, or an answer is to go on
+    /// whose client isn't to send.
     pub fn is_awaited(&self, proxy: &Proxy) -> bool {
         match self {
             Link::None => false,
             Link::Connecting(_) => true,
-            Link::Open(_) => !proxy.is_reusable() && proxy.server_room() > 0,
+            Link::Open(_) => {
+                let is_client_awaited = proxy.is_to_send() && proxy.server_front().is_empty();
+                !proxy.is_reusable() && proxy.server_room() > 0 && !is_client_awaited
+            }
         }
     }
 

@@ -40,12 +40,14 @@ The limits, and their defaults:
   end=10000        how long a connection that ends has for what is left to write
   reuse=4000       how long a connection to the server may be idle and still be used again
 
-It ends where the standard input ends. A request gets 501 where it can't be sent on
-(CONNECT, another protocol, a target of another scheme than http), 502 where the server isn't to be had, answers badly or
-sends nothing for too long, and 400 or 431 where it is malformed or too large, or its Host or its target isn't one by
-RFC 9112. Messages are written anew from what was read: no client makes the server see a request that wasn't one. The server
-is told the host, the client's address (X-Forwarded-For, X-Forwarded-Proto, X-Forwarded-Host, Forwarded) and who passes the
-request on (Via), as a client is of an answer.
+With 0 for head or end there is no such limit, and with idle=0 a connection ends behind its first reply.
+
+It ends where the standard input ends. A request gets 501 where it can't be sent on (CONNECT, another protocol, a target of
+another scheme than http), 502 where the server isn't to be had, answers badly or sends nothing for too long, and 400 or 431
+where it is malformed or too large, or its Host or its target isn't one by RFC 9112. Messages are written anew from what was
+read: no client makes the server see a request that wasn't one. The server is told the host, the client's address
+(X-Forwarded-For, X-Forwarded-Proto, X-Forwarded-Host, Forwarded) and who passes the request on (Via), as a client is of an
+answer.
 
 For each reply a line is written: the client's address, the date, the request and the status.
 
