@@ -1,7 +1,7 @@
 -- What waits towards a server stays below its bound.
-use Rattle.std.proofs.Common.{◌≡◌, ◌⊎◌, ℕ, ◌<◌, ◌≤◌, Bool, true, false, ◌&&◌, ◌||◌, List, [], ◌∷◌, length, drop, Option, Some, None, refl, sym, ap, ◌∙◌, subst, inl, inr, arith, ltb-true}
+use Rattle.std.proofs.Common.{◌≡◌, ◌⊎◌, ℕ, ◌<◌, ◌≤◌, Bool, true, false, not, ◌&&◌, ◌||◌, List, [], ◌∷◌, length, drop, Option, Some, None, refl, sym, ap, ◌∙◌, subst, inl, inr, arith, ltb-true}
 use Rattle.std.specs.Prelude.{nat_lt, ◌==◌, if◌then◌else◌}
-use Rattle.std.proofs.lemmas.Bool.{false≢true, and_parts}
+use Rattle.std.proofs.lemmas.Bool.{false≢true}
 use Rattle.model_h1.specs.Setting.{Setting}
 use Rattle.model_client.specs.AnswerReading.{AnswerReading, Answer, answer_is, refused}
 use Rattle.model_client.specs.AnswerParse.{is_interim}
@@ -14,6 +14,7 @@ use Rattle.h1_connection.specs.State.{State}
 use Rattle.h1_client.specs.ClientMeaning.{setting_of}
 use Rattle.h1_client.specs.State as servers
 use Rattle.model_proxy.specs.Rests.{MAX_WAITING}
+use Rattle.proxy.specs.Kept.{is_closing}
 use Rattle.proxy.specs.Fresh.{is_server_used, WaitsAlone, AddsBelow, SendsBelow}
 use Rattle.proxy.specs.Replies.{Fails}
 use Rattle.proxy.specs.Rests.{may_begin, is_over, may_turn}
@@ -50,6 +51,9 @@ below_kept s t None same x = tt
 below_kept s t (Some u) same x = λ much. x (subst (λ (b : List ℕ). MAX_WAITING ≤ length b) (sym same) much) ∙ same
 
 -- less waits
+pub no_room : {X : Type 0} (s : servers.State) → length s.kept.buffered < MAX_WAITING → MAX_WAITING ≤ length s.kept.buffered → X
+no_room {X} s low much = let none : ⊥ = omega (arith, low, much) in absurd none
+
 pub below_room : (s : servers.State) (o : Option servers.State) → length s.kept.buffered < MAX_WAITING → AddsBelow (Some s) o
 below_room s None low = tt
 below_room s (Some t) low = λ much. let none : ⊥ = omega (arith, low, much) in absurd none
@@ -69,6 +73,15 @@ fails_below answered client o q x = below_closed o q.server (fails_closed answer
 
 -- ---- a turn
 
+first_two : (a b c : Bool) → (a && b && c) ≡ true → (a ≡ true) × (b ≡ true)
+first_two true true c is = (refl, refl)
+first_two true false c is = absurd (false≢true is)
+first_two false b c is = absurd (false≢true is)
+
+-- there is room towards the client, and a turn may begin
+may_parts : (p : Proxy) → may_turn p ≡ true → (nat_lt (length p.client.kept.buffered) MAX_WAITING ≡ true) × ((may_begin p.sent p.server || is_over p.server) ≡ true)
+may_parts p may = first_two (nat_lt (length p.client.kept.buffered) MAX_WAITING) (may_begin p.sent p.server || is_over p.server) (not (is_closing p)) may
+
 -- where none is made
 pub still_below : (p : Proxy) → SendsBelow p p
 still_below p = record { client = λ much. refl; server = λ alone. below_same p.server }
@@ -76,7 +89,7 @@ still_below p = record { client = λ much. refl; server = λ alone. below_same p
 -- one that is made, where little waits towards the client
 pub turn_below : (p q : Proxy) → may_turn p ≡ true → (WaitsAlone p → AddsBelow p.server q.server) → SendsBelow p q
 turn_below p q may adds =
-    let low : length p.client.kept.buffered < MAX_WAITING = ltb-true (length p.client.kept.buffered) MAX_WAITING (and_parts _ _ may).0 in
+    let low : length p.client.kept.buffered < MAX_WAITING = ltb-true (length p.client.kept.buffered) MAX_WAITING (may_parts p may).0 in
     record { client = λ much. (let none : ⊥ = omega (arith, low, much) in absurd none); server = adds }
 
 -- a request that waits is sent on only where there is room towards the server
@@ -86,18 +99,16 @@ sends_by sent None o none may unused = tt
 sends_by (Some x) (Some s) o none may unused = let no : ⊥ = cc in absurd no
 sends_by None (Some s) o none may unused = by_over (is_over (Some s)) refl may
   where
-    by_over : (over : Bool) → is_over (Some s) ≡ over → (nat_lt (length s.kept.buffered) MAX_WAITING || over) ≡ true → AddsBelow (Some s) o
-    by_over true is e = absurd (false≢true (sym unused ∙ over_used (Some s) is))
-    by_over false is e = by_room (nat_lt (length s.kept.buffered) MAX_WAITING) refl e
-
     by_room : (room : Bool) → nat_lt (length s.kept.buffered) MAX_WAITING ≡ room → (room || false) ≡ true → AddsBelow (Some s) o
     by_room true is e = below_room s o (ltb-true (length s.kept.buffered) MAX_WAITING is)
     by_room false is e = absurd (false≢true e)
 
+    by_over : (over : Bool) → is_over (Some s) ≡ over → (nat_lt (length s.kept.buffered) MAX_WAITING || over) ≡ true → AddsBelow (Some s) o
+    by_over true is e = absurd (false≢true (sym unused ∙ over_used (Some s) is))
+    by_over false is e = by_room (nat_lt (length s.kept.buffered) MAX_WAITING) refl e
+
 pub sends_below : (p : Proxy) (o : Option servers.State) → p.sent ≡ None → may_turn p ≡ true → is_server_used p.server ≡ false → AddsBelow p.server o
-sends_below p o none may unused =
-    let begins = (and_parts _ _ (and_parts _ _ may).1).0 in
-    sends_by p.sent p.server o none begins unused
+sends_below p o none may unused = sends_by p.sent p.server o none (may_parts p may).1 unused
 
 -- ---- what a server's connection does of its own
 

@@ -8,7 +8,7 @@ use Rattle.proxy.proofs.Puts.{puts_none, puts_then, then_none, hands_same, hands
 use Rattle.proxy.specs.declared.proxy.Proxy.{Proxy}
 use Rattle.proxy.specs.declared.proxy.SentRequest.{SentRequest}
 use Rattle.proxy.specs.Kept.{HoldsNoRequest}
-use Rattle.proxy.specs.Replies.{nothing_put, told_to_go_on, broken_body, broken_late, not_forwardable, no_answer, passed_on, piece_on, end_on, cut_off, IsUnanswered, WasAnswered, Marks, marks_of, GoesOnBy, HasCause, HasBytes, TurnReplies, HasReplied, nothing, turned, none_yet, one_more, broke_late, CarriesOn, IsCarried}
+use Rattle.proxy.specs.Replies.{nothing_put, told_to_go_on, broken_body, broken_late, refused_head, not_forwardable, no_answer, passed_on, piece_on, end_on, cut_off, IsUnanswered, WasAnswered, Marks, marks_of, GoesOnBy, HasCause, HasBytes, TurnReplies, HasReplied, nothing, turned, none_yet, one_more, broke_late, CarriesOn, IsCarried}
 use Rattle.proxy.proofs.Replies.{same_marks, goes_as}
 
 -- what goes on by a later state of the same connection
@@ -81,6 +81,7 @@ module _ (marks : Marks) (answered : marks.is_answered ≡ true) (s : servers.St
   by_turn (broken_body fault, cause, puts) = absurd (not_both cause.0 cause.1)
   by_turn (not_forwardable, cause, puts) = absurd (not_idle cause.0)
   by_turn (told_to_go_on, cause, puts) = absurd (not_idle cause.0)
+  by_turn (refused_head, cause, puts) = absurd (not_idle cause.0)
 
 -- after the events and turns before
 carried_then : (marks : Marks) → marks.is_answered ≡ true → (s : servers.State) (old mid new : Proxy) → CarriesOn marks s old mid → HasReplied mid new

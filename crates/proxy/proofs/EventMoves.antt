@@ -42,7 +42,7 @@ client_end_nothing p none = (
   λ history all f. (
     all,
     subst (λ (steps : List ProxyStep). Forwards p steps all)
-        (sym (cond-false (client_takes p on.eof) (record { event = client_eof; outcome = done } ∷ history) history none)) f,
+        (sym (cond-false {A = List ProxyStep} (client_takes p on.eof) (record { event = client_eof; outcome = done } ∷ history) history none)) f,
   ),
 )
 
@@ -54,7 +54,7 @@ end_taken p q may x = (
       let y = x.1 history all f in (
         y.0,
         subst (λ (steps : List ProxyStep). Forwards q steps y.0)
-            (sym (cond-true (client_takes p on.eof) (record { event = client_eof; outcome = done } ∷ history) history may)) y.1,
+            (sym (cond-true {A = List ProxyStep} (client_takes p on.eof) (record { event = client_eof; outcome = done } ∷ history) history may)) y.1,
       ),
 )
 

@@ -14,3 +14,4 @@ pub mod Times
 pub mod Replies
 pub mod Carried
 pub mod Still
+pub mod Sending

@@ -41,6 +41,7 @@ use Rattle.proxy.specs.declared.proxy.SentRequest.{SentRequest}
 use Rattle.proxy.specs.Kept.{Forwards, Runs, HoldsNoRequest, is_closing, wants_server}
 use Rattle.proxy.proofs.EventMoves.{three_parts, some_unsent}
 use Rattle.model_proxy.specs.Rests.{MAX_WAITING}
+use Rattle.proxy.specs.Fresh.{WaitsAlone}
 use Rattle.proxy.specs.Rests.{IsNoted, may_begin, is_over, may_turn, IsFull, IsHeldUp, RestsBy, RestsWhereItMay}
 use Rattle.proxy.specs.Served.{FitsAnswer, Fits, IsServed, Serves, HasTrace, Serving, GoesOnServing, HasNoReply, HasNoReplyTo, WantsNothing, IsKeptAs, IsNewestBy}
 use Rattle.proxy.specs.Replies.{Marks, marks_of}
@@ -54,7 +55,7 @@ told_by o a b x (trace, stands) =
     (y.0, subst (λ (s : Settings). StandsFor (setting_of s) b.kept y.0) (sym x.settings) y.1)
 
 fits_less : (u : Option Unsent) (s : Option SentRequest) (a b : State) → WantsTheSame a b → Fits u s a → Fits u s b
-fits_less (Some u) s a b x f = ((x.complete f.0.0, x.waited f.0.1), f.1, x.asked u.sent.is_head f.2, x.told f.3)
+fits_less (Some u) s a b x f = ((x.complete f.0.0, x.waited f.0.1), f.1, x.asked u.sent.is_head f.2, x.told f.3, f.4)
 fits_less None (Some s) a b x f = (by_answer s.is_answered f.0, x.asked s.is_head f.1, x.told f.2)
   where
     by_answer : (t : Bool) → FitsAnswer t a → FitsAnswer t b
@@ -140,10 +141,10 @@ passed_serves is_head closes p t none is told answered answering asked on = reco
 }
 
 -- its client is told to go on, and it waits to be sent on
-pub waits_serves : (is_head : Bool) (p : Proxy) (c : State) (u : Unsent) → u.sent.is_answered ≡ false → u.sent.is_head ≡ is_head
+pub waits_serves : (is_head : Bool) (p : Proxy) (c : State) (u : Unsent) → p.sent ≡ None → u.sent.is_answered ≡ false → u.sent.is_head ≡ is_head
     → ClientBrings on.done p.client c → Wants WantsTheSame p.client c → Wants TellsToContinue p.client c → HasNoReplyTo is_head p
     → Serving (record p { client = c; unsent = Some u })
-waits_serves is_head p c u is method brings wants tells x =
+waits_serves is_head p c u none is method brings wants tells x =
     let same = wants x.0.told.0 x.0.told.1 in
     record {
       told = told_by on.done p.client c brings x.0.told;
@@ -152,15 +153,16 @@ waits_serves is_head p c u is method brings wants tells x =
         is,
         subst (λ (b : Bool). IsAskedBy b c) (sym method) (same.asked is_head x.1),
         tells x.0.told.0 x.0.told.1 x.0.waited,
+        none,
       );
     }
 
 -- the same of a client that isn't told, since it is one of HTTP/1.0
-pub old_serves : (is_head : Bool) (p : Proxy) (u : Unsent) → u.sent.is_answered ≡ false → u.sent.is_head ≡ is_head → HasNoReplyTo is_head p → IsTold p.client
+pub old_serves : (is_head : Bool) (p : Proxy) (u : Unsent) → p.sent ≡ None → u.sent.is_answered ≡ false → u.sent.is_head ≡ is_head → HasNoReplyTo is_head p → IsTold p.client
     → Serving (record p { unsent = Some u })
-old_serves is_head p u is method x on = record {
+old_serves is_head p u none is method x on = record {
   told = x.0.told;
-  served = ((x.0.complete, x.0.waited), is, subst (λ (b : Bool). IsAskedBy b p.client) (sym method) x.1, on);
+  served = ((x.0.complete, x.0.waited), is, subst (λ (b : Bool). IsAskedBy b p.client) (sym method) x.1, on, none);
 }
 
 -- it was sent on
@@ -237,6 +239,15 @@ refused_no_reply p wants x =
 pub fresh_serves : (p : Proxy) (c : State) → c ≡ fresh_state p.config.connections → IsServed (record p { client = c; server = None; unsent = None; sent = None })
 fresh_serves p c is =
     subst (λ (c : State). IsServed (record p { client = c; server = None; unsent = None; sent = None })) (sym is) (λ runs. refl, λ runs. refl)
+
+-- ---- one at a time
+
+pub waits_alone : (p : Proxy) → IsServed p → WaitsAlone p
+waits_alone p served = by_waiting p.unsent p.sent served
+  where
+    by_waiting : (u : Option Unsent) (s : Option SentRequest) → Fits u s p.client → is_some u ≡ true → s ≡ None
+    by_waiting (Some u) s fits waits = fits.4
+    by_waiting None s fits waits = absurd (false≢true waits)
 
 -- ---- nobody waits in vain
 
@@ -342,8 +353,8 @@ no_head_in_vain p served rests may over waits going allowed =
 -- a client that goes on, and to which 100 may be sent, is one of HTTP/1.0
 old_by : (client : State) (u : Option Unsent) (s : Option SentRequest) → Fits u s client → is_running (setting_of client.settings) client.kept ≡ true
     → waits_for_answer client.kept ≡ true → of_exchange (λ x. x.expects && not x.had_continue) client.kept ≡ true → is_of_old client.kept ≡ true
-old_by client (Some u) s fits runs waits owed = owed_old client.kept client.kept.exchange (fits.3 runs) owed
-old_by client None (Some s) fits runs waits owed = owed_old client.kept client.kept.exchange (fits.2 runs) owed
+old_by client (Some u) s fits runs waits owed = owed_old (setting_of client.settings) client.kept client.kept.exchange (fits.3 runs) owed
+old_by client None (Some s) fits runs waits owed = owed_old (setting_of client.settings) client.kept client.kept.exchange (fits.2 runs) owed
 old_by client None None fits runs waits owed = absurd (false≢true (sym (fits.0 runs) ∙ waits))
 
 both_true : (a b : Bool) → (a && b) ≡ true → (a ≡ true) × (b ≡ true)

@@ -19,7 +19,7 @@ use Rattle.h1_connection.specs.declared.connection.heads.NextHead.{NextHead}
 use Rattle.h1_connection.specs.declared.connection.heads.NextHead.TheVariants as next
 use Rattle.model_proxy.specs.Wants as wanted
 use Rattle.model_proxy.proofs.Wants.{others_want, pull_wants, next_wants, answer_wants, waited, end_wants, cut_wants, continue_tells, no_answer, no_end, no_continue}
-use Rattle.proxy_heads.proofs.RequestLemmas.{old_is}
+use Rattle.h1_client.proofs.AfterLemmas.{old_minor}
 use Rattle.proxy.specs.Wants.{IsAnswered, IsComplete, IsWaitedFor, IsAnswering, IsTold, WantsTheSame, Wants, WantsNext, HasHead, HasEnd, TellsToContinue}
 use Rattle.proxy.proofs.Sides.{stepped}
 
@@ -72,7 +72,7 @@ same_mark item h g x y = ap (λ (m : List ℕ). bytes_eq m (codes "HEAD")) (sym 
 
 -- and one version
 pub age_of : (item : HeadItem) (h : Head) → SaysHead item h → is_below_http11 item.head.version ≡ (h.minor == 0)
-age_of item h x = ap is_below_http11 x.version ∙ old_is h.minor
+age_of item h x = ap is_below_http11 x.version ∙ old_minor h.minor
 
 same_age : (item : HeadItem) (h g : Head) → SaysHead item h → SaysHead item g → (h.minor == 0) ≡ (g.minor == 0)
 same_age item h g x y = sym (age_of item h x) ∙ age_of item g y

@@ -184,12 +184,12 @@ is_idle p = is_none p.unsent && is_none p.sent
 abbrev pub has_unread : Proxy → Bool
 has_unread p = nat_lt 0 (length p.client.kept.unread)
 
--- The client is to send more: there is room for it, and nothing waits for it to take. Of a body that is read all that came was passed on; or no
--- request is under way, and a head is begun, or the rest of a body is dropped.
+-- The client is to send more: there is room for it, and nothing waits for it to take. Of a body that is read, and so may be dropped, all that
+-- came was passed on; or no request is under way, and a head is begun, or the rest of a body is dropped.
 abbrev pub is_to_send : Proxy → Bool
 is_to_send p =
     nat_lt 0 (client_room p) && (not (nat_lt 0 (length p.client.kept.buffered))
-    && (if client_takes p on.pull then not (has_unread p) else (is_idle p && (not (client_takes p on.next) || has_unread p))))
+    && (if client_takes p on.drop_body then not (has_unread p) else (is_idle p && (not (client_takes p on.next) || has_unread p))))
 
 -- the reply is whole and was taken, and the rest of its request's body is dropped
 abbrev pub is_draining : Proxy → Bool

@@ -19,10 +19,10 @@ FitsAnswer false client = IsComplete client × IsWaitedFor client
 
 -- What the client's connection wants is what the request that is under way is to get, no more and no less: one that waits for a server
 -- connection, or was sent on and has no answer yet, gets the head of one; then what is missing of that. It is the newest that the client's
--- connection handed out, and counts as one of HEAD where that does; and its client, if it waited to be told to go on, was told. Where none
--- is under way, nothing is wanted.
+-- connection handed out, and counts as one of HEAD where that does; and its client, if it waited to be told to go on, was told. While one waits
+-- to be sent on, no other is under way. Where none is under way, nothing is wanted.
 abbrev pub Fits : Option Unsent → Option SentRequest → State → Type 0
-Fits (Some u) sent client = FitsAnswer false client × (u.sent.is_answered ≡ false) × IsAskedBy u.sent.is_head client × IsTold client
+Fits (Some u) sent client = FitsAnswer false client × (u.sent.is_answered ≡ false) × IsAskedBy u.sent.is_head client × IsTold client × (sent ≡ None)
 Fits None (Some s) client = FitsAnswer s.is_answered client × IsAskedBy s.is_head client × IsTold client
 Fits None None client = IsAnswered client × IsComplete client
 

@@ -16,7 +16,7 @@ ghost use Rattle.model_proxy.specs.Wants.{is_of_old};
 ghost use Rattle.proxy.specs.Leaves.{LacksHead, IsAwaited, LacksBytes};
 ghost use Rattle.proxy.specs.declared.proxy.Proxy.{Proxy};
 ghost use Rattle.proxy.specs.Kept.{client_of, server_of, wants_server, client_takes, Forwards};
-ghost use Rattle.proxy.specs.Fresh.{IsReadFrom};
+ghost use Rattle.proxy.specs.Fresh.{IsReadFrom, WaitsAlone};
 ghost use Rattle.proxy.specs.Rests.{may_turn, IsHeldUp, RestsWhereItMay};
 ghost use Rattle.proxy.specs.Served.{IsServed, IsRequestUnderWay, IsNewestBy};
 ghost use Rattle.proxy.specs.declared.proxy.SentRequest.{SentRequest};
@@ -67,6 +67,12 @@ pub fn no_client_waits_to_be_told()
 pub fn a_request_counts_by_its_method()
     ensures { (p : Proxy) (history : List ProxyStep) (all : Happenings) (sent : SentRequest) → Forwards p history all → IsServed p → IsRequestUnderWay sent p
         → IsNewestBy sent.is_head all.requests }
+{}
+
+/// One request at most is under way: while one waits to be sent on, none was sent. So where 32768 bytes wait towards a server, no turn puts more
+/// behind them (`SendsBelow`).
+pub fn a_request_waits_alone()
+    ensures { (p : Proxy) → IsServed p → WaitsAlone p }
 {}
 
 /// No answer is read from bytes that came before its request was sent. A request is sent on only where all that came before on its server

@@ -30,6 +30,7 @@ mod forwarding;
 pub mod laws;
 mod notes;
 mod opening;
+mod passing;
 mod proxy;
 pub mod upstream;
 

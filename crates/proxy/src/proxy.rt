@@ -269,7 +269,9 @@ impl Proxy {
         if self.client.can_pull() {
             return !has_unread;
         }
-        self.is_idle() && (!self.client.can_next() || has_unread)
+        let is_idle = self.is_idle();
+        let can_next = self.client.can_next();
+        is_idle && (!can_next || has_unread)
     }
 
     /// Whether the reply is whole and was taken, and the rest of its request's body is dropped.
@@ -282,7 +284,9 @@ impl Proxy {
         if self.client.buffered() > 0 {
             return false;
         }
-        self.is_idle() && !self.client.can_next()
+        let is_idle = self.is_idle();
+        let can_next = self.client.can_next();
+        is_idle && !can_next
     }
 
     /// Whether the client's input has ended while no answer to its request has begun. Nothing tells such a client from one
@@ -296,7 +300,9 @@ impl Proxy {
         if self.is_closing() {
             return false;
         }
-        !self.is_idle() && !self.is_answering()
+        let is_idle = self.is_idle();
+        let is_answering = self.is_answering();
+        !is_idle && !is_answering
     }
 
     fn is_idle(&self) -> bool

@@ -37,12 +37,12 @@ returns-then-not-is_forwardable-clause-serves c = λ h says x told. c.in_ok-decl
 
 pub returns-then-is_old-clause-serves : goal.returns-then-is_old-clause-serves
 returns-then-is_old-clause-serves c = λ h says x told.
-    old_serves _ c.args.self.now c.in_ok-unsent.unsent c.in_ok-unsent.ensures.unanswered (c.in_ok-unsent.ensures.asked h says) x
+    old_serves _ c.args.self.now c.in_ok-unsent.unsent c.requires.idle.sent c.in_ok-unsent.ensures.unanswered (c.in_ok-unsent.ensures.asked h says) x
     (told (sym (c.is_old-is_old.ensures h says) ∙ c.if-is_old.true))
 
 pub returns-clause-serves : goal.returns-clause-serves
 returns-clause-serves c = λ h says x told.
-    waits_serves _ c.args.self.now c.tell_to_continue.new.client c.in_ok-unsent.unsent c.in_ok-unsent.ensures.unanswered (c.in_ok-unsent.ensures.asked h says)
+    waits_serves _ c.args.self.now c.tell_to_continue.new.client c.in_ok-unsent.unsent c.requires.idle.sent c.in_ok-unsent.ensures.unanswered (c.in_ok-unsent.ensures.asked h says)
     c.in_ok-tell_to_continue.ensures.brings c.in_ok-tell_to_continue.ensures.wants c.in_ok-tell_to_continue.ensures.told x
 
 pub returns-then-not-is_forwardable-clause-replies : goal.returns-then-not-is_forwardable-clause-replies

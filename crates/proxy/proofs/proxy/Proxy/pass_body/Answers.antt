@@ -15,7 +15,7 @@ use Rattle.proxy.proofs.Replies.{goes_as, body_breaks}
 use Rattle.proxy.specs.Replies.{marks_of}
 use Rattle.proxy.proofs.Puts.{puts_none, hands_same, one_hands}
 use Rattle.proxy.specs.Puts.{HandsPulled}
-use Rattle.proxy.proofs.Below.{below_same, below_room}
+use Rattle.proxy.proofs.Below.{below_same, below_room, no_room}
 use Rattle.proxy.proofs.proxy.Proxy.pass_body.Goals as goal
 
 pub chunk-requires : goal.chunk-requires
@@ -175,16 +175,16 @@ pub returns-then-not-may_send-clause-below : goal.returns-then-not-may_send-clau
 returns-then-not-may_send-clause-below c = below_same (Some c.args.server)
 
 pub returns-in-Bytes-clause-below : goal.returns-in-Bytes-clause-below
-returns-in-Bytes-clause-below c = below_room c.args.server _ (c.may_send.ensures.room c.if-not-may_send.false)
+returns-in-Bytes-clause-below c = λ much. no_room c.args.server (c.may_send.ensures.room c.if-not-may_send.false) much
 
 pub returns-in-Trailers-clause-below : goal.returns-in-Trailers-clause-below
-returns-in-Trailers-clause-below c = below_room c.args.server _ (c.may_send.ensures.room c.if-not-may_send.false)
+returns-in-Trailers-clause-below c = λ much. no_room c.args.server (c.may_send.ensures.room c.if-not-may_send.false) much
 
 pub returns-in-End-clause-below : goal.returns-in-End-clause-below
-returns-in-End-clause-below c = below_room c.args.server _ (c.may_send.ensures.room c.if-not-may_send.false)
+returns-in-End-clause-below c = λ much. no_room c.args.server (c.may_send.ensures.room c.if-not-may_send.false) much
 
 pub returns-in-Broken-clause-below : goal.returns-in-Broken-clause-below
 returns-in-Broken-clause-below c = below_room c.args.server _ (c.may_send.ensures.room c.if-not-may_send.false)
 
 pub returns-clause-below : goal.returns-clause-below
-returns-clause-below c = below_room c.args.server _ (c.may_send.ensures.room c.if-not-may_send.false)
+returns-clause-below c = λ much. no_room c.args.server (c.may_send.ensures.room c.if-not-may_send.false) much

@@ -11,7 +11,7 @@ use Rattle.proxy.proofs.Served.{client_serves, with_server, serves_of_sent}
 use Rattle.std.proofs.Common.{refl}
 use Rattle.proxy.proofs.Replies.{body_replies, body_before, piece_replies, trailers_reply, end_replies, fails_replies, broken_lacks}
 use Rattle.proxy.specs.Puts.{HandsPiece}
-use Rattle.proxy.proofs.Below.{below_same, below_kept, fails_below}
+use Rattle.proxy.proofs.Below.{below_kept, fails_below}
 use Rattle.proxy.proofs.proxy.Proxy.pass_piece.Goals as goal
 
 pub pass_body-requires : goal.pass_body-requires
@@ -148,11 +148,10 @@ returns-in_ok-more-in-Pending-clause-replies c = λ answered.
     (subst (λ (n : Pulled). HandsPiece n c.args.server c.next_piece.new.server) c.in-Pending.is c.in_ok-bytes.ensures.hands) c.in_ok-more-in-Pending.ensures.replies)
 
 pub returns-in_ok-put_piece-in-Bytes-clause-below : goal.returns-in_ok-put_piece-in-Bytes-clause-below
-returns-in_ok-put_piece-in-Bytes-clause-below c =
-    below_kept c.args.server c.next_piece.new.server _ c.in_ok-bytes.ensures.waits (below_same (Some c.next_piece.new.server))
+returns-in_ok-put_piece-in-Bytes-clause-below c = λ much. c.in_ok-bytes.ensures.waits
 
 pub returns-in-Trailers-clause-below : goal.returns-in-Trailers-clause-below
-returns-in-Trailers-clause-below c = below_kept c.args.server c.next_piece.new.server _ c.in_ok-bytes.ensures.waits (below_same (Some c.next_piece.new.server))
+returns-in-Trailers-clause-below c = λ much. c.in_ok-bytes.ensures.waits
 
 pub returns-in_ok-end_reply-in-End-clause-below : goal.returns-in_ok-end_reply-in-End-clause-below
 returns-in_ok-end_reply-in-End-clause-below c = below_kept c.args.server c.next_piece.new.server _ c.in_ok-bytes.ensures.waits c.in_ok-end_reply-in-End.ensures.below
