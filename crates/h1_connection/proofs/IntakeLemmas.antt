@@ -354,5 +354,3 @@ fault_in count i (Some (Piece start end)) head f is_head reads =
 
 pub fault_last : (count : Count) (i : Incoming) (f : Fault) → IsNextFault i f → heads_in count.left (take count.mark i.unread) ≤ 1
 fault_last count i f next = fault_in count i i.piece next.0 f next.1 next.2
-
--- ---- the first bytes of an input

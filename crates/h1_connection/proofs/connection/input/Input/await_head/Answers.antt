@@ -1,7 +1,7 @@
 use Rattle.std.proofs.Common.{◌≡◌, ◌++◌, true, false, refl, ap, sym, ◌∙◌, subst}
 use Rattle.std.specs.Prelude.{is_some}
 use Rattle.h1_connection.specs.Incoming.{Incoming, piece_of, IsFound}
-use Rattle.h1_connection.specs.declared.connection.input.Search.{Search}
+use Rattle.h1_connection.specs.declared.connection.head_search.Search.{Search}
 use Rattle.h1_connection.proofs.ScanLemmas.{scan_answers}
 use Rattle.h1_connection.proofs.InputLemmas.{found_of, finds}
 use Rattle.h1_connection.proofs.connection.input.Input.await_head.Goals as goal
