@@ -23,7 +23,9 @@ setup(
             depends=glob.glob("src/*.h"),
             include_dirs=[header],
             extra_objects=[os.path.join(library, "libraspcream.a")],
-            extra_compile_args=["-O2"],
+            # It exports its init function alone, so that no name of the C library or of another extension takes the place of its own.
+            extra_compile_args=["-O2", "-fvisibility=hidden"],
+            extra_link_args=["-Wl,--exclude-libs,ALL"],
             py_limited_api=True,
         )
     ],

@@ -60,14 +60,12 @@ void fail_side(Connection *self, role side) {
     settle(self);
 }
 
-static PyObject *left_of(const Connection *self) { return self->left ? Py_NewRef(self->left) : PyBytes_FromString(""); }
-
 int switch_protocol(Connection *self, PyObject *before) {
     if (before && PyBytes_Size(before) > 0 && rc_held(self->conn, 0, &self->event) == RC_OK && self->event.bytes.len == 0) {
-        PyObject *all = Py_NewRef(before), *left = left_of(self);
-        PyBytes_ConcatAndDel(&all, left);
-        if (!all) return -1;
-        Py_XDECREF(self->left);
+        rest all = {0};
+        if (rest_append(&all, PyBytes_AsString(before), (size_t)PyBytes_Size(before)) < 0) return -1;
+        if (rest_append(&all, rest_at(&self->left), rest_len(&self->left)) < 0) return rest_clear(&all), -1;
+        rest_clear(&self->left);
         self->left = all;
     }
     self->states[CLIENT] = self->states[SERVER] = SWITCHED;
@@ -140,7 +138,7 @@ static int Connection_clear(Connection *self) {
 static void Connection_dealloc(Connection *self) {
     PyObject_GC_UnTrack((PyObject *)self);
     Connection_clear(self);
-    Py_CLEAR(self->left);
+    rest_clear(&self->left);
     Py_CLEAR(self->version);
     rc_free(self->conn);
     release((PyObject *)self);
@@ -183,7 +181,7 @@ static PyObject *both_states(Connection *self, void *unused) {
 static PyObject *trailing_data(Connection *self, void *unused) {
     (void)unused;
     OPEN(self);
-    PyObject *all = all_held(self->conn, &self->event), *left = all ? left_of(self) : NULL;
+    PyObject *all = all_held(self->conn, &self->event), *left = all ? rest_bytes(&self->left) : NULL;
     if (left) PyBytes_ConcatAndDel(&all, left);
     return all ? Py_BuildValue("(NN)", all, PyBool_FromLong(self->has_ended)) : NULL;
 }

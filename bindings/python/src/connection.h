@@ -3,6 +3,7 @@
 #define RASPCREAM_CONNECTION_H
 
 #include "h11.h"
+#include "rest.h"
 
 typedef struct {
     PyObject_HEAD
@@ -10,8 +11,8 @@ typedef struct {
     PyObject *now;  /* what tells the time, NULL for the clock */
     int64_t second; /* which was told last */
 
-    /* What there was no room for, NULL for nothing; whether the input has ended behind it, and whether the engine knows. */
-    PyObject *left;
+    /* What there was no room for; whether the input has ended behind it, and whether the engine knows. */
+    rest left;
     bool has_ended, told_end;
 
     role ours, theirs;

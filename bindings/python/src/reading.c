@@ -20,45 +20,27 @@ static Py_ssize_t take_in(Connection *self, const void *data, size_t len) {
 
 /* Tells that the input has ended, once all was taken. Whether it did. */
 static bool end_input(Connection *self) {
-    if (!self->has_ended || self->left || self->told_end || has_paused(self)) return false;
+    if (!self->has_ended || rest_len(&self->left) || self->told_end || has_paused(self)) return false;
     self->told_end = true;
     return rc_eof(self->conn, &self->event) == RC_OK;
 }
 
 /* Hands in what was left. 1 where something was taken, 0, or -1. */
 static int feed(Connection *self) {
-    Py_ssize_t taken = 0;
-    if (self->left) {
-        PyObject *left = self->left;
-        Py_ssize_t len = PyBytes_Size(left);
-        taken = take_in(self, PyBytes_AsString(left), (size_t)len);
-        if (taken < 0) return -1;
-        if (taken > 0) {
-            PyObject *rest = taken < len ? PyBytes_FromStringAndSize(PyBytes_AsString(left) + taken, len - taken) : NULL;
-            if (taken < len && !rest) return -1;
-            self->left = rest;
-            Py_DECREF(left);
-        }
-    }
+    Py_ssize_t taken = take_in(self, rest_at(&self->left), rest_len(&self->left));
+    if (taken < 0) return -1;
+    rest_advance(&self->left, (size_t)taken);
     return end_input(self) || taken > 0;
 }
 
 static PyObject *receive(Connection *self, const Py_buffer *data) {
-    if (self->left) {
-        PyObject *more = PyBytes_FromStringAndSize(data->buf, data->len);
-        PyBytes_ConcatAndDel(&self->left, more);
-        if (!self->left || feed(self) < 0) return NULL;
-        Py_RETURN_NONE;
-    }
-    Py_ssize_t taken = take_in(self, data->buf, (size_t)data->len);
+    bool waits = rest_len(&self->left) > 0;
+    Py_ssize_t taken = waits ? 0 : take_in(self, data->buf, (size_t)data->len);
     bool has_failed = taken < 0;
     if (has_failed) taken = 0;
-    if (taken < data->len) {
-        /* Also where memory ran out: what came isn't lost. */
-        self->left = PyBytes_FromStringAndSize((const char *)data->buf + taken, data->len - taken);
-        if (!self->left) return NULL;
-    }
-    return has_failed ? NULL : Py_NewRef(Py_None);
+    /* Also where memory ran out: what came isn't lost. */
+    if (rest_append(&self->left, (const char *)data->buf + taken, (size_t)(data->len - taken)) < 0) return NULL;
+    return has_failed || (waits && feed(self) < 0) ? NULL : Py_NewRef(Py_None);
 }
 
 PyObject *Connection_receive_data(Connection *self, PyObject *data) {
@@ -79,7 +61,7 @@ PyObject *Connection_receive_data(Connection *self, PyObject *data) {
 
 /* Whether bytes came that no event has told. */
 static bool has_more(Connection *self) {
-    return self->left || (rc_state(self->conn, &self->event) == RC_OK && self->event.state.held > 0);
+    return rest_len(&self->left) || (rc_state(self->conn, &self->event) == RC_OK && self->event.state.held > 0);
 }
 
 /* ---- heads */
@@ -175,7 +157,7 @@ static PyObject *next_head(Connection *self) {
     case RC_HEAD:
         return is_server(self) ? request(self) : response(self);
     case RC_PENDING:
-        if (!self->has_ended || self->left) return Py_NewRef(need_data);
+        if (!self->has_ended || rest_len(&self->left)) return Py_NewRef(need_data);
         return is_inside ? refuse(cut, 400) : between(self);
     case RC_FAULT:
         self->is_refused = true;

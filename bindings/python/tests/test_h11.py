@@ -34,6 +34,23 @@ class Server(unittest.TestCase):
             event = conn.next_event()
         self.assertEqual(size, 1000000)
 
+    def test_pieces_wait_in_their_order(self):
+        conn = server()
+        head = b"POST / HTTP/1.1\r\nHost: a\r\nContent-Length: 1000000\r\n\r\n"
+        body = bytes(range(250)) * 4000
+        conn.receive_data(head)
+        self.assertIs(type(conn.next_event()), h11.Request)
+        got, at = b"", 0
+        while len(got) < len(body):
+            # More comes than is taken at a time, in pieces of many sizes.
+            for size in (300_000, 1, 70_001, 7):
+                if at < len(body):
+                    conn.receive_data(body[at : at + size])
+                    at += size
+            event = conn.next_event()
+            got += event.data if type(event) is h11.Data else b""
+        self.assertEqual((got, type(conn.next_event())), (body, h11.EndOfMessage))
+
     def test_faults(self):
         conn = server()
         conn.receive_data(b"GET / HTTP/1.1\r\nbad line\r\n\r\n")
