@@ -33,6 +33,29 @@ impl<T: Drop> Boxed<T> {
         self.block.as_ref()
     }
 
+    /// The value, out of its block.
+    pub fn into_inner(self) -> T
+        ensures { result ≡ self }
+    {
+        let Boxed { block } = self;
+        Box::into_inner(block)
+    }
+
+    // The value of a block.
+    pub(crate) fn from_block(block: Box<T>) -> Boxed<T>
+        ensures { result ≡ block.value }
+    {
+        Boxed { block }
+    }
+
+    // Its block.
+    pub(crate) fn into_block(self) -> Box<T>
+        ensures { result.value ≡ self }
+    {
+        let Boxed { block } = self;
+        block
+    }
+
     /// Where the block was taken.
     pub fn allocator(&self) -> Global {
         *Box::allocator(&self.block)

@@ -67,7 +67,7 @@ pub enum Outcome {
     Took(usize),
 
     /// The head of the next request, which is open from now on.
-    Head(HeadItem),
+    Head(Boxed<HeadItem>),
 
     /// The next bytes of the request's body, of which there is at least one.
     Bytes(Bytes),
@@ -209,7 +209,10 @@ impl Outcome {
     {
         Ok(match self {
             Outcome::Took(count) => Outcome::Took(*count),
-            Outcome::Head(item) => Outcome::Head(item.copy()?),
+            Outcome::Head(item) => {
+                let copy = item.get().copy()?;
+                Outcome::Head(Boxed::new(item.allocator(), copy)?)
+            }
             Outcome::Bytes(bytes) => Outcome::Bytes(bytes.clone()?),
             Outcome::Trailers(trailers) => Outcome::Trailers(trailers.copy()?),
             Outcome::Frame(frame) => Outcome::Frame(frame.copy()?),

@@ -13,6 +13,8 @@
 //!     && let NextHead::Head(item) = connection.next()?
 //! {
 //!     connection.answer(&head, BodySize::ZERO)?;
+//!     // The next head is written over this one.
+//!     connection.reuse(item);
 //!     // What is to be written.
 //!     let bytes = connection.stretch();
 //! }

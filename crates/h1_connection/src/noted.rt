@@ -39,7 +39,7 @@ impl Noted {
     {
         Ok(match outcome {
             Outcome::Took(count) => Noted::Took(count),
-            Outcome::Head(item) => Noted::Head(Boxed::new(alloc, item)?),
+            Outcome::Head(item) => Noted::Head(item),
             Outcome::Bytes(bytes) => Noted::Bytes(bytes),
             Outcome::Trailers(trailers) => Noted::Trailers(Boxed::new(alloc, trailers)?),
             Outcome::Frame(frame) => Noted::Frame(frame),
