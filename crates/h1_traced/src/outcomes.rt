@@ -2,14 +2,17 @@
 ghost use Rattle.std.specs.Prelude.{◌≡◌, IfOk};
 ghost use Rattle.h1_traced.specs.Outcomes.{next_outcome, pulled_outcome, tick_outcome};
 
-use h1_connection::{Expiry, NextHead, NoMemory, Outcome, Pulled};
+use h1_connection::{Boxed, Expiry, NextHead, NoMemory, Outcome, Pulled};
 
 /// What came where the next head was asked for. A head is copied.
 pub(crate) fn outcome_of_next(next: &NextHead) -> Result<Outcome, NoMemory>
     ensures { IfOk result (λ outcome. outcome ≡ next_outcome next.now) }
 {
     Ok(match next {
-        NextHead::Head(item) => Outcome::Head(item.copy()?),
+        NextHead::Head(item) => {
+            let copy = item.get().copy()?;
+            Outcome::Head(Boxed::new(item.allocator(), copy)?)
+        }
         NextHead::Fault(fault) => Outcome::Fault(*fault),
         NextHead::Pending => Outcome::Pending,
         NextHead::Closed(end) => Outcome::Closed(*end),
