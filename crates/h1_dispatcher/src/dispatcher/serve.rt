@@ -149,7 +149,8 @@ where
         ensures kept { Keeps cx.old cx.new }
     {
         match self.traced.next() {
-            Ok(NextHead::Head(item)) => {
+            Ok(NextHead::Head(boxed)) => {
+                let item = boxed.into_inner();
                 let has_ended = is_bodyless(item.body);
                 self.queue = Payload::create(self.alloc, has_ended);
                 self.work = Work::Waiting(request_from(item.head, self.peer));
