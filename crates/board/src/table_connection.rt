@@ -114,7 +114,7 @@ fn keep_asked(asked: &mut Option<Command>, outcome: &Outcome)
     ensures { asked.new ≡ asked_after outcome.now asked.old }
 {
     if let Outcome::Head(item) = outcome {
-        *asked = command_in(&item.head);
+        *asked = command_in(&item.get().head);
     }
 }
 
