@@ -33,7 +33,7 @@ pub fn keep_room(alloc: Global, room: &mut Option<Bytes>, outcome: &Outcome) -> 
     ensures err { OnErr result (gives_head outcome.now ≡ true) }
 {
     if let Outcome::Head(item) = outcome {
-        let path = Bytes::copy_from_slice(alloc, item.head.uri.path().as_bytes())?;
+        let path = Bytes::copy_from_slice(alloc, item.get().head.uri.path().as_bytes())?;
         *room = Some(path);
         return Ok(());
     }
