@@ -19,7 +19,7 @@ pub fn put_outcome(alloc: Global, text: &mut Vec<u8>, outcome: &Outcome) -> Resu
             text.extend_from_slice(b"took ")?;
             put_number(text, *count as u64)
         }
-        Outcome::Head(item) => put_head(alloc, text, item),
+        Outcome::Head(item) => put_head(alloc, text, item.get()),
         Outcome::Bytes(bytes) => put_named_hex(alloc, text, b"bytes ", bytes),
         Outcome::Trailers(trailers) => {
             text.extend_from_slice(b"trailers")?;
