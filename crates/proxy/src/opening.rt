@@ -16,13 +16,26 @@ ghost use Rattle.proxy.specs.Rests.{LeavesLess, LeavesMore};
 
 use crate::downstream::tell_to_continue;
 use crate::proxy::{Proxy, Unsent};
-use h1_connection::{HeadItem, NoMemory};
+use h1_connection::{Boxed, HeadItem, NoMemory};
 use http_types::Version;
 use proxy_heads::{Edge, Refusal, is_forwardable, is_refused};
 
 impl Proxy {
     // A request is open: it waits to be sent on, and its client is told to go on, unless that is one of HTTP/1.0.
-    pub(crate) fn open(&mut self, item: HeadItem) -> Result<(), NoMemory>
+    pub(crate) fn open(&mut self, item: Boxed<HeadItem>) -> Result<(), NoMemory>
+        requires idle { HoldsNoRequest self.old }
+        ensures goes { OnOk result (GoesFrom item self.old self.new) }
+        ensures works { OnOk result (LeavesMore 3 self.old self.new) }
+        ensures serves { OnOk result ((h : Head) → SaysHead item h → HasNoReplyTo (asked_of h).is_head self.old
+            → ((h.minor == 0) ≡ true → IsTold self.old.client) → Serving self.new) }
+        ensures replies { OnOk result (Opens (edge_of self.old.config.edge) item self.old.client self.new) }
+        ensures keeps { OnOk result (KeepsFor item self.old self.new) }
+    {
+        self.open_item(item.into_inner())
+    }
+
+    // The same, out of its block.
+    fn open_item(&mut self, item: HeadItem) -> Result<(), NoMemory>
         requires idle { HoldsNoRequest self.old }
         ensures goes { OnOk result (GoesFrom item self.old self.new) }
         ensures works { OnOk result (LeavesMore 3 self.old self.new) }

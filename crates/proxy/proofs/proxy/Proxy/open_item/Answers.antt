@@ -3,7 +3,7 @@ use Rattle.model_h1.specs.Event as on
 use Rattle.proxy.proofs.Moves.{client_done, from_any, from_then, waits_from}
 use Rattle.proxy.proofs.Work.{more_of, more_then, waits_more, client_less}
 use Rattle.proxy.proofs.Served.{waits_serves, old_serves}
-use Rattle.proxy.proofs.proxy.Proxy.open.Goals as goal
+use Rattle.proxy.proofs.proxy.Proxy.open_item.Goals as goal
 
 pub returns-then-not-is_forwardable-clause-goes : goal.returns-then-not-is_forwardable-clause-goes
 returns-then-not-is_forwardable-clause-goes c = from_any c.args.item _ _ c.in_ok-decline.ensures.goes
