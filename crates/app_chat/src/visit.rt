@@ -108,7 +108,7 @@ impl Visit {
                 return Ok(Progress::Waits);
             }
             match self.connection.next()? {
-                NextHead::Head(item) => self.answer(page, &item.head)?,
+                NextHead::Head(item) => self.answer(page, &item.get().head)?,
                 NextHead::Fault(_) => {}
                 NextHead::Pending => {
                     if !self.may_read {

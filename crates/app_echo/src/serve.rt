@@ -63,7 +63,8 @@ pub fn serve<S: Source, K: Sink, C: Clock>(
             return Err(ServeError::Misplaced);
         }
         match connection.next()? {
-            NextHead::Head(_) => {
+            NextHead::Head(item) => {
+                connection.reuse(item);
                 // A request that was handed out may be answered.
                 begin(&mut connection, &ResponseHead::new(alloc, StatusCode::OK))?;
                 echo(&mut connection, input, output)?;

@@ -12,7 +12,7 @@ fn target(connection: &mut Connection) -> Result<Option<Bytes>, NoMemory> {
         return Ok(None);
     }
     match connection.next()? {
-        NextHead::Head(item) => Ok(Some(item.target)),
+        NextHead::Head(item) => Ok(Some(item.into_inner().target)),
         _ => Ok(None),
     }
 }

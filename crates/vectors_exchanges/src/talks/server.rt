@@ -54,7 +54,8 @@ impl Serving {
         match server.next() {
             Ok(NextHead::Head(item)) => {
                 self.handed.stop("open");
-                put_head(&item, &mut self.handed.text);
+                put_head(item.get(), &mut self.handed.text);
+                server.reuse(item);
                 self.taken = self.taken.saturating_add(1);
                 self.handed.begin(server.can_pull());
             }
