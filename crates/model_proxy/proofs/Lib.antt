@@ -8,6 +8,7 @@ pub mod SoFar
 pub mod GivenRequests
 pub mod Places
 pub mod StepByStep
+pub mod FaultyRequests
 pub mod WrongForwarders
 pub mod ReplyLines
 pub mod FoundAnswers

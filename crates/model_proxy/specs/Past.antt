@@ -58,6 +58,7 @@ client_ended history = list_any (λ s. is_client_end s.event) history
 
 -- ---- servers
 
+-- a step says that no server connection can be had
 abbrev pub is_refusal : ProxyEvent → Bool
 is_refusal refused = true
 is_refusal _ = false
@@ -107,11 +108,6 @@ numbered k (s ∷ older) = if k == length older then s else numbered k older
 
 abbrev pub server_at : ℕ → List ProxyStep → Server
 server_at k history = numbered k (servers history)
-
--- a step says that no server connection can be had
-abbrev pub is_refusal : ProxyEvent → Bool
-is_refusal refused = true
-is_refusal _ = false
 
 -- ---- moments and places in a history
 

@@ -3,7 +3,7 @@ use Rattle.httparse.specs.Grammar.{trim_ows}
 use Rattle.model_h1.specs.Sums as sums
 use Rattle.model_h1.specs.Past.{place_behind, pulled_to}
 use Rattle.model_h1.specs.Closing.{told, closing}
-use Rattle.model_proxy.proofs.StepByStep.{unforwardable_forwards}
+use Rattle.model_proxy.proofs.FaultyRequests.{unforwardable_forwards}
 use Rattle.model_proxy.proofs.examples.a_request_that_cannot_be_sent_on_gives_501.Goals as goal
 
 pub returns-clause-forwards : goal.returns-clause-forwards
