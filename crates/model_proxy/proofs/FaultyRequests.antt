@@ -1,5 +1,5 @@
 -- The worked histories of requests that are refused, or whose body breaks, step by step.
-use Rattle.std.proofs.Common.{◌≡◌, ℕ, Bool, cond, eqb, map, reverse, flat_map, zero, suc, ◌<◌, List, [], ◌∷◌, ◌++◌, refl, subst, arith, inl, inr, lit<, None, true, false}
+use Rattle.std.proofs.Common.{◌≡◌, ℕ, Bool, cond, eqb, map, reverse, flat_map, zero, suc, ◌<◌, List, [], ◌∷◌, ◌++◌, refl, subst, arith, inl, inr, lit<, filter, take, None, true, false}
 use Rattle.std.proofs.lemmas.Bool.{false≢true}
 use Rattle.httparse.specs.Grammar.{trim_ows}
 use Rattle.model_h1.specs.Answer.{size_of}
@@ -14,12 +14,13 @@ use Rattle.model_proxy.specs.Forward.{forward}
 use Rattle.model_proxy.specs.Answers.{found_nothing, own_head, refusal_head}
 use Rattle.model_proxy.specs.Past.{ProxyStep, client, server, connected, refused, to_client, took, gave, done, client_taken, client_given, servers}
 use Rattle.model_proxy.specs.Past as proxy
-use Rattle.model_proxy.specs.Exchange.{Exchange, pulled, sent_of, sent_on}
-use Rattle.model_proxy.specs.Forwarding.{IsUsedBefore, IsGivenTo, AreWholeButLast, IsSentRightly, AreReplies, IsForwardedSoFar, AllGoOn, IsForwarding, behind}
+use Rattle.model_proxy.specs.Exchange.{Exchange, pulled, is_on, sent_of, sent_on}
+use Rattle.model_proxy.specs.Forwarding.{IsUsedBefore, IsGivenTo, AreWholeButLast, IsSentRightly, AreReplies, IsCleanAtFirst, IsForwardedSoFar, AllGoOn, IsForwarding, behind}
 use Rattle.model_proxy.specs.Laws.Samples.{usual_edge, lax_edge, step, came}
 use Rattle.model_proxy.specs.Laws.Histories.{ticked, ticked_past, bad_request_text, hostless_history, hostless_past, hostless_exchanges, not_implemented_text, unforwardable_history, unforwardable_past, unforwardable_exchanges, broken_text_answered, broken_history, broken_past, broken_exchange, broken_exchanges}
 use Rattle.model_proxy.proofs.Histories.{hostless_legal, unforwardable_legal, broken_legal}
 use Rattle.model_proxy.proofs.StepByStep.{ticked_forwards}
+use Rattle.model_proxy.proofs.ToldFirst.{takes, gives, none_clean}
 
 -- ---- a head without a host
 
@@ -53,13 +54,16 @@ hostless_asked_fits = record {
   towards = none_hostless_asked;
   whole = λ k. tt;
   used = λ e k f. let none : ⊥ = omega (arith, f) in absurd none;
+  told = (λ t. absurd (false≢true t), tt);
   replied = (refl, (refl, refl), tt);
+  clean = none_clean hostless_asked hostless_exchanges;
   alone = (tt, tt);
   failed = λ e. absurd (false≢true e);
 }
 
 hostless_asked_forwards : IsForwarding usual_edge usual hostless_asked None (steps hostless_asked_past) hostless_exchanges
 hostless_asked_forwards = behind (step (client close_text) (took 37)) ticked None (steps ticked_past) [] None (steps refusing_head) hostless_exchanges (ticked_forwards usual_edge)
+    (takes close_text 37 (take 2 (steps refusing_head)))
     (record { newer = hostless_exchanges; older = []; are = refl; begun = (record { sent = inl refl; unrefused = refl }, tt); go_on = tt }) hostless_asked_fits
 
 none_hostless : (k : ℕ) → k < 0 → IsGivenTo usual_edge hostless_history None hostless_exchanges k
@@ -80,7 +84,9 @@ hostless_fits = record {
   towards = none_hostless;
   whole = λ k. tt;
   used = λ e k f. let none : ⊥ = omega (arith, f) in absurd none;
+  told = (λ t. absurd (false≢true t), tt);
   replied = (refl, (refl, refl), tt);
+  clean = none_clean hostless_history hostless_exchanges;
   alone = (tt, tt);
   failed = λ e. absurd (false≢true e);
 }
@@ -88,6 +94,7 @@ hostless_fits = record {
 pub hostless_forwards : IsForwarding usual_edge usual hostless_history None (steps hostless_past) hostless_exchanges
 hostless_forwards = behind (step (to_client 500) (gave bad_request_text)) hostless_asked None (steps hostless_asked_past) hostless_exchanges None
     (steps (parsed (on.write 500) (on.gave bad_request_text) (closing_get ∷ []) ∷ [])) hostless_exchanges hostless_asked_forwards
+    (gives 500 bad_request_text None)
     (record { newer = []; older = hostless_exchanges; are = refl; begun = tt; go_on = (record { sent = inl (refl, refl); refused = refl }, refl) }) hostless_fits
 
 -- ---- a request for another protocol
@@ -123,13 +130,16 @@ socket_fits = record {
   towards = none_socket;
   whole = λ k. tt;
   used = λ e k f. let none : ⊥ = omega (arith, f) in absurd none;
+  told = (λ t. absurd (false≢true t), tt);
   replied = (refl, (refl, refl), tt);
+  clean = none_clean socket_asked unforwardable_exchanges;
   alone = (tt, tt);
   failed = λ e. absurd (false≢true e);
 }
 
 socket_forwards : IsForwarding lax_edge usual socket_asked None (steps socket_past) unforwardable_exchanges
 socket_forwards = behind (step (client socket_text) (took 131)) ticked None (steps ticked_past) [] None (steps refusing) unforwardable_exchanges (ticked_forwards lax_edge)
+    (takes socket_text 131 (take 3 (steps refusing)))
     (record { newer = unforwardable_exchanges; older = []; are = refl; begun = (record { sent = inl refl; unrefused = refl }, tt); go_on = tt }) socket_fits
 
 none_unforwardable : (k : ℕ) → k < 0 → IsGivenTo lax_edge (unforwardable_history) (None) (unforwardable_exchanges) k
@@ -150,13 +160,16 @@ unforwardable_fits = record {
   towards = none_unforwardable;
   whole = λ k. tt;
   used = λ e k f. let none : ⊥ = omega (arith, f) in absurd none;
+  told = (λ t. absurd (false≢true t), tt);
   replied = (refl, (refl, refl), tt);
+  clean = none_clean unforwardable_history unforwardable_exchanges;
   alone = (tt, tt);
   failed = λ e. absurd (false≢true e);
 }
 
 pub unforwardable_forwards : IsForwarding lax_edge usual unforwardable_history (None) (steps unforwardable_past) unforwardable_exchanges
 unforwardable_forwards = behind (step (to_client 500) (gave not_implemented_text)) socket_asked (None) (steps socket_past) unforwardable_exchanges (None) (steps (parsed (on.write 500) (on.gave not_implemented_text) (socket ∷ []) ∷ [])) unforwardable_exchanges socket_forwards
+    (gives 500 not_implemented_text None)
     (record { newer = []; older = unforwardable_exchanges; are = refl; begun = tt; go_on = (record { sent = inl (refl, refl); refused = refl }, refl) }) unforwardable_fits
 
 -- ---- a body that breaks
@@ -201,13 +214,16 @@ chunks_fits = record {
   towards = none_chunks;
   whole = λ k. tt;
   used = λ e k f. let none : ⊥ = omega (arith, f) in absurd none;
+  told = (λ t. absurd (false≢true t), tt);
   replied = (refl, tt, tt);
+  clean = none_clean chunks_asked unbroken;
   alone = (tt, tt);
   failed = λ e. absurd (false≢true e);
 }
 
 chunks_forwards : IsForwarding lax_edge usual chunks_asked None (steps chunks_past) unbroken
 chunks_forwards = behind (step (client broken_text) (took 48)) ticked None (steps ticked_past) [] None (steps asking) unbroken (ticked_forwards lax_edge)
+    (takes broken_text 48 (take 1 (steps asking)))
     (record { newer = unbroken; older = []; are = refl; begun = (record { sent = inl refl; unrefused = refl }, tt); go_on = tt }) chunks_fits
 
 rightly_cut : IsSentRightly lax_edge chunks_connected broken_exchange
@@ -238,6 +254,11 @@ replied_cut : AreReplies lax_edge usual chunks_connected [] broken_exchanges (ex
 unfolding exchanges changed_by servers sums.last_tick trim_ows
 replied_cut = (refl, (found_nothing (came [] false) 0, ([], nothing_behind, refl), inr (refl, inr (refl, (refl, refl)))), tt)
 
+clean_cut : (k : ℕ) → k < 1 → IsCleanAtFirst chunks_connected k (reverse (filter (is_on k) broken_exchanges))
+unfolding servers
+clean_cut zero low = (refl, refl)
+clean_cut (suc k) low = let none : ⊥ = omega (arith, low) in absurd none
+
 cut_fits : IsForwardedSoFar lax_edge usual (chunks_connected) (None) (steps (broken_now_past)) (broken_exchanges)
 unfolding sums.taken sums.written sums.last_tick sums.since_head client_taken client_given servers proxy.last_tick pulled exchanges changed_by trim_ows
 cut_fits = record {
@@ -253,7 +274,9 @@ cut_fits = record {
   towards = towards_cut;
   whole = whole_cut;
   used = used_cut;
+  told = (λ t. absurd (false≢true t), tt);
   replied = replied_cut;
+  clean = clean_cut;
   alone = (tt, tt);
   failed = λ e. absurd (false≢true e);
 }
@@ -269,7 +292,8 @@ sent_chunks = record {
 }
 
 cut_forwards : IsForwarding lax_edge usual chunks_connected None (steps broken_now_past) broken_exchanges
-cut_forwards = behind (step connected done) chunks_asked None (steps chunks_past) unbroken None (steps breaking) broken_exchanges chunks_forwards sent_chunks cut_fits
+cut_forwards = behind (step connected done) chunks_asked None (steps chunks_past) unbroken None (steps breaking) broken_exchanges chunks_forwards
+    (record { told = tt; gave = tt; opened = λ e. absurd (false≢true e) }) sent_chunks cut_fits
 
 rightly_broken : IsSentRightly lax_edge broken_history broken_exchange
 unfolding servers
@@ -299,6 +323,11 @@ replied_broken : AreReplies lax_edge usual broken_history [] broken_exchanges (e
 unfolding exchanges changed_by servers sums.last_tick trim_ows
 replied_broken = (refl, (found_nothing (came [] false) 0, ([], nothing_behind, refl), inr (refl, inr (refl, (refl, refl)))), tt)
 
+clean_broken : (k : ℕ) → k < 1 → IsCleanAtFirst broken_history k (reverse (filter (is_on k) broken_exchanges))
+unfolding servers
+clean_broken zero low = (refl, refl)
+clean_broken (suc k) low = let none : ⊥ = omega (arith, low) in absurd none
+
 broken_fits : IsForwardedSoFar lax_edge usual (broken_history) (None) (steps (broken_past)) (broken_exchanges)
 unfolding sums.taken sums.written sums.last_tick sums.since_head client_taken client_given servers proxy.last_tick pulled exchanges changed_by trim_ows
 broken_fits = record {
@@ -314,11 +343,14 @@ broken_fits = record {
   towards = towards_broken;
   whole = whole_broken;
   used = used_broken;
+  told = (λ t. absurd (false≢true t), tt);
   replied = replied_broken;
+  clean = clean_broken;
   alone = (tt, tt);
   failed = λ e. absurd (false≢true e);
 }
 
 pub broken_forwards : IsForwarding lax_edge usual broken_history (None) (steps broken_past) broken_exchanges
 broken_forwards = behind (step (to_client 500) (gave broken_text_answered)) chunks_connected (None) (steps broken_now_past) broken_exchanges (None) (steps (parsed (on.write 500) (on.gave broken_text_answered) (broken_chunks ∷ []) ∷ [])) broken_exchanges cut_forwards
+    (gives 500 broken_text_answered None)
     (record { newer = []; older = broken_exchanges; are = refl; begun = tt; go_on = (record { sent = inl (refl, refl); refused = refl }, refl) }) broken_fits

@@ -4,6 +4,7 @@ pub mod Paths
 pub mod Targets
 pub mod OwnLines
 pub mod SentRequests
+pub mod ToldFirst
 pub mod SoFar
 pub mod GivenRequests
 pub mod Places

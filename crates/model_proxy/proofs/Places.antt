@@ -1,13 +1,13 @@
 -- What became of a request stands in the history, at its place.
-use Rattle.std.proofs.Common.{◌≡◌, ◌⊎◌, ℕ, ◌+◌, ◌≤◌, Bool, true, false, ◌||◌, ◌&&◌, suc, List, [], ◌∷◌, ◌++◌, length, refl, sym, ◌∙◌, subst, arith, inl, inr, Option, Some, None, is_none}
+use Rattle.std.proofs.Common.{◌≡◌, ◌⊎◌, ℕ, ◌+◌, ◌≤◌, Bool, true, false, ◌||◌, ◌&&◌, suc, List, [], ◌∷◌, ◌++◌, length, refl, sym, ◌∙◌, subst, arith, inl, inr, Option, Some, None, is_some, is_none}
 use Rattle.std.proofs.lemmas.Bool.{false≢true}
 use Rattle.std.specs.List.{list_any, AllByRecursion}
 use Rattle.model_h1.specs.Setting.{Setting}
 use Rattle.model_h1.specs.Sums.{Step}
 use Rattle.model_proxy.specs.Edge.{Edge}
-use Rattle.model_proxy.specs.Past.{ProxyEvent, ProxyStep, is_refusal}
+use Rattle.model_proxy.specs.Past.{ProxyEvent, client, server, client_eof, server_eof, connected, refused, to_client, to_server, tick, ProxyStep, is_refusal, is_connection}
 use Rattle.model_proxy.specs.Exchange.{Exchange}
-use Rattle.model_proxy.specs.Forwarding.{IsSentNow, IsNew, NewestGoesOn, IsForwarding, at_first, behind}
+use Rattle.model_proxy.specs.Forwarding.{is_there, IsSentNow, IsNew, NewestGoesOn, IsForwarding, at_first, behind}
 
 abbrev IsUnrefused : Exchange → Type 0
 IsUnrefused x = x.was_refused ≡ false
@@ -43,7 +43,7 @@ old_unrefused event waiting history (x ∷ xs) (y ∷ ys) never go all =
 pub none_refused : (edge : Edge) (setting : Setting) (history : List ProxyStep) (waiting : Option (List ℕ)) (trace : List Step) (xs : List Exchange)
     → IsForwarding edge setting history waiting trace xs → list_any (λ s. is_refusal s.event) history ≡ false → AllByRecursion (λ x. x.was_refused ≡ false) xs
 none_refused edge setting _ _ _ _ at_first never = tt
-none_refused edge setting _ _ _ _ (behind s history before trace xs waiting did ys x go fits) never =
+none_refused edge setting _ _ _ _ (behind s history before trace xs waiting did ys x does go fits) never =
     let split = none_left (is_refusal s.event) (list_any (λ t. is_refusal t.event) history) never in
     let earlier = none_refused edge setting history before trace xs x split.1 in
     subst (AllByRecursion IsUnrefused) (sym go.are)
@@ -93,7 +93,32 @@ all_old event waiting s history (x ∷ xs) (y ∷ ys) go all =
 pub sent_by : (edge : Edge) (setting : Setting) (history : List ProxyStep) (waiting : Option (List ℕ)) (trace : List Step) (xs : List Exchange)
     → IsForwarding edge setting history waiting trace xs → AllByRecursion (λ x. (k : ℕ) → x.server ≡ Some k → x.sent_at ≤ length history) xs
 sent_by edge setting _ _ _ _ at_first = tt
-sent_by edge setting _ _ _ _ (behind s history before trace xs waiting did ys x go fits) =
+sent_by edge setting _ _ _ _ (behind s history before trace xs waiting did ys x does go fits) =
     subst (AllByRecursion (IsSentBy (suc (length history)))) (sym go.are)
     (all_of (IsSentBy (suc (length history))) go.newer go.older (all_new s.event before (s ∷ history) go.newer go.begun)
     (all_old s.event before s history xs go.older go.go_on (sent_by edge setting history before trace xs x)))
+
+-- ---- where a server connection was opened
+
+opened_by : (event : ProxyEvent) (before : Option (List ℕ)) → is_there event before ≡ true → (is_connection event ≡ true) ⊎ (is_some before ≡ true)
+opened_by connected before e = inl refl
+opened_by (client bytes) before e = inr e
+opened_by (server bytes) before e = inr e
+opened_by client_eof before e = inr e
+opened_by server_eof before e = inr e
+opened_by refused before e = inr e
+opened_by (to_client n) before e = inr e
+opened_by (to_server n) before e = inr e
+opened_by (tick ms) before e = inr e
+
+now_or_earlier : (Before : Type 0) (now earlier : Bool) → (now ≡ true) ⊎ Before → (Before → earlier ≡ true) → (now || earlier) ≡ true
+now_or_earlier Before true earlier is were = refl
+now_or_earlier Before false earlier (inl is) were = absurd (false≢true is)
+now_or_earlier Before false earlier (inr before) were = were before
+
+pub was_connected : (edge : Edge) (setting : Setting) (history : List ProxyStep) (waiting : Option (List ℕ)) (trace : List Step) (xs : List Exchange)
+    → IsForwarding edge setting history waiting trace xs → is_some waiting ≡ true → list_any (λ s. is_connection s.event) history ≡ true
+was_connected edge setting _ _ _ _ at_first some = absurd (false≢true some)
+was_connected edge setting _ _ _ _ (behind s history before trace xs waiting did ys x does go fits) some =
+    now_or_earlier (is_some before ≡ true) (is_connection s.event) (list_any (λ t. is_connection t.event) history)
+    (opened_by s.event before (does.opened some)) (λ was. was_connected edge setting history before trace xs x was)

@@ -8,6 +8,7 @@ use Rattle.model_proxy.specs.Edge.{Edge}
 use Rattle.model_proxy.specs.Past.{ProxyStep, client_taken, client_given, servers}
 use Rattle.model_proxy.specs.Past as proxy
 use Rattle.model_proxy.specs.Exchange.{Exchange, pulled}
+use Rattle.model_proxy.proofs.ToldFirst.{none_clean}
 use Rattle.model_proxy.specs.Forwarding.{IsGivenTo, IsForwardedSoFar, IsForwarding, at_first, behind}
 
 none_towards : (e : Edge) (k : ℕ) → k < 0 → IsGivenTo e [] None [] k
@@ -29,8 +30,10 @@ so_far edge setting _ _ _ _ at_first = record {
   towards = none_towards edge;
   whole = λ k. tt;
   used = λ e k f. let none : ⊥ = omega (arith, f) in absurd none;
+  told = tt;
   replied = tt;
+  clean = none_clean [] [];
   alone = tt;
   failed = λ e. absurd (false≢true e);
 }
-so_far edge setting _ _ _ _ (behind s history before trace xs waiting did ys x go fits) = fits
+so_far edge setting _ _ _ _ (behind s history before trace xs waiting did ys x does go fits) = fits

@@ -1,5 +1,5 @@
 -- Worked histories of a GET, step by step: no server connection is to be had, or its answer is passed on.
-use Rattle.std.proofs.Common.{◌≡◌, ℕ, Bool, cond, eqb, map, reverse, zero, suc, ◌<◌, List, [], ◌∷◌, ◌++◌, refl, subst, arith, inl, inr, lit<, Some, None, true, false, codes}
+use Rattle.std.proofs.Common.{◌≡◌, ℕ, Bool, cond, eqb, map, reverse, zero, suc, ◌<◌, List, [], ◌∷◌, ◌++◌, refl, subst, arith, inl, inr, lit<, lit≤, filter, Some, None, true, false, codes}
 use Rattle.std.proofs.lemmas.Bool.{false≢true}
 use Rattle.std.specs.Fmt.{digits}
 use Rattle.httparse.specs.Grammar.{trim_ows}
@@ -16,12 +16,13 @@ use Rattle.model_proxy.specs.Edge.{Edge}
 use Rattle.model_proxy.specs.Answers.{reply_head, own_head}
 use Rattle.model_proxy.specs.Past.{ProxyStep, client, server, connected, refused, to_client, to_server, tick, took, gave, done, client_taken, client_given, servers}
 use Rattle.model_proxy.specs.Past as proxy
-use Rattle.model_proxy.specs.Exchange.{Exchange, pulled, sent_of, sent_on}
-use Rattle.model_proxy.specs.Forwarding.{IsGivenTo, AreWholeButLast, IsSentRightly, AreReplies, IsForwardedSoFar, AllGoOn, IsForwarding, at_first, behind}
+use Rattle.model_proxy.specs.Exchange.{Exchange, pulled, is_on, sent_of, sent_on}
+use Rattle.model_proxy.specs.Forwarding.{IsGivenTo, AreWholeButLast, IsSentRightly, AreReplies, IsCleanAtFirst, IsForwardedSoFar, AllGoOn, IsForwarding, at_first, behind}
 use Rattle.model_proxy.specs.Laws.Samples.{usual_edge, step, hi_text, hi}
 use Rattle.model_proxy.specs.Laws.Histories.{get_exchange, ticked, ticked_past, asked_history, asked_past, bad_gateway_text, refused_history, refused_past, refused_exchanges, get_sent, hi_passed, whole_history, whole_past, whole_exchanges}
 use Rattle.model_proxy.proofs.Histories.{refused_legal, whole_legal}
 use Rattle.model_proxy.proofs.ExampleLemmas.{hi_found, hi_answer}
+use Rattle.model_proxy.proofs.ToldFirst.{takes, gives, none_clean}
 
 there : (bytes : List ℕ) → Some bytes ≡ None → ⊥
 there bytes e = cc
@@ -46,13 +47,16 @@ ticked_fits edge = record {
   towards = none_at_first edge;
   whole = λ k. tt;
   used = λ e k f. let none : ⊥ = omega (arith, f) in absurd none;
+  told = tt;
   replied = tt;
+  clean = none_clean ticked [];
   alone = tt;
   failed = λ e. absurd (false≢true e);
 }
 
 pub ticked_forwards : (edge : Edge) → IsForwarding edge usual ticked None (steps ticked_past) []
 ticked_forwards edge = behind (step (tick 0) done) [] None [] [] None (steps ticked_past) [] at_first
+    (record { told = ([], record { event = on.tick 0; outcome = on.done }, refl, refl); gave = tt; opened = λ e. absurd (false≢true e) })
     (record { newer = []; older = []; are = refl; begun = tt; go_on = tt }) (ticked_fits edge)
 
 abbrev unsent : List Exchange
@@ -76,7 +80,9 @@ asked_fits = record {
   towards = none_asked;
   whole = λ k. tt;
   used = λ e k f. let none : ⊥ = omega (arith, f) in absurd none;
+  told = (λ t. absurd (false≢true t), tt);
   replied = (refl, tt, tt);
+  clean = none_clean asked_history unsent;
   alone = (tt, tt);
   failed = λ e. absurd (false≢true e);
 }
@@ -84,6 +90,7 @@ asked_fits = record {
 pub asked_forwards : IsForwarding usual_edge usual asked_history None (steps asked_past) unsent
 asked_forwards = behind (step (client get_text) (took 27)) ticked None (steps ticked_past) [] None
     (steps (parsed on.next (on.head get_head) (get ∷ []) ∷ parsed (on.read get_text) (on.took 27) (get ∷ []) ∷ [])) unsent (ticked_forwards usual_edge)
+    (takes get_text 27 (steps (parsed on.next (on.head get_head) (get ∷ []) ∷ [])))
     (record { newer = unsent; older = []; are = refl; begun = (record { sent = inl refl; unrefused = refl }, tt); go_on = tt }) asked_fits
 
 -- ---- no server connection is to be had
@@ -112,7 +119,9 @@ refused_now_fits = record {
   towards = none_refused;
   whole = λ k. tt;
   used = λ e k f. let none : ⊥ = omega (arith, f) in absurd none;
+  told = (λ t. absurd (false≢true t), tt);
   replied = (refl, (refl, refl), tt);
+  clean = none_clean refused_now refused_exchanges;
   alone = (tt, tt);
   failed = λ e. absurd (false≢true e);
 }
@@ -120,6 +129,7 @@ refused_now_fits = record {
 refused_now_forwards : IsForwarding usual_edge usual refused_now None (steps refused_now_past) refused_exchanges
 refused_now_forwards = behind (step refused done) asked_history None (steps asked_past) unsent None
     (steps (parsed on.next on.pending (get ∷ []) ∷ parsed (on.answer (own_head 502) (size_of 0)) on.done (get ∷ []) ∷ [])) refused_exchanges asked_forwards
+    (record { told = tt; gave = tt; opened = λ e. absurd (false≢true e) })
     (record { newer = []; older = refused_exchanges; are = refl; begun = tt; go_on = (record { sent = inl (refl, refl); refused = refl }, refl) }) refused_now_fits
 
 none_given : (k : ℕ) → k < 0 → IsGivenTo usual_edge (refused_history) (None) (refused_exchanges) k
@@ -140,7 +150,9 @@ refused_fits = record {
   towards = none_given;
   whole = λ k. tt;
   used = λ e k f. let none : ⊥ = omega (arith, f) in absurd none;
+  told = (λ t. absurd (false≢true t), tt);
   replied = (refl, (refl, refl), tt);
+  clean = none_clean refused_history refused_exchanges;
   alone = (tt, tt);
   failed = λ e. absurd (false≢true e);
 }
@@ -148,6 +160,7 @@ refused_fits = record {
 pub refused_forwards : IsForwarding usual_edge usual refused_history None (steps refused_past) refused_exchanges
 refused_forwards = behind (step (to_client 500) (gave bad_gateway_text)) refused_now None (steps refused_now_past) refused_exchanges None
     (steps (parsed (on.write 500) (on.gave bad_gateway_text) (get ∷ []) ∷ [])) refused_exchanges refused_now_forwards
+    (gives 500 bad_gateway_text None)
     (record { newer = []; older = refused_exchanges; are = refl; begun = tt; go_on = (record { sent = inl (refl, refl); refused = refl }, refl) }) refused_fits
 
 -- ---- a request is sent on, and its answer passed on
@@ -189,6 +202,11 @@ whole_connected k = by_test (eqb 0 k)
     by_test true = tt
     by_test false = tt
 
+clean_connected : (k : ℕ) → k < 1 → IsCleanAtFirst connected_now k (reverse (filter (is_on k) whole_exchanges))
+unfolding servers
+clean_connected zero low = (refl, refl)
+clean_connected (suc k) low = let none : ⊥ = omega (arith, low) in absurd none
+
 connected_fits : IsForwardedSoFar usual_edge usual (connected_now) (Some get_sent) (steps (asked_past)) (whole_exchanges)
 unfolding sums.taken sums.written sums.last_tick sums.since_head client_taken client_given servers proxy.last_tick pulled exchanges changed_by trim_ows
 connected_fits = record {
@@ -204,7 +222,9 @@ connected_fits = record {
   towards = towards_connected;
   whole = whole_connected;
   used = λ e. absurd (there _ e);
+  told = (λ t. absurd (false≢true t), tt);
   replied = (refl, tt, tt);
+  clean = clean_connected;
   alone = (tt, tt);
   failed = λ e. absurd (false≢true e);
 }
@@ -220,7 +240,8 @@ sent_now = record {
 }
 
 pub connected_forwards : IsForwarding usual_edge usual connected_now (Some get_sent) (steps asked_past) whole_exchanges
-connected_forwards = behind (step connected done) asked_history None (steps asked_past) unsent (Some get_sent) [] whole_exchanges asked_forwards sent_now connected_fits
+connected_forwards = behind (step connected done) asked_history None (steps asked_past) unsent (Some get_sent) [] whole_exchanges asked_forwards
+    (record { told = tt; gave = tt; opened = λ e. refl }) sent_now connected_fits
 
 rightly_given : IsSentRightly usual_edge given_now (get_exchange (Some 0) 3 false)
 unfolding servers
@@ -240,6 +261,11 @@ whole_given k = by_test (eqb 0 k)
     by_test true = tt
     by_test false = tt
 
+clean_given : (k : ℕ) → k < 1 → IsCleanAtFirst given_now k (reverse (filter (is_on k) whole_exchanges))
+unfolding servers
+clean_given zero low = (refl, refl)
+clean_given (suc k) low = let none : ⊥ = omega (arith, low) in absurd none
+
 given_fits : IsForwardedSoFar usual_edge usual (given_now) (Some []) (steps (asked_past)) (whole_exchanges)
 unfolding sums.taken sums.written sums.last_tick sums.since_head client_taken client_given servers proxy.last_tick pulled exchanges changed_by trim_ows
 given_fits = record {
@@ -255,13 +281,16 @@ given_fits = record {
   towards = towards_given;
   whole = whole_given;
   used = λ e. absurd (there _ e);
+  told = (λ t. absurd (false≢true t), tt);
   replied = (refl, tt, tt);
+  clean = clean_given;
   alone = (tt, tt);
   failed = λ e. absurd (false≢true e);
 }
 
 pub given_forwards : IsForwarding usual_edge usual given_now (Some []) (steps asked_past) whole_exchanges
 given_forwards = behind (step (to_server 500) (gave get_sent)) connected_now (Some get_sent) (steps asked_past) whole_exchanges (Some []) (steps ([])) whole_exchanges connected_forwards
+    (record { told = tt; gave = refl; opened = λ e. refl })
     (record { newer = []; older = whole_exchanges; are = refl; begun = tt; go_on = (record { sent = inl (refl, refl); refused = refl }, refl) }) given_fits
 
 rightly_answered : IsSentRightly usual_edge answered_now (get_exchange (Some 0) 3 false)
@@ -290,6 +319,11 @@ replied_answered = (
   tt,
 )
 
+clean_answered : (k : ℕ) → k < 1 → IsCleanAtFirst answered_now k (reverse (filter (is_on k) whole_exchanges))
+unfolding servers
+clean_answered zero low = (refl, refl)
+clean_answered (suc k) low = let none : ⊥ = omega (arith, low) in absurd none
+
 answered_fits : IsForwardedSoFar usual_edge usual (answered_now) (Some []) (steps (answered_past)) (whole_exchanges)
 unfolding sums.taken sums.written sums.last_tick sums.since_head client_taken client_given servers proxy.last_tick pulled exchanges changed_by trim_ows
 answered_fits = record {
@@ -305,13 +339,16 @@ answered_fits = record {
   towards = towards_answered;
   whole = whole_answered;
   used = λ e. absurd (there _ e);
+  told = (λ t. absurd (false≢true t), tt);
   replied = replied_answered;
+  clean = clean_answered;
   alone = (tt, tt);
   failed = λ e. absurd (false≢true e);
 }
 
 answered_forwards : IsForwarding usual_edge usual answered_now (Some []) (steps answered_past) whole_exchanges
 answered_forwards = behind (step (server hi_text) (took 40)) given_now (Some []) (steps asked_past) whole_exchanges (Some []) (steps (passing)) whole_exchanges given_forwards
+    (record { told = lit≤ tt; gave = tt; opened = λ e. refl })
     (record { newer = []; older = whole_exchanges; are = refl; begun = tt; go_on = (record { sent = inl (refl, refl); refused = refl }, refl) }) answered_fits
 
 rightly_whole : IsSentRightly usual_edge whole_history (get_exchange (Some 0) 3 false)
@@ -340,6 +377,11 @@ replied_whole = (
   tt,
 )
 
+clean_whole : (k : ℕ) → k < 1 → IsCleanAtFirst whole_history k (reverse (filter (is_on k) whole_exchanges))
+unfolding servers
+clean_whole zero low = (refl, refl)
+clean_whole (suc k) low = let none : ⊥ = omega (arith, low) in absurd none
+
 whole_fits : IsForwardedSoFar usual_edge usual (whole_history) (Some []) (steps (whole_past)) (whole_exchanges)
 unfolding sums.taken sums.written sums.last_tick sums.since_head client_taken client_given servers proxy.last_tick pulled exchanges changed_by trim_ows
 whole_fits = record {
@@ -355,11 +397,14 @@ whole_fits = record {
   towards = towards_whole;
   whole = whole_whole;
   used = λ e. absurd (there _ e);
+  told = (λ t. absurd (false≢true t), tt);
   replied = replied_whole;
+  clean = clean_whole;
   alone = (tt, tt);
   failed = λ e. absurd (false≢true e);
 }
 
 pub whole_forwards : IsForwarding usual_edge usual whole_history (Some []) (steps whole_past) whole_exchanges
 whole_forwards = behind (step (to_client 500) (gave hi_passed)) answered_now (Some []) (steps answered_past) whole_exchanges (Some []) (steps (parsed (on.write 500) (on.gave hi_passed) (get ∷ []) ∷ [])) whole_exchanges answered_forwards
+    (gives 500 hi_passed (Some []))
     (record { newer = []; older = whole_exchanges; are = refl; begun = tt; go_on = (record { sent = inl (refl, refl); refused = refl }, refl) }) whole_fits

@@ -118,7 +118,7 @@ given_is_sent waiting trace xs f = by_case (one_or_none 4 xs (sent_by usual_edge
         absurd (not_empty 71 (drop 1 get_sent ++ begins.0) (sym empty ∙ begins.1))
 
 sent_early : (waiting : Option (List ℕ)) (trace : List Step) (xs : List Exchange) → IsForwarding usual_edge usual swallowed_history waiting trace xs → HasSent 4 xs
-sent_early _ _ _ (behind _ _ w6 t6 xs6 _ _ ys6 (behind _ _ w5 t5 xs5 _ _ ys5 f go5 fits5) go6 fits6) =
+sent_early _ _ _ (behind _ _ w6 t6 xs6 _ _ ys6 (behind _ _ w5 t5 xs5 _ _ ys5 f _ go5 fits5) _ go6 fits6) =
     stays _ w6 swallowed_history 4 ys5 ys6 go6 (stays _ w5 (step (server hi_text) (took 40) ∷ given_now) 4 xs5 ys5 go5 (given_is_sent w5 t5 xs5 f))
 
 reply_from : (history : List ProxyStep) (x : Exchange) (a : AnswerGiven) (bad_head can was : Bool) (number : Option ℕ) (k : ℕ) → bad_head ≡ false → can ≡ true → was ≡ false

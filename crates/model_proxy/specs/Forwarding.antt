@@ -1,8 +1,9 @@
 -- What holds of all that a forwarder does: the theorem that is to be proved of one.
-use Rattle.std.specs.Prelude.{◌≡◌, ◌⊎◌, ℕ, ◌+◌, ◌<◌, Bool, true, false, not, ◌&&◌, ◌||◌, ◌==◌, List, [], ◌∷◌, ◌++◌, length, map, filter, flat_map, codes, bytes_eq, Option, Some, None, is_some, is_none, ⊤}
+use Rattle.std.specs.Prelude.{◌≡◌, ◌⊎◌, ℕ, ◌+◌, ◌<◌, ◌≤◌, Bool, true, false, not, ◌&&◌, ◌||◌, ◌==◌, List, [], ◌∷◌, ◌++◌, length, map, filter, reverse, take, flat_map, codes, bytes_eq, Option, Some, None, is_some, is_none, unwrap_or, ⊤}
 use Rattle.std.specs.List.{list_any, AllByRecursion}
 use Rattle.model_h1.specs.Setting.{Setting}
 use Rattle.model_h1.specs.Answer.{size_of}
+use Rattle.model_h1.specs.Event as on
 use Rattle.model_h1.specs.Handed.{Begins}
 use Rattle.model_h1.specs.Sums.{Step}
 use Rattle.model_h1.specs.Sums as sums
@@ -16,7 +17,8 @@ use Rattle.model_proxy.specs.Edge.{Edge}
 use Rattle.model_proxy.specs.Judged.{is_refused}
 use Rattle.model_proxy.specs.Forward.{is_forwardable, Sent, forward}
 use Rattle.model_proxy.specs.Answers.{Fate, bad, whole_at, Found, IsAnswer, reply_head, reply_size, own_head, refusal_head, says_close}
-use Rattle.model_proxy.specs.Past.{ProxyEvent, connected, ProxyStep, client_taken, client_given, client_ended, is_refusal, is_closed, Server, servers, server_at, now}
+use Rattle.model_proxy.specs.Past.{ProxyEvent, connected, ProxyOutcome, ProxyStep, client_taken, client_given, client_ended, is_refusal, is_closed, Server, servers, server_at, now, first_of}
+use Rattle.model_proxy.specs.Past as past
 use Rattle.model_proxy.specs.Exchange.{Exchange, pulled, is_on, sent_on, until, answer_input}
 
 -- ---- replies
@@ -70,6 +72,10 @@ AreReplies e setting history later (x ∷ xs) (f ∷ fs) =
     (f.head ≡ x.pulled.head) × IsReply e setting history later x f.reply × AreReplies e setting history (x ∷ later) xs fs
 AreReplies e setting history later _ _ = ⊥
 
+-- a client is told to go on only for a request that can be sent on, and only in HTTP/1.1 (RFC 9110, section 15.2)
+abbrev pub IsToldRightly : Edge → replies.Exchange → Type 0
+IsToldRightly e f = f.was_told ≡ true → (is_forwardable e f.head ≡ true) × ((f.head.minor == 0) ≡ false)
+
 -- ---- one answer a request
 
 -- an answer that doesn't say that its server closes the connection
@@ -98,6 +104,13 @@ IsAloneOn setting history later x (Some k) = IsAloneBefore setting history x k (
 abbrev pub AreAlone : Setting → List ProxyStep → List Exchange → List Exchange → Type 0
 AreAlone setting history later [] = ⊤
 AreAlone setting history later (x ∷ xs) = IsAloneOn setting history later x x.server × AreAlone setting history (x ∷ later) xs
+
+-- Where the first of these requests, the oldest first, was sent on this server connection, nothing had come of it, nor the end of its input.
+abbrev pub IsCleanAtFirst : List ProxyStep → ℕ → List Exchange → Type 0
+IsCleanAtFirst history k [] = ⊤
+IsCleanAtFirst history k (x ∷ later) =
+    let before = server_at k (first_of x.sent_at history) in
+    (before.came ≡ []) × (before.ended ≡ false)
 
 -- ---- towards the servers
 
@@ -156,7 +169,9 @@ pub record IsForwardedSoFar (e : Edge) (setting : Setting) (history : List Proxy
   pub towards : (k : ℕ) → k < length (servers history) → IsGivenTo e history waiting xs k
   pub whole : (k : ℕ) → AreWholeButLast (sent_on e history k xs)
   pub used : IsUsedBefore history waiting xs
+  pub told : AllByRecursion (IsToldRightly e) (exchanges trace)
   pub replied : AreReplies e setting history [] xs (exchanges trace)
+  pub clean : (k : ℕ) → k < length (servers history) → IsCleanAtFirst history k (reverse (filter (is_on k) xs))
   pub alone : AreAlone setting history [] xs
   pub failed : sums.came_since_head sums.is_body_error trace ≡ true → HasFailed setting history xs
 
@@ -166,6 +181,40 @@ pub record IsForwardedSoFar (e : Edge) (setting : Setting) (history : List Proxy
 abbrev pub is_there : ProxyEvent → Option (List ℕ) → Bool
 is_there connected waiting = true
 is_there _ waiting = is_some waiting
+
+-- what the client's connection did begins with such a step
+abbrev pub BeginsWith : (Step → Type 0) → List Step → Type 0
+BeginsWith Is did = (more : List Step) × (first : Step) × (did ≡ more ++ first ∷ []) × Is first
+
+abbrev pub IsStepOf : on.Event → on.Outcome → Step → Type 0
+IsStepOf event outcome s = (s.event ≡ event) × (s.outcome ≡ outcome)
+
+-- Each event has an outcome of its own. Where it is one of the client's side, what the client's connection does by the step begins with
+-- it, as its tables say, but for bytes of which none is taken.
+abbrev pub IsTold : ProxyEvent → ProxyOutcome → List Step → Type 0
+IsTold (past.client bytes) (past.took n) did = (n ≡ 0) ⊎ BeginsWith (IsStepOf (on.read bytes) (on.took n)) did
+IsTold past.client_eof past.done did = BeginsWith (λ s. s.event ≡ on.eof) did
+IsTold (past.to_client n) (past.gave bytes) did = BeginsWith (IsStepOf (on.write n) (on.gave bytes)) did
+IsTold (past.to_client n) (past.closed end) did = ⊤
+IsTold (past.tick ms) past.done did = BeginsWith (λ s. s.event ≡ on.tick ms) did
+IsTold (past.server bytes) (past.took n) did = n ≤ length bytes
+IsTold past.server_eof past.done did = ⊤
+IsTold past.connected past.done did = ⊤
+IsTold past.refused past.done did = ⊤
+IsTold (past.to_server n) (past.gave bytes) did = ⊤
+IsTold event outcome did = ⊥
+
+-- what is given towards a server is the first of what waited
+abbrev pub IsFirstOf : ProxyEvent → ProxyOutcome → Option (List ℕ) → Type 0
+IsFirstOf (past.to_server n) (past.gave bytes) waiting = bytes ≡ take n (unwrap_or waiting [])
+IsFirstOf event outcome waiting = ⊤
+
+-- A step, of what waited towards the server before it and does behind it, and of what the client's connection did. A server connection is
+-- open behind it only if it was before, or this step connects it.
+pub record IsStep (s : ProxyStep) (before after : Option (List ℕ)) (did : List Step) : Type 0 where
+  pub told : IsTold s.event s.outcome did
+  pub gave : IsFirstOf s.event s.outcome before
+  pub opened : is_some after ≡ true → is_there s.event before ≡ true
 
 -- The request is sent on by the newest of these steps, on the newest server connection; these bytes waited to be given before the step.
 pub record IsSentNow (event : ProxyEvent) (waiting : Option (List ℕ)) (history : List ProxyStep) (y : Exchange) : Type 0 where
@@ -200,12 +249,12 @@ pub record AllGoOn (event : ProxyEvent) (waiting : Option (List ℕ)) (history :
   pub begun : AllByRecursion (IsNew event waiting history) newer
   pub go_on : NewestGoesOn event waiting history xs older
 
--- The theorem. It all begins with nothing; and with each step the client's connection does something more, each request goes on, and then
--- what holds behind all steps does. So nothing is ever put before its cause came: no request is given to a server before it is sent on, no
+-- The theorem. It all begins with nothing; and with each step, which is one as it may be, the client's connection does something more, each
+-- request goes on, and then what holds behind all steps does. So nothing is ever put before its cause came: no request is given to a server before it is sent on, no
 -- byte of a reply is put before it came, and no 502 before a refusal or a bad answer.
 pub data IsForwarding (e : Edge) (setting : Setting) : List ProxyStep → Option (List ℕ) → List Step → List Exchange → Type 0 where
   at_first : IsForwarding e setting [] None [] []
   behind : (s : ProxyStep) (history : List ProxyStep) (before : Option (List ℕ)) (trace : List Step) (xs : List Exchange)
       (waiting : Option (List ℕ)) (did : List Step) (ys : List Exchange) → IsForwarding e setting history before trace xs
-      → AllGoOn s.event before (s ∷ history) xs ys → IsForwardedSoFar e setting (s ∷ history) waiting (did ++ trace) ys
+      → IsStep s before waiting did → AllGoOn s.event before (s ∷ history) xs ys → IsForwardedSoFar e setting (s ∷ history) waiting (did ++ trace) ys
       → IsForwarding e setting (s ∷ history) waiting (did ++ trace) ys

@@ -63,6 +63,11 @@ abbrev pub is_refusal : ProxyEvent → Bool
 is_refusal refused = true
 is_refusal _ = false
 
+-- a step connects one
+abbrev pub is_connection : ProxyEvent → Bool
+is_connection connected = true
+is_connection _ = false
+
 -- one more, where this is so
 abbrev pub counted_if : Bool → ℕ → ℕ
 counted_if is n = if is then n + 1 else n

@@ -131,8 +131,8 @@ pub record Rests (e : Edge) (setting : Setting) (past : List ParsedStep) (histor
   pub next : is_allowed setting past on.next ≡ true → outcome_of setting past on.next ≡ on.pending
   pub told : is_allowed setting past on.send_continue ≡ true → OfNewest (λ x. x.pulled.head.minor ≡ 0) xs
   pub waits : waits_for_answer (steps past) ≡ true → OfNewest (Waits e setting history waiting) xs
-  pub body : is_some waiting ≡ true → length (unwrap_or waiting []) < MAX_WAITING → OfNewest (λ x. is_some x.server ≡ true) xs → is_allowed setting past on.pull ≡ true
-      → outcome_of setting past on.pull ≡ on.pending
+  pub body : is_some waiting ≡ true → length (unwrap_or waiting []) < MAX_WAITING → length (unwrap_or waiting []) < setting.write_buffer
+      → OfNewest (λ x. is_some x.server ≡ true) xs → is_allowed setting past on.pull ≡ true → outcome_of setting past on.pull ≡ on.pending
   pub spent : is_under_way (steps past) xs ≡ false → IsSpent setting history xs → waiting ≡ None
   pub kept : is_under_way (steps past) xs ≡ true → was_dropped (steps past) ≡ false
   pub passing : is_answering (steps past) ≡ true → length (buffered setting (steps past)) < setting.write_buffer

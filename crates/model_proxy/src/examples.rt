@@ -6,6 +6,7 @@ ghost use Rattle.model_h1.specs.LengthTable.{values_of};
 ghost use Rattle.model_h1.specs.Answer.{size_none, size_of, size_stream};
 ghost use Rattle.model_h1.specs.Parse.{no_content, content, still_open, broken, cut};
 ghost use Rattle.model_h1.specs.End.{End};
+ghost use Rattle.model_h1.specs.Sums.{Step};
 ghost use Rattle.model_h1.specs.Past.{steps};
 ghost use Rattle.model_h1.specs.Laws.ExampleTraces.{usual};
 ghost use Rattle.model_client.specs.AnswerReading.{answer_is, refused};
@@ -21,7 +22,7 @@ ghost use Rattle.model_proxy.specs.Exchange.{Exchange, answer_input};
 ghost use Rattle.model_proxy.specs.Forwarding.{IsAlone, IsForwarding};
 ghost use Rattle.model_proxy.specs.Rests.{is_event_allowed, RestsWhereItMay};
 ghost use Rattle.model_proxy.specs.Laws.Samples.{step, usual_edge, trusting_edge, lax_edge, plain_head, head_for, get_x, told_head, added, sent_now, answer_with, came, hi_text, hi, timeout_text, asked_again, exchange_at};
-ghost use Rattle.model_proxy.specs.Laws.Histories.{idle_history, ticked, get_exchange, asked_past, hung_up_history, refused_history, refused_past, refused_exchanges, whole_history, whole_past, whole_exchanges, hostless_history, hostless_past, hostless_exchanges, unforwardable_history, unforwardable_past, unforwardable_exchanges, broken_history, broken_past, broken_exchanges, ticked_past, unasked_history, swallowed_history, swallowed_past, ended_history, drained_past, stuck_history, stuck_past, cut_history, cut_past, dropped_history, dropped_past, dropped_exchanges, closing_text};
+ghost use Rattle.model_proxy.specs.Laws.Histories.{idle_history, ticked, get_exchange, asked_past, hung_up_history, refused_history, refused_past, refused_exchanges, whole_history, whole_past, whole_exchanges, hostless_history, hostless_past, hostless_exchanges, unforwardable_history, unforwardable_past, unforwardable_exchanges, broken_history, broken_past, broken_exchanges, ticked_past, unasked_history, swallowed_history, swallowed_past, ended_history, drained_past, stuck_history, stuck_past, cut_history, cut_past, dropped_history, dropped_past, dropped_exchanges, closing_text, dead_history};
 
 /// The words of Connection lines are read without case and blanks, and the lines that they name stay behind. Host is written anew, whatever names it.
 pub fn a_named_line_stays_behind()
@@ -281,6 +282,12 @@ pub fn a_body_that_is_left_is_refused()
 /// A forwarder that closes each server connection as soon as it is there, and goes on to want one.
 pub fn an_unused_connection_that_is_closed_is_refused()
     ensures { IsForwarding usual_edge usual hung_up_history None (steps asked_past) (get_exchange None 0 false ∷ []) → ⊥ }
+{}
+
+/// A forwarder that sends a request on where the server's input has ended already.
+pub fn a_request_on_a_dead_connection_is_refused()
+    ensures { (waiting : Option (List ℕ)) (trace : List Step)
+        → IsForwarding usual_edge usual dead_history waiting trace (get_exchange (Some 0) 5 false ∷ []) → ⊥ }
 {}
 
 /// A forwarder that says that its client's connection is closed, while that goes on.

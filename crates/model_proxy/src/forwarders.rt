@@ -1,6 +1,6 @@
 //! What the theorem of a forwarder gives.
 
-ghost use Rattle.std.specs.Prelude.{◌≡◌, ℕ, ◌<◌, ◌≤◌, false, List, ◌++◌, length, map, flat_map, Option, Some};
+ghost use Rattle.std.specs.Prelude.{◌≡◌, ℕ, ◌<◌, ◌≤◌, false, true, List, ◌++◌, length, map, flat_map, Option, Some};
 ghost use Rattle.std.specs.List.{list_any, AllByRecursion};
 ghost use Rattle.model_h1.specs.Setting.{Setting};
 ghost use Rattle.model_h1.specs.Sums.{Step};
@@ -9,7 +9,7 @@ ghost use Rattle.model_ends.specs.SentRequest.{sent_request, AreBegunServed};
 ghost use Rattle.model_proxy.specs.Edge.{Edge};
 ghost use Rattle.model_proxy.specs.Forward.{Sent, forwarded, forward};
 ghost use Rattle.model_proxy.specs.SentWhole.{IsSentWhole};
-ghost use Rattle.model_proxy.specs.Past.{ProxyStep, is_refusal, servers, server_at};
+ghost use Rattle.model_proxy.specs.Past.{ProxyStep, is_refusal, is_connection, servers, server_at};
 ghost use Rattle.model_proxy.specs.Exchange.{Exchange, sent_on};
 ghost use Rattle.model_proxy.specs.Forwarding.{IsForwarding};
 
@@ -24,6 +24,12 @@ pub fn a_refusal_stands_in_the_history()
 pub fn a_request_is_sent_by_a_step()
     ensures { (e : Edge) (setting : Setting) (history : List ProxyStep) (waiting : Option (List ℕ)) (trace : List Step) (xs : List Exchange)
         → IsForwarding e setting history waiting trace xs → AllByRecursion (λ x. (k : ℕ) → x.server ≡ Some k → x.sent_at ≤ length history) xs }
+{}
+
+/// A server connection is open only where a step connects one.
+pub fn an_open_connection_was_connected()
+    ensures { (e : Edge) (setting : Setting) (history : List ProxyStep) (bytes : List ℕ) (trace : List Step) (xs : List Exchange)
+        → IsForwarding e setting history (Some bytes) trace xs → list_any (λ s. is_connection s.event) history ≡ true }
 {}
 
 /// A server that parses what a forwarder gave it reads the beginning of the requests that were sent on its connection, each whole only

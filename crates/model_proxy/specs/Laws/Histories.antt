@@ -254,6 +254,10 @@ closing_text = codes "HTTP/1.1 204 No Content\r\nconnection: close\r\n\r\n"
 abbrev pub hung_up_history : List ProxyStep
 hung_up_history = step connected done ∷ asked_history
 
+-- the server's input ends before a request was sent on there, and then one is
+abbrev pub dead_history : List ProxyStep
+dead_history = step (tick 1) done ∷ step server_eof done ∷ step connected done ∷ asked_history
+
 -- the server's input ends behind its answer; the client's trace is `whole_past`
 abbrev pub idle_history : List ProxyStep
 idle_history = step server_eof done ∷ whole_history
