@@ -51,21 +51,15 @@ is_taken e setting past history waiting xs client_eof = is_running setting past 
 is_taken e setting past history waiting xs connected = wants_server e setting past waiting xs
 is_taken e setting past history waiting xs refused = wants_server e setting past waiting xs
 is_taken e setting past history waiting xs (server bytes) = is_read (servers history) waiting
-is_taken e setting past history waiting xs server_eof = is_read (servers history) waiting
+is_taken e setting past history waiting xs server_eof = is_running setting past && is_read (servers history) waiting
 is_taken e setting past history waiting xs (to_server n) = is_some waiting
 is_taken e setting past history waiting xs (to_client n) = true
 is_taken e setting past history waiting xs (tick ms) = is_moment (steps past) ms
 
--- once it is given up, only that this is told
-abbrev pub is_to_client : ProxyEvent → Bool
-is_to_client (to_client n) = true
-is_to_client _ = false
-
--- the event is allowed; nothing is once it was told that the client's connection is closed
+-- the event is allowed; nothing is once the client's connection is over
 abbrev pub is_event_allowed : Edge → Setting → List ParsedStep → List ProxyStep → Option (List ℕ) → List Exchange → ProxyEvent → Bool
 is_event_allowed e setting past history waiting xs event =
-    not (list_any (λ s. is_closed s.outcome) history)
-    && (if is_over (steps past) then is_to_client event else is_taken e setting past history waiting xs event)
+    not (list_any (λ s. is_closed s.outcome) history) && (not (is_over (steps past)) && is_taken e setting past history waiting xs event)
 
 -- ---- what rests
 
