@@ -15,3 +15,4 @@ pub mod Replies
 pub mod Carried
 pub mod Still
 pub mod Sending
+pub mod Forwarding
