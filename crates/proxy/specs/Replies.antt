@@ -81,16 +81,15 @@ abbrev pub AreBehindHead : (Head → Type 0) → List Part → List Part → Typ
 AreBehindHead Is parts all = (h : Head) × Is h × (all ≡ parts ++ hands h ∷ [])
 
 -- the request of this head can be sent on, and waits for that
-abbrev pub IsOpened : Proxy → Head → Type 0
-IsOpened p h =
-    (is_forwardable (edge_of p.config.edge) h ≡ true) × (u : Unsent) × (p.unsent ≡ Some u) × IsUnsent (edge_of p.config.edge) u h
+abbrev pub IsOpened : Edge → Proxy → Head → Type 0
+IsOpened e p h = (is_forwardable e h ≡ true) × (u : Unsent) × (p.unsent ≡ Some u) × IsUnsent e u h
 
 -- the head is refused; or it isn't, and its request can't be sent on
-abbrev pub IsHeadRefused : Proxy → Head → Type 0
-IsHeadRefused p h = is_head_refused (edge_of p.config.edge) h ≡ true
+abbrev pub IsHeadRefused : Edge → Head → Type 0
+IsHeadRefused e h = is_head_refused e h ≡ true
 
-abbrev pub CannotBeSent : Proxy → Head → Type 0
-CannotBeSent p h = (is_head_refused (edge_of p.config.edge) h ≡ false) × (is_forwardable (edge_of p.config.edge) h ≡ false)
+abbrev pub CannotBeSent : Edge → Head → Type 0
+CannotBeSent e h = (is_head_refused e h ≡ false) × (is_forwardable e h ≡ false)
 
 -- the head of an answer is put: all of its reply, or the first part of it
 abbrev pub PutsHead : Bool → Part → State → State → Type 0
@@ -100,14 +99,14 @@ PutsHead false part old new = MayPut part old new
 -- all that a turn does on the client's connection, by the parts of it
 abbrev pub HasPut : TurnPuts → Proxy → Proxy → Type 0
 HasPut nothing_put old new = Puts [] old.client new.client
-HasPut opened old new = PutsFor (AreBehindHead (IsOpened new) []) old.client new.client
+HasPut opened old new = PutsFor (AreBehindHead (IsOpened (edge_of old.config.edge) new) []) old.client new.client
 HasPut told_to_go_on old new =
-    PutsFor (AreBehindHead (λ h. IsOpened new h × ((h.minor == 0) ≡ false)) (goes_on ∷ [])) old.client new.client
+    PutsFor (AreBehindHead (λ h. IsOpened (edge_of old.config.edge) new h × ((h.minor == 0) ≡ false)) (goes_on ∷ [])) old.client new.client
 HasPut sent_on old new = Puts [] old.client new.client
 HasPut (body_on bytes) old new = Puts (takes bytes ∷ []) old.client new.client
 HasPut body_whole old new = Puts (takes_end ∷ []) old.client new.client
-HasPut refused_head old new = PutsAfter (AreBehindHead (IsHeadRefused old) []) (refusal_part BadHead) old.client new.client
-HasPut not_forwardable old new = PutsAfter (AreBehindHead (CannotBeSent old) []) (own 501) old.client new.client
+HasPut refused_head old new = PutsAfter (AreBehindHead (IsHeadRefused (edge_of old.config.edge)) []) (refusal_part BadHead) old.client new.client
+HasPut not_forwardable old new = PutsAfter (AreBehindHead (CannotBeSent (edge_of old.config.edge)) []) (own 501) old.client new.client
 HasPut no_answer old new = PutsLast [] (own 502) old.client new.client
 HasPut (broken_body fault) old new = PutsLast (request_breaks fault ∷ []) (own 400) old.client new.client
 HasPut (broken_late fault) old new = Puts (request_breaks fault ∷ []) old.client new.client
@@ -237,7 +236,7 @@ AwaitsAnswer (Some s) = (t : servers.State) × HandsNone s t × ((trace : List H
 -- server as it was taken from the client, and its end once that was.
 abbrev pub HasCause : TurnPuts → Proxy → Proxy → Type 0
 HasCause nothing_put old new = (sent : SentRequest) (s : servers.State) → Runs sent old → old.server ≡ Some s → GoesOnWaiting (marks_of sent) s new
-HasCause opened old new = HoldsNoRequest old × (new.sent ≡ None) × (new.server ≡ old.server)
+HasCause opened old new = HoldsNoRequest old
 HasCause sent_on old new = (u : Unsent) × (old.unsent ≡ Some u) × IsSentUpstream u old new
 HasCause (body_on bytes) old new = SendsMore (asked.chunk bytes) (λ sent. sent) old new
 HasCause body_whole old new = SendsMore asked.body_end (λ sent. record sent { is_whole = true }) old new
