@@ -194,7 +194,9 @@ LacksAnswer (Some s) = CannotTell s ⊎ ((o : asked.ClientOutcome) × IsBad o ×
 -- A reply that ends with its head is complete; of another the connection to the server has the rest.
 abbrev pub Follows : Bool → SentRequest → Answer → servers.State → Proxy → Type 0
 Follows true sent a server q = ReplyIsOver sent.is_whole (says_close a) server q
-Follows false sent a server q = GoesOnBy (record { is_head = sent.is_head; is_answered = true; closes = says_close a }) [] server q
+Follows false sent a server q =
+    GoesOnBy (record { is_head = sent.is_head; is_answered = true; closes = says_close a }) [] server q
+    × (q.sent ≡ Some (record sent { is_answered = true; closes = says_close a }))
 
 -- an answer's head is passed on
 abbrev pub FollowsHead : SentRequest → Answer → servers.State → Proxy → Type 0
@@ -393,13 +395,14 @@ Fails false client q = PutsLast [] (own 502) client q.client × IsDropped q
 
 -- the request's body broke: where its answer was passed on, that goes on
 abbrev pub Breaks : Bool → SentRequest → servers.State → State → Proxy → Type 0
-Breaks true sent server client q = Puts [] client q.client × GoesOnWaiting (marks_of sent) server q
+Breaks true sent server client q =
+    Puts [] client q.client × GoesOnWaiting (marks_of sent) server q × (q.sent ≡ Some (record sent { is_broken = true }))
 Breaks false sent server client q = PutsLast [] (own 400) client q.client × IsDropped q
 
 -- none of its body was sent on, or a piece of it, or its end; or it broke
 abbrev pub PassesBody : SentRequest → servers.State → State → Proxy → Type 0
 PassesBody sent server client q =
-    (Puts [] client q.client × GoesOnWaiting (marks_of sent) server q)
+    (Puts [] client q.client × GoesOnWaiting (marks_of sent) server q × (q.sent ≡ Some sent))
     ⊎ (((bytes : List ℕ) × Puts (takes bytes ∷ []) client q.client × SendsOn (asked.chunk bytes) server sent q)
     ⊎ ((Puts (takes_end ∷ []) client q.client × SendsOn asked.body_end server (record sent { is_whole = true }) q)
     ⊎ ((fault : on.BodyFault) × (c : State) × Puts (request_breaks fault ∷ []) client c × Breaks sent.is_answered sent server c q)))
@@ -413,7 +416,8 @@ PassesHead sent server item client q =
 abbrev pub UsesAnswer : SentRequest → servers.State → Answer → Proxy → Proxy → Type 0
 UsesAnswer sent server a p q =
     ((is_refused a ≡ true) × PutsLast [] (own 502) p.client q.client × IsDropped q)
-    ⊎ (((is_refused a ≡ false) × (is_interim a.status ≡ true) × Puts [] p.client q.client × GoesOnWaiting (marks_of sent) server q)
+    ⊎ (((is_refused a ≡ false) × (is_interim a.status ≡ true) × Puts [] p.client q.client × GoesOnWaiting (marks_of sent) server q
+    × (q.sent ≡ Some sent))
     ⊎ ((is_good a ≡ true) × PutsHead (is_at_once (reply_size sent.is_head a)) (passed sent.is_head a) p.client q.client × FollowsHead sent a server q))
 
 abbrev pub TakesAnswer : SentRequest → servers.State → ResponseItem → Proxy → Proxy → Type 0
