@@ -1,10 +1,9 @@
 -- Why a forwarder puts each part of a reply.
-use Rattle.std.proofs.Common.{◌≡◌, ◌⊎◌, inl, inr, ℕ, Bool, true, false, not, ◌&&◌, List, [], ◌∷◌, Option, Some, None, refl, sym, ap, ◌∙◌, subst, subst₂}
+use Rattle.std.proofs.Common.{◌≡◌, ◌⊎◌, inl, inr, ℕ, Bool, true, false, not, List, [], ◌∷◌, Option, Some, None, refl, sym, ap, ◌∙◌, subst, subst₂}
 use Rattle.std.specs.Prelude.{IsTrue, is_some, is_none, if◌then◌else◌}
 use Rattle.std.proofs.lemmas.Bool.{false≢true}
 use Rattle.model_h1.specs.Answer.{AnswerHead, BodySize, is_at_once}
 use Rattle.model_h1.specs.Event as on
-use Rattle.model_h1.specs.Parse.{Body, content, still_open}
 use Rattle.model_h1.specs.Request.{Head}
 use Rattle.model_h1.specs.Sums.{Step}
 use Rattle.model_proxy.specs.Forward.{is_forwardable}
@@ -13,17 +12,17 @@ use Rattle.h1_decoder.specs.declared.decoder.HeadItem.{HeadItem}
 use Rattle.h1_decoder.specs.declared.response.ResponseItem.{ResponseItem}
 use Rattle.h1_payload.specs.declared.pulled.Pulled.TheVariants as pulled
 use Rattle.h1_connection.specs.State.{State, Stands, GoesOn}
-use Rattle.model_client.specs.AnswerParse.{Received, is_interim}
-use Rattle.model_client.specs.AnswerReading.{Answer, answer_is}
+use Rattle.model_client.specs.AnswerParse.{is_interim}
+use Rattle.model_client.specs.AnswerReading.{Answer}
 use Rattle.model_client.specs.ClientEvent as asked
 use Rattle.h1_client.specs.State as servers
 use Rattle.h1_client.specs.declared.event.ClientEnd.{ClientEnd}
 use Rattle.h1_client.specs.declared.event.NextAnswer.TheVariants as answered
-use Rattle.model_proxy.specs.Answers.{says_close, Found, found_bad, found_body, found_by, reply_head, reply_size}
+use Rattle.model_proxy.specs.Answers.{says_close, reply_head, reply_size}
 use Rattle.model_proxy.specs.Past.{ProxyEvent, ProxyOutcome}
 use Rattle.model_proxy.specs.Past as past
 use Rattle.proxy.specs.Leaves.{LeavesAnswer}
-use Rattle.proxy.specs.Puts.{Part, begins, continues, ends, breaks_off, goes_on, request_breaks, Puts, IsRefused, MayPut, MayLeave, HandsHead, HandsAnswer, HandsPiece, is_refused, is_good, Handed, good_answer, refused_answer, body_bytes, body_fault, Hands, HandsNone, CannotPull, IsReadUp}
+use Rattle.proxy.specs.Puts.{Part, begins, continues, ends, breaks_off, goes_on, request_breaks, Puts, IsRefused, MayPut, MayLeave, HandsHead, HandsAnswer, HandsPiece, is_refused, Handed, body_bytes, body_fault, Hands, HandsNone, CannotPull, IsReadUp}
 use Rattle.proxy.proofs.Puts.{puts_none, then_none, behind_head, hands_same, hands_then, tells_none}
 use Rattle.proxy_heads.specs.Edges.{edge_of}
 use Rattle.proxy_heads.specs.declared.refusal.Refusal.TheVariants.{BadHead}
@@ -35,6 +34,7 @@ use Rattle.proxy.specs.Kept.{HoldsNoRequest, Runs, GoesBy, wants_server, is_clos
 use Rattle.proxy.specs.Rests.{IsNoted}
 use Rattle.proxy.proofs.EventMoves.{three_parts}
 use Rattle.proxy.specs.Replies.{TurnPuts, nothing_put, opened, told_to_go_on, body_on, body_whole, PutsAfter, AreBehindHead, IsOpened, IsHeadRefused, CannotBeSent, SendsOn, KeepsBody, broken_body, broken_late, refused_head, not_forwardable, no_answer, passed_on, piece_on, end_on, cut_off, own, refusal_part, passed, PutsLast, PutsHead, IsUnanswered, WasAnswered, Marks, marks_of, GoesOnBy, GoesOnWaiting, IsDropped, ReplyIsOver, KeepsServer, KeepsIdle, KeepsFor, LacksAnswer, Follows, FollowsHead, LacksEnd, AwaitsAnswer, HasCause, TurnReplies, Fails, Breaks, PassesBody, UsesAnswer, TakesAnswer, Opens, ClientAdds, AddsTo, PutsNothing, HasReplied, Replies, RepliesRefused}
+use Rattle.proxy.proofs.AnswerUses.{over_out}
 
 -- ---- one after another
 
@@ -87,6 +87,12 @@ as_far p q sent next old new whole broken a b here there =
       ap (λ (r : SentRequest). r.is_broken) (sym y) ∙ broken ∙ ap (λ (r : SentRequest). r.is_broken) x,
     )
 
+-- the same request
+pub same_body : (p q : Proxy) → q.sent ≡ p.sent → KeepsBody nothing_put p q
+same_body p q is = λ a b here there.
+    let x = same_sent p.sent a b here (sym is ∙ there) in
+    (ap (λ (r : SentRequest). r.is_whole) (sym x), ap (λ (r : SentRequest). r.is_broken) (sym x))
+
 -- its end went on
 pub whole_far : (p q : Proxy) (sent : SentRequest) → p.sent ≡ Some sent → q.sent ≡ Some (record sent { is_whole = true }) → KeepsBody body_whole p q
 whole_far p q sent old new = λ a b here there.
@@ -101,66 +107,6 @@ broken_far fault p q sent old new = λ a b here there.
     let x = same_sent p.sent sent a old here in
     let y = same_sent q.sent (record sent { is_broken = true }) b new there in
     (ap (λ (r : SentRequest). r.is_whole) (sym y) ∙ ap (λ (r : SentRequest). r.is_whole) x, ap (λ (r : SentRequest). r.is_broken) (sym y))
-
--- ---- what is done with an answer
-
-abbrev received : Received
-received = record { bytes = []; ended = false; hold_size = None }
-
-abbrev body : Body
-body = content [] still_open
-
-abbrev found : Answer → Found
-found a = found_body received a body
-
-abbrev choice : Bool → Bool → Found → Found → Found
-choice refused interim later here = if refused then found_bad else (if interim then later else here)
-
-not_bad : (a : Answer) → found a ≡ found_bad → ⊥
-not_bad a is = let no : ◌≡◌ {A = Option Answer} (Some a) None = ap (λ (f : Found). f.response) is in cc no
-
-refused_by : (a : Answer) (refused interim : Bool) → choice refused interim (found a) (found a) ≡ found_bad → refused ≡ true
-refused_by a true interim is = refl
-refused_by a false true is = absurd (not_bad a is)
-refused_by a false false is = absurd (not_bad a is)
-
-pub is_refused_so : (a : Answer) → ((r : Received) (b : Body) (later : Found) → found_by r (answer_is a) b later ≡ found_bad) → is_refused a ≡ true
-is_refused_so a x = refused_by a (is_refused a) (is_interim a.status) (x received body (found a))
-
-over_by : (a : Answer) (refused interim : Bool) → choice refused interim found_bad (found a) ≡ found_bad → (not refused && not interim) ≡ false
-over_by a true interim is = refl
-over_by a false true is = refl
-over_by a false false is = absurd (not_bad a is)
-
-later_by : (a : Answer) (refused interim : Bool) → choice refused interim (found a) (found a) ≡ found a → refused ≡ false
-later_by a true interim is = absurd (not_bad a (sym is))
-later_by a false interim is = refl
-
-interim_by : (refused interim : Bool) → refused ≡ false → (not refused && not interim) ≡ false → interim ≡ true
-interim_by true interim is over = absurd (false≢true (sym is))
-interim_by false true is over = refl
-interim_by false false is over = absurd (false≢true (sym over))
-
-pub is_passed_over : (a : Answer) → ((r : Received) (b : Body) (later : Found) → found_by r (answer_is a) b later ≡ later)
-    → (is_refused a ≡ false) × (is_interim a.status ≡ true)
-is_passed_over a x =
-    let good = later_by a (is_refused a) (is_interim a.status) (x received body (found a)) in
-    (good, interim_by (is_refused a) (is_interim a.status) good (over_by a (is_refused a) (is_interim a.status) (x received body found_bad)))
-
--- nothing of an answer that is passed over is handed out
-over_out : (a : Answer) (refused interim : Bool) → refused ≡ false → interim ≡ true
-    → (if refused then refused_answer a ∷ [] else (if interim then [] else good_answer a ∷ [])) ≡ []
-over_out a true interim is over = absurd (false≢true (sym is))
-over_out a false true is over = refl
-over_out a false false is over = absurd (false≢true over)
-
-good_by : (a : Answer) (refused interim : Bool) → choice refused interim found_bad (found a) ≡ found a → (not refused && not interim) ≡ true
-good_by a true interim is = absurd (not_bad a (sym is))
-good_by a false true is = absurd (not_bad a (sym is))
-good_by a false false is = refl
-
-pub is_passed_on : (a : Answer) → ((r : Received) (b : Body) (later : Found) → found_by r (answer_is a) b later ≡ found_body r a b) → is_good a ≡ true
-is_passed_on a x = good_by a (is_refused a) (is_interim a.status) (x received body found_bad)
 
 -- ---- nothing waits for an answer
 
@@ -284,9 +230,7 @@ still_replies p = (
   nothing_put,
   λ sent s x is. goes_as p sent s s (marks_of sent) [] x refl is (hands_same s),
   puts_none p.client,
-  λ a b here there.
-      let x = same_sent p.sent a b here there in
-      (ap (λ (r : SentRequest). r.is_whole) (sym x), ap (λ (r : SentRequest). r.is_broken) (sym x)),
+  same_body p p refl,
   refl,
 )
 

@@ -260,8 +260,9 @@ HasCause not_forwardable old new =
 HasCause (broken_body fault) old new = (sent : SentRequest) × IsUnanswered sent old × AwaitsAnswer old.server × IsDropped new
 
 -- How far the body of the request that was sent on is, after a turn: at its end after that went on, broken after it broke, and else as far as
--- before.
+-- before; of one that is sent on now this says nothing.
 abbrev pub IsBodyBehind : TurnPuts → SentRequest → SentRequest → Type 0
+IsBodyBehind sent_on old new = ⊤
 IsBodyBehind body_whole old new = (new.is_whole ≡ true) × (new.is_broken ≡ old.is_broken)
 IsBodyBehind (broken_late fault) old new = (new.is_whole ≡ old.is_whole) × (new.is_broken ≡ true)
 IsBodyBehind puts old new = (new.is_whole ≡ old.is_whole) × (new.is_broken ≡ old.is_broken)
