@@ -11,6 +11,7 @@ pub mod Served
 pub mod Fresh
 pub mod Below
 pub mod Times
+pub mod BodyMarks
 pub mod AnswerUses
 pub mod Replies
 pub mod Carried

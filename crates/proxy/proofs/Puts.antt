@@ -20,7 +20,9 @@ use Rattle.model_client.specs.AnswerReading.{Answer, answer_is, IsAnswerReadingW
 use Rattle.model_client.specs.ClientEvent as asked
 use Rattle.model_client.specs.ClientKept.{ClientKept}
 use Rattle.model_client.specs.ClientStep.{IsClientStep}
-use Rattle.model_client.specs.ClientTrace.{Happened}
+use Rattle.model_client.specs.ClientTrace.{Happened, IsClientTrace}
+use Rattle.http_config.specs.Config.{Settings}
+use Rattle.proxy.specs.Sides.{ServerDid}
 use Rattle.model_client.proofs.Answered as reads
 use Rattle.model_h1.specs.Setting.{Setting}
 use Rattle.h1_client.specs.Answers as answers
@@ -172,6 +174,16 @@ hands_both some more a b c first second = λ trace stands.
 pub hands_then : (handed : List Handed) (a b c : servers.State) → HandsNone a b → Hands handed b c → Hands handed a c
 hands_then handed a b c first second = λ trace stands.
     let x = hands_both [] handed a b c first second trace stands in (x.0, x.1, x.2 ∙ append-nil handed)
+
+-- an event that was allowed and is done
+pub did_hands : (event : asked.ClientEvent) (a b : servers.State) (handed : List Handed) → ServerDid event a b → handed_by event asked.done ≡ handed → Hands handed a b
+unfolding handed_of
+did_hands event a b handed did is = λ trace stands.
+    let s : Happened = record { event = event; outcome = asked.done } in (
+      s ∷ [],
+      subst (λ (t : Settings). IsClientTrace (asking.setting_of t) (s ∷ trace) b.kept) (sym did.settings) (a.kept, stands, did.allowed, did.step),
+      append-nil (handed_by event asked.done) ∙ is,
+    )
 
 -- the answer that was told isn't to be passed on
 pub tells_none : (o : asked.ClientOutcome) (a b : servers.State) → handed_out o ≡ [] → Tells o a b → HandsNone a b

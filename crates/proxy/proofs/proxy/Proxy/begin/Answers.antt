@@ -5,7 +5,8 @@ use Rattle.std.proofs.Common.{arith, inl, inr, refl}
 use Rattle.proxy.proofs.Work.{works, over_less}
 use Rattle.proxy.proofs.Served.{with_server}
 use Rattle.proxy.specs.Replies.{nothing_put}
-use Rattle.proxy.proofs.Replies.{no_part_put, idle_cause, idle_body}
+use Rattle.proxy.proofs.BodyMarks.{idle_body}
+use Rattle.proxy.proofs.Replies.{no_part_put, idle_cause}
 use Rattle.proxy.proofs.Puts.{puts_none}
 use Rattle.proxy.proofs.Below.{below_none}
 use Rattle.proxy.proofs.proxy.Proxy.begin.Goals as goal

@@ -7,7 +7,8 @@ use Rattle.h1_encoder.specs.Meaning.{size_of}
 use Rattle.h1_client.specs.ClientMeaning.{request_of}
 use Rattle.proxy.proofs.Served.{with_server, noted_serves, sent_serves}
 use Rattle.proxy.specs.Replies.{sent_on}
-use Rattle.proxy.proofs.Replies.{no_part_put, unsent_cause, same_body, same_puts, noted_client}
+use Rattle.proxy.proofs.BodyMarks.{same_body}
+use Rattle.proxy.proofs.Replies.{no_part_put, unsent_cause, same_puts, noted_client}
 use Rattle.proxy.proofs.Puts.{puts_none}
 use Rattle.proxy.proofs.Fresh.{read_all, waits_as, cannot_used, cannot_none, cannot_refused, used_some, unused_closes}
 use Rattle.proxy.specs.Fresh.{is_server_used}

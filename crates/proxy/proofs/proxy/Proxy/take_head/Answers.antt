@@ -9,7 +9,8 @@ use Rattle.proxy.specs.Leaves.{LeavesNext}
 use Rattle.proxy.proofs.Served.{client_serves, head_opens, noted_serves}
 use Rattle.std.proofs.Common.{sym, [], refl, inl, ◌∙◌}
 use Rattle.proxy.specs.Replies.{nothing_put}
-use Rattle.proxy.proofs.Replies.{head_replies, head_keeps, no_part_put, idle_cause, idle_body, noted_unsent, noted_client, noted_sent, noted_server, closed_replies}
+use Rattle.proxy.proofs.BodyMarks.{idle_body}
+use Rattle.proxy.proofs.Replies.{head_replies, head_keeps, no_part_put, idle_cause, noted_unsent, noted_client, noted_sent, noted_server, closed_replies}
 use Rattle.proxy.specs.Puts.{Puts, HandsNext}
 use Rattle.proxy.proofs.Below.{below_same, below_as, keeps_below}
 use Rattle.proxy.proofs.proxy.Proxy.take_head.Goals as goal
