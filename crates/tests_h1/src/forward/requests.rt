@@ -21,6 +21,24 @@ fn read(alloc: Global, text: &[u8]) -> Result<HeadItem, Fail> {
     Ok(request_head(alloc, Bytes::copy_from_slice(alloc, text)?)?)
 }
 
+#[derive(Clone, Copy, PartialEq, Eq)]
+enum Use {
+    Refused,
+    SentOn,
+    NotSent,
+}
+
+fn use_of(alloc: Global, edge: &Edge, text: &[u8]) -> Result<Use, Fail> {
+    let item = read(alloc, text)?;
+    Ok(
+        match (is_refused(edge, &item), is_forwardable(edge, &item)) {
+            (true, _) => Use::Refused,
+            (false, true) => Use::SentOn,
+            (false, false) => Use::NotSent,
+        },
+    )
+}
+
 // What is sent on for this head at the first moment: nothing where it can't be.
 fn sent_on(alloc: Global, edge: &Edge, text: &[u8]) -> Result<BytesMut, Fail> {
     let item = read(alloc, text)?;
@@ -85,15 +103,20 @@ fn a_whole_uri_names_its_host(rt: HostRuntime) -> Result<(), Fail> {
 #[test]
 fn heads_are_judged(rt: HostRuntime) -> Result<(), Fail> {
     let edge = edge(rt.alloc(), false)?;
-    let none = read(rt.alloc(), b"GET / HTTP/1.1\r\n\r\n")?;
-    assert!(rt; is_refused(&edge, &none));
-    let old = read(rt.alloc(), b"GET / HTTP/1.0\r\n\r\n")?;
-    assert!(rt; !is_refused(&edge, &old) && is_forwardable(&edge, &old));
-    let user = read(rt.alloc(), b"GET http://u@a/ HTTP/1.1\r\nhost: a\r\n\r\n")?;
-    assert!(rt; is_refused(&edge, &user));
-    let star = read(rt.alloc(), b"OPTIONS * HTTP/1.1\r\nhost: a\r\n\r\n")?;
-    assert!(rt; !is_refused(&edge, &star) && is_forwardable(&edge, &star));
-    let other = read(rt.alloc(), b"GET ftp://a/ HTTP/1.1\r\nhost: a\r\n\r\n")?;
-    assert!(rt; !is_refused(&edge, &other) && !is_forwardable(&edge, &other));
+    let none = use_of(rt.alloc(), &edge, b"GET / HTTP/1.1\r\n\r\n")?;
+    let old = use_of(rt.alloc(), &edge, b"GET / HTTP/1.0\r\n\r\n")?;
+    let user = use_of(
+        rt.alloc(),
+        &edge,
+        b"GET http://u@a/ HTTP/1.1\r\nhost: a\r\n\r\n",
+    )?;
+    let star = use_of(rt.alloc(), &edge, b"OPTIONS * HTTP/1.1\r\nhost: a\r\n\r\n")?;
+    let other = use_of(
+        rt.alloc(),
+        &edge,
+        b"GET ftp://a/ HTTP/1.1\r\nhost: a\r\n\r\n",
+    )?;
+    assert!(rt; none == Use::Refused && user == Use::Refused);
+    assert!(rt; old == Use::SentOn && star == Use::SentOn && other == Use::NotSent);
     Ok(())
 }
