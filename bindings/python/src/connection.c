@@ -106,14 +106,14 @@ static int Connection_init(Connection *self, PyObject *args, PyObject *named) {
                             "request_ms", "disconnect_ms",             "write_buffer", "half_closed", NULL};
     PyObject *role_word, *now = Py_None;
     int half_closed = 1;
-    unsigned long long keep_alive = 5000, request = 5000, disconnect = 0;
-    Py_ssize_t write_buffer = 32768, most = 131072;
-    if (!PyArg_ParseTupleAndKeywords(args, named, "O|$nOKKKnp", known, &role_word, &most, &now, &keep_alive, &request, &disconnect, &write_buffer,
-                                     &half_closed))
+    uint64_t keep_alive = 5000, request = 5000, disconnect = 0, write_buffer = 32768;
+    Py_ssize_t most = 131072;
+    if (!PyArg_ParseTupleAndKeywords(args, named, "O|$nOO&O&O&O&p", known, &role_word, &most, &now, to_number, &keep_alive, to_number, &request,
+                                     to_number, &disconnect, to_number, &write_buffer, &half_closed))
         return -1;
     if (self->conn) return PyErr_SetString(PyExc_TypeError, "a connection begins once"), -1;
     if (find_role(self, role_word) < 0) return -1;
-    size_t hold_size = most < 8192 ? 8192 : (size_t)most;
+    size_t hold_size = most < 8192 ? 8192 : most > 1048576 ? 1048576 : (size_t)most;
     rc_config config = {keep_alive, request, disconnect, (size_t)write_buffer, hold_size, half_closed != 0, !is_server(self)};
     rc_code code = rc_new(&config, &self->conn);
     if (code != RC_OK) return failed(code), -1;
@@ -181,8 +181,8 @@ static PyObject *both_states(Connection *self, void *unused) {
 static PyObject *trailing_data(Connection *self, void *unused) {
     (void)unused;
     OPEN(self);
-    PyObject *all = all_held(self->conn, &self->event), *left = all ? rest_bytes(&self->left) : NULL;
-    if (left) PyBytes_ConcatAndDel(&all, left);
+    PyObject *all = all_held(self->conn, &self->event);
+    if (all) PyBytes_ConcatAndDel(&all, rest_bytes(&self->left));
     return all ? Py_BuildValue("(NN)", all, PyBool_FromLong(self->has_ended)) : NULL;
 }
 

@@ -104,11 +104,26 @@ static void set_version(Connection *self, uint32_t minor) {
     Py_XDECREF(old);
 }
 
-static PyObject *request(Connection *self) {
-    rc_event *head = &self->event;
+static PyObject *request_of(const rc_event *head) {
+    int did_run = stop_collector();
     PyObject *headers = with_fields(no_headers(), head);
     PyObject *event = event_of(REQUEST, name_of(head->method), headers, bytes_of(head->target), Py_NewRef(versions[head->minor != 0]));
-    if (!event) return NULL;
+    start_collector(did_run);
+    return event;
+}
+
+static PyObject *response_of(const rc_event *head) {
+    int did_run = stop_collector();
+    PyObject *headers = with_fields(no_headers(), head), *number = PyLong_FromUnsignedLong(head->reason);
+    PyObject *version = Py_NewRef(versions[head->minor != 0]), *reason = bytes_of(head->method);
+    PyObject *event = event_of(head->reason < 200 ? INFORMATIONAL : RESPONSE, number, headers, version, reason);
+    start_collector(did_run);
+    return event;
+}
+
+/* Until its event is made, no Python code may run: the head would be gone. */
+static PyObject *request(Connection *self) {
+    rc_event *head = &self->event;
     bool lasts, upgrades;
     read_lines(head, &lasts, &upgrades);
     set_version(self, head->minor);
@@ -118,29 +133,29 @@ static PyObject *request(Connection *self) {
     /* What follows may be another protocol's, unless the request is declined. */
     self->switches = head->body == RC_BODY_RAW || self->is_connect || upgrades;
     body_comes(self, head->body != RC_BODY_RAW ? head->body : RC_BODY_NONE, head->number);
+    PyObject *event = request_of(head);
     self->expects = self->has_body && rc_state(self->conn, head) == RC_OK && (head->state.can & RC_CAN_CONTINUE);
-    if (step(self, CLIENT, REQUEST, remote_error) < 0) Py_CLEAR(event);
+    if (event && step(self, CLIENT, REQUEST, remote_error) < 0) Py_CLEAR(event);
     return event;
 }
 
 static PyObject *response(Connection *self) {
     rc_event *head = &self->event;
-    uint32_t status = head->reason;
-    PyObject *headers = with_fields(no_headers(), head), *number = PyLong_FromUnsignedLong(status);
-    PyObject *version = Py_NewRef(versions[head->minor != 0]), *reason = bytes_of(head->method);
-    PyObject *event = event_of(status < 200 ? INFORMATIONAL : RESPONSE, number, headers, version, reason);
-    if (!event) return NULL;
+    uint32_t status = head->reason, body = head->body;
+    uint64_t length = head->number;
     bool lasts, upgrades;
     int done = 0;
     read_lines(head, &lasts, &upgrades);
     set_version(self, head->minor);
     self->expects = false;
+    PyObject *event = response_of(head);
+    if (!event) return NULL;
     if (status == 101 || (self->is_connect && status >= 200 && status < 300)) {
         done = switch_protocol(self, NULL);
     } else if (status >= 200) {
         self->switches = false;
         self->lasts = self->lasts && lasts;
-        body_comes(self, head->body, head->number);
+        body_comes(self, body, length);
         done = step(self, SERVER, RESPONSE, remote_error);
     }
     if (done < 0) Py_CLEAR(event);
@@ -178,9 +193,11 @@ static PyObject *broken_body(Connection *self) {
 }
 
 static PyObject *end_of_message(Connection *self, const rc_event *trailers) {
+    int did_run = stop_collector();
     PyObject *headers = no_headers();
     if (headers && trailers) headers = with_fields(headers, trailers);
     PyObject *event = event_of(END, headers, NULL, NULL, NULL);
+    start_collector(did_run);
     if (!event) return NULL;
     self->in_body = self->expects = false;
     if (step(self, self->theirs, END, remote_error) < 0) Py_CLEAR(event);
@@ -231,6 +248,7 @@ PyObject *Connection_next_event(Connection *self, PyObject *unused) {
         Py_DECREF(event);
         if (more < 0) break;
     }
-    if (PyErr_ExceptionMatches(remote_error)) fail_side(self, self->theirs);
+    /* Also where memory ran out: an event may be lost, and no one goes on behind a gap. */
+    fail_side(self, self->theirs);
     return NULL;
 }
