@@ -93,6 +93,8 @@ int tell_time(Connection *self) {
 
 /* ---- making one */
 
+enum { LEAST_HELD = 131072, MOST_HELD = 1048576 };
+
 static int find_role(Connection *self, PyObject *role_word) {
     if (role_word != roles[CLIENT] && role_word != roles[SERVER])
         return PyErr_Format(PyExc_ValueError, "expected CLIENT or SERVER, not %R", role_word), -1;
@@ -113,10 +115,11 @@ static int Connection_init(Connection *self, PyObject *args, PyObject *named) {
         return -1;
     if (self->conn) return PyErr_SetString(PyExc_TypeError, "a connection begins once"), -1;
     if (find_role(self, role_word) < 0) return -1;
-    size_t hold_size = most < 8192 ? 8192 : most > 1048576 ? 1048576 : (size_t)most;
+    size_t hold_size = most < LEAST_HELD ? LEAST_HELD : most > MOST_HELD ? MOST_HELD : (size_t)most;
     rc_config config = {keep_alive, request, disconnect, (size_t)write_buffer, hold_size, half_closed != 0, !is_server(self)};
     rc_code code = rc_new(&config, &self->conn);
     if (code != RC_OK) return failed(code), -1;
+    self->most = most < 0 ? 0 : (size_t)most;
     self->now = now == Py_None ? NULL : Py_NewRef(now);
     self->second = -1;
     self->lasts = true;
@@ -208,7 +211,7 @@ static PyMethodDef methods[] = {
     METHOD(Connection, send_with_data_passthrough, METH_O, ", event", "The same as a list, with the caller's own data in it."),
     METHOD(Connection, send_failed, METH_NOARGS, "", "What `send` gave couldn't be written."),
     METHOD(Connection, start_next_cycle, METH_NOARGS, "", "Both sides are done: another request may follow."),
-    METHOD(Connection, bytes_to_send, METH_NOARGS, "", "After RemoteProtocolError the engine's own answer, where none was sent in its place."),
+    METHOD(Connection, bytes_to_send, METH_NOARGS, "", "After RemoteProtocolError the engine's own answer, where it has one and none was sent in its place."),
     {NULL, NULL, 0, NULL},
 };
 

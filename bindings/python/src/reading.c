@@ -162,9 +162,22 @@ static PyObject *response(Connection *self) {
     return event;
 }
 
+/* Whether what came begins with a byte with which no head begins. Before a request empty lines may stand. */
+static bool begins_wrongly(Connection *self) {
+    if (rc_held(self->conn, 0, &self->event) != RC_OK || self->event.bytes.len == 0) return false;
+    uint8_t first = self->event.bytes.at[0];
+    return first < '!' && !(is_server(self) && (first == '\r' || first == '\n'));
+}
+
+static PyObject *refuse_head(Connection *self, const char *message, int status) {
+    self->is_refused = is_server(self);
+    return refuse(message, status);
+}
+
 static PyObject *next_head(Connection *self) {
     static const char cut[] = "the peer closed the connection where a head was to come";
     bool is_inside = self->has_ended && (!is_server(self) || has_more(self));
+    if (!is_server(self) && begins_wrongly(self)) return refuse_head(self, "the head is malformed", 400);
     rc_code code = rc_next(self->conn, &self->event);
     if (code == RC_MISPLACED) return Py_NewRef(paused);
     if (code != RC_OK) return failed(code);
@@ -172,11 +185,11 @@ static PyObject *next_head(Connection *self) {
     case RC_HEAD:
         return is_server(self) ? request(self) : response(self);
     case RC_PENDING:
+        if (begins_wrongly(self)) return refuse_head(self, "the head is malformed", 400);
         if (!self->has_ended || rest_len(&self->left)) return Py_NewRef(need_data);
         return is_inside ? refuse(cut, 400) : between(self);
     case RC_FAULT:
-        self->is_refused = true;
-        return self->event.reason == 2 ? refuse("the head is too large", 431) : refuse("the head is malformed", 400);
+        return self->event.reason == 2 ? refuse_head(self, "the head is too large", 431) : refuse_head(self, "the head is malformed", 400);
     default:
         return is_inside ? refuse(cut, 400) : closed(self);
     }
@@ -225,6 +238,14 @@ static PyObject *next_piece(Connection *self) {
 
 /* ---- the next event */
 
+/* More is to come, unless too much waits for it already. */
+static PyObject *pending(Connection *self) {
+    size_t held = rc_state(self->conn, &self->event) == RC_OK ? self->event.state.held : 0;
+    if (held + rest_len(&self->left) <= self->most) return Py_NewRef(need_data);
+    static const char many[] = "too many bytes wait for the rest of an event";
+    return self->in_body ? refuse(many, 431) : refuse_head(self, many, 431);
+}
+
 static PyObject *next_of(Connection *self) {
     state theirs = self->states[self->theirs];
     if (has_paused(self)) return Py_NewRef(paused);
@@ -243,10 +264,11 @@ PyObject *Connection_next_event(Connection *self, PyObject *unused) {
         PyObject *event = next_of(self);
         if (!event) break;
         if (event != need_data) return event;
-        int more = feed(self);
-        if (more == 0) return event;
         Py_DECREF(event);
-        if (more < 0) break;
+        int more = feed(self);
+        if (more == 0) event = pending(self);
+        if (more == 0 && event) return event;
+        if (more <= 0) break;
     }
     /* Also where memory ran out: an event may be lost, and no one goes on behind a gap. */
     fail_side(self, self->theirs);

@@ -218,6 +218,68 @@ class Sent(unittest.TestCase):
         self.assertEqual(conn.send(h11.EndOfMessage(headers=[*lines, (b"Transfer-Encoding", b"chunked")])), b"0\r\nX-A: b\r\n\r\n")
 
 
+    def test_a_body_keeps_its_frames_where_the_peer_fails(self):
+        # A client's, whose answer is none.
+        for answer in (b"HTTP/1.1 20\r\n\r\n", b"\r\n", b"\0"):
+            conn = h11.Connection(h11.CLIENT)
+            conn.send(h11.Request(method="POST", target="/", headers=[("Host", "a"), ("Transfer-Encoding", "chunked")]))
+            self.assertEqual(conn.send(h11.Data(data=b"abc")), b"3\r\nabc\r\n")
+            conn.receive_data(answer)
+            self.assertRaises(h11.RemoteProtocolError, conn.next_event)
+            try:
+                self.assertEqual(conn.send(h11.Data(data=b"abc")), b"3\r\nabc\r\n")
+            except h11.LocalProtocolError:
+                self.assertIs(conn.our_state, h11.ERROR)
+        # A server's, while the body that comes is none.
+        conn = events(b"POST / HTTP/1.1\r\nHost: a\r\nTransfer-Encoding: chunked\r\n\r\n")
+        conn.next_event()
+        conn.send(h11.Response(status_code=200))
+        conn.receive_data(b"x\r\n")
+        self.assertRaises(h11.RemoteProtocolError, conn.next_event)
+        try:
+            self.assertEqual(conn.send(h11.Data(data=b"abc")), b"3\r\nabc\r\n")
+        except h11.LocalProtocolError:
+            self.assertIs(conn.our_state, h11.ERROR)
+
+
+class Received(unittest.TestCase):
+    def test_what_begins_no_head_is_refused_at_once(self):
+        for text in (b" ", b"\0", b"\x16\x03\x01\0\xa5"):
+            conn = events(text)
+            self.assertRaises(h11.RemoteProtocolError, conn.next_event)
+            self.assertEqual((conn.their_state, conn.trailing_data, conn.bytes_to_send()), (h11.ERROR, (text, False), b""))
+            answer = conn.send(h11.Response(status_code=400, headers=[("content-length", "0")]))
+            self.assertEqual(answer, b"HTTP/1.1 400 \r\ncontent-length: 0\r\nConnection: close\r\n\r\n")
+            self.assertEqual((conn.send(h11.EndOfMessage()), conn.our_state), (b"", h11.MUST_CLOSE))
+        conn = events(b"\r\n")
+        self.assertIs(conn.next_event(), h11.NEED_DATA)
+        conn.receive_data(GET)
+        self.assertIs(type(conn.next_event()), h11.Request)
+        for text in (b"\r\n", b"\r\nHTTP/1.1 200 OK\r\n\r\n"):
+            conn = h11.Connection(h11.CLIENT)
+            conn.send(h11.Request(method="GET", target="/", headers=[("Host", "a")]))
+            conn.receive_data(text)
+            self.assertRaises(h11.RemoteProtocolError, conn.next_event)
+
+    def test_no_more_waits_than_may(self):
+        text = b"GET / HTTP/1.1\r\nHost: a\r\nBig: " + b"a" * 4000
+        conn = h11.Connection(h11.SERVER, max_incomplete_event_size=4000)
+        conn.receive_data(text)
+        with self.assertRaises(h11.RemoteProtocolError) as raised:
+            conn.next_event()
+        self.assertEqual(raised.exception.error_status_hint, 431)
+        conn = h11.Connection(h11.SERVER, max_incomplete_event_size=4000)
+        conn.receive_data(text + b"\r\n\r\n")
+        self.assertEqual(len(conn.next_event().headers), 2)
+        conn = h11.Connection(h11.SERVER, max_incomplete_event_size=2**21)
+        conn.receive_data(text + b"a" * 1_000_000 + b"\r\n\r\n")
+        self.assertEqual(len(conn.next_event().headers[1][1]), 1_004_000)
+        conn = h11.Connection(h11.SERVER)
+        conn.receive_data(text + b"a" * 200_000)
+        self.assertRaises(h11.RemoteProtocolError, conn.next_event)
+        self.assertTrue(conn.bytes_to_send().startswith(b"HTTP/1.1 431 "))
+
+
 @unittest.skipUnless(set_nomemory, "this Python has no _testcapi")
 class Memory(unittest.TestCase):
     """Each allocation fails in turn, the library's aside."""
