@@ -299,6 +299,8 @@ static bool wrong(rc_event *e) {
     WANT(e->target.len == 0 && e->kind == RC_DONE); /* nothing of the head is left in the event */
     WANT(rc_answer(c, 99, RC_KEEP_DEFAULT, 0, b, 0, e) == RC_INVALID && rc_answer(c, 1000, RC_KEEP_DEFAULT, 0, b, 0, e) == RC_INVALID);
     WANT(rc_state(c, e) == RC_OK && rc_answer(c, 1224, RC_KEEP_DEFAULT, 0, b, 0, e) == RC_INVALID && e->kind == RC_DONE);
+    WANT(rc_state(c, e) == RC_OK && rc_answer(c, 200, (rc_keep)4, 0, b, 0, e) == RC_INVALID && e->kind == RC_DONE);
+    WANT(rc_answer(c, 200, (rc_keep)0x4000, 0, b, 0, e) == RC_INVALID && rc_answer(c, 200, (rc_keep)-1, 0, b, 0, e) == RC_INVALID);
     WANT(rc_answer(c, 200, RC_KEEP_DEFAULT, 0, b, 7, e) == RC_INVALID); /* lengths are cut off */
     WANT(rc_answer(c, 200, RC_KEEP_DEFAULT, 0, b, 9, e) == RC_INVALID); /* bytes are cut off */
     DO(rc_answer(c, 204, RC_KEEP_DEFAULT, RC_SIZE_NONE, NULL, 0, e));
@@ -306,6 +308,29 @@ static bool wrong(rc_event *e) {
     DO(rc_read(c, "\0\1\2\r\n\r\n", 7, e));
     DO(rc_next(c, e));
     WANT(e->kind == RC_FAULT && e->reason == 1);
+    end(c);
+    return true;
+}
+
+/* A line whose length doesn't fit is packed as one that is refused: nothing of it is taken for a line. */
+static bool large(rc_event *e) {
+    rc_conn *c;
+    uint8_t b[64];
+    size_t large = (size_t)UINT32_MAX + 1;
+    DO(rc_new(&RC_SERVER_CONFIG, &c));
+    DO(rc_read(c, "GET / HTTP/1.1\r\n\r\n", 18, e));
+    DO(rc_next(c, e));
+    WANT(rc_packed(large, 1) == 8 && rc_packed(1, large) == 8 && rc_packed(3, 4) == 15);
+    WANT(rc_pack(b, "x", large, "a", 1) == b + 8);
+    WANT(rc_answer(c, 200, RC_KEEP_DEFAULT, 0, b, 8, e) == RC_INVALID);
+    WANT(rc_pack(b, "x", 1, "a", large) == b + 8);
+    WANT(rc_answer(c, 200, RC_KEEP_DEFAULT, 0, b, 8, e) == RC_INVALID);
+    end(c);
+    DO(rc_new(&RC_CLIENT_CONFIG, &c));
+    uint8_t *last = rc_pack(b, "GET", 3, "/", 1);
+    WANT(rc_ask(c, 2, RC_KEEP_DEFAULT, RC_SIZE_NONE, b, (size_t)(last - b), e) == RC_INVALID);
+    WANT(rc_ask(c, 1, (rc_keep)4, RC_SIZE_NONE, b, (size_t)(last - b), e) == RC_INVALID);
+    WANT(rc_pack(b, "x", large, "a", 1) == b + 8 && rc_ask(c, 1, RC_KEEP_DEFAULT, RC_SIZE_NONE, b, 8, e) == RC_INVALID);
     end(c);
     return true;
 }
@@ -333,7 +358,7 @@ static bool all(long *most) {
     *most = made;
     for (long refusal = 0; refusal <= *most; refusal++)
         if (!serves(&e, 100000, refusal) || !serves(&e, 7, refusal)) return false;
-    if (!opens() || !websocket(&e) || !client(&e) || !held(&e) || !wrong(&e)) return false;
+    if (!opens() || !websocket(&e) || !client(&e) || !held(&e) || !wrong(&e) || !large(&e)) return false;
     WANT(live == 0);
     return true;
 }
