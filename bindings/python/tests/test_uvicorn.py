@@ -101,6 +101,14 @@ class Uvicorn(unittest.TestCase):
         text = self.talk(b"GET /raises HTTP/1.1\r\nHost: a\r\n\r\n")
         self.assertTrue(text.startswith(b"HTTP/1.1 500 ") and text.endswith(b"Internal Server Error"), text)
 
+    def test_a_slow_client_is_closed(self):
+        with socket.create_connection(("127.0.0.1", self.port), timeout=20) as sock:
+            sock.sendall(b"GET / HTT")
+            text = b""
+            while part := sock.recv(65536):
+                text += part
+        self.assertTrue(text.startswith(b"HTTP/1.1 408 "), text)
+
     def test_a_half_closed_client_is_answered(self):
         with socket.create_connection(("127.0.0.1", self.port), timeout=20) as sock:
             sock.sendall(b"GET /last HTTP/1.1\r\nHost: a\r\n\r\n")
