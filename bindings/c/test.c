@@ -196,7 +196,12 @@ static bool websocket(rc_event *e) {
     DO(rc_read(c, "\x81\x85\x37\xfa\x21\x3d\x7f\x9f\x4d\x51\x58", 11, e)); /* RFC 6455, section 5.7 */
     DO(rc_frame(c, e));
     WANT(e->kind == RC_FRAME && e->minor == 1 && e->bytes.len == 5 && memcmp(e->bytes.at, "Hello", 5) == 0);
+    rc_span payload = e->bytes;
+    DO(rc_read(c, "\x89\x80zzzz", 6, e)); /* a Ping */
     DO(rc_send(c, 1, 0, "Hello", 5, e));
+    WANT(payload.len == 5 && memcmp(payload.at, "Hello", 5) == 0);
+    DO(rc_frame(c, e));
+    WANT(e->kind == RC_FRAME && e->minor == 9 && e->bytes.len == 0);
     t.len = 0;
     if (!written(c, e, &t)) return false;
     WANT(same(&t, "\x81\x05Hello"));
@@ -270,6 +275,50 @@ static bool held(rc_event *e) {
     }
     WANT(same(all, others));
     free(all);
+    end(c);
+    return true;
+}
+
+/* ---- how long spans stand */
+
+static bool holds(rc_span span, const char *words) { return span.len == strlen(words) && memcmp(span.at, words, span.len) == 0; }
+
+static bool read_all(rc_conn *c, rc_event *e, const void *data, size_t len) {
+    DO(rc_read(c, data, len, e));
+    WANT(e->number == len);
+    return true;
+}
+
+/* Those of a head, of a piece and of trailers, while all other calls come. */
+static bool stand(rc_event *e) {
+    static _Thread_local rc_event head, piece, lines;
+    static const char more[40000] = "GET /2 HTTP/1.1\r\nHost: b\r\n\r\n";
+    const char *request = "POST /p HTTP/1.1\r\nHost: a\r\nTransfer-Encoding: chunked\r\n\r\n5\r\nhello\r\n0\r\nX-Sum: 5\r\n\r\n";
+    rc_conn *c;
+    DO(rc_new(&RC_SERVER_CONFIG, &c));
+    if (!read_all(c, e, request, strlen(request))) return false;
+    DO(rc_next(c, &head));
+    DO(rc_pull(c, &piece));
+    WANT(rc_next(c, e) == RC_MISPLACED && rc_pull(c, &lines) == RC_OK);
+    if (!read_all(c, e, more, strlen(more)) || !answer(c, e, false)) return false;
+    DO(rc_tick(c, 1700000000000, e));
+    DO(rc_front(c, e));
+    DO(rc_advance(c, e->bytes.len, e));
+    DO(rc_state(c, e));
+    DO(rc_ahead(c, e));
+    if (!read_all(c, e, more, sizeof more)) return false;
+    WANT(holds(head.method, "POST") && holds(head.target, "/p") && head.count == 2 && holds(head.fields[0].value, "a"));
+    WANT(lines.kind == RC_TRAILERS && holds(lines.fields[0].name, "x-sum") && holds(lines.fields[0].value, "5"));
+    DO(rc_next(c, e));
+    WANT(e->kind == RC_HEAD && holds(e->target, "/2"));
+    end(c);
+    DO(rc_new(&RC_SERVER_CONFIG, &c));
+    request = "POST /p HTTP/1.1\r\nHost: a\r\nContent-Length: 100\r\n\r\nhello";
+    if (!read_all(c, e, request, strlen(request))) return false;
+    DO(rc_next(c, &head));
+    DO(rc_pull(c, &piece));
+    if (!read_all(c, e, more, 95) || !answer(c, e, false) || !read_all(c, e, more, sizeof more)) return false;
+    WANT(holds(piece.bytes, "hello") && holds(head.target, "/p"));
     end(c);
     return true;
 }
@@ -358,7 +407,7 @@ static bool all(long *most) {
     *most = made;
     for (long refusal = 0; refusal <= *most; refusal++)
         if (!serves(&e, 100000, refusal) || !serves(&e, 7, refusal)) return false;
-    if (!opens() || !websocket(&e) || !client(&e) || !held(&e) || !wrong(&e) || !large(&e)) return false;
+    if (!opens() || !websocket(&e) || !client(&e) || !held(&e) || !stand(&e) || !wrong(&e) || !large(&e)) return false;
     WANT(live == 0);
     return true;
 }
