@@ -123,6 +123,9 @@ class Uvicorn(unittest.TestCase):
             self.assertIn(b"s3pPLMBiTxaQ9kYGzzhZRbK+xOo=", text)
             sock.sendall(b"\x81\x85\x37\xfa\x21\x3d\x7f\x9f\x4d\x51\x58")
             self.assertEqual(sock.recv(65536), b"\x81\x08/w Hello")
+            # uvicorn's protocol goes on waiting where no Close comes.
+            sock.sendall(b"\x88\x80zzzz")
+            self.assertEqual(sock.recv(65536)[0], 0x88)
 
     def test_a_slow_client_is_closed(self):
         with socket.create_connection(("127.0.0.1", self.port), timeout=20) as sock:
