@@ -161,8 +161,8 @@ typedef struct {
     bool client;
 } rc_config;
 
-#define RC_SERVER_CONFIG ((rc_config){5000, 5000, 0, 32768, 131072, true, false})
-#define RC_CLIENT_CONFIG ((rc_config){5000, 5000, 0, 32768, 131072, true, true})
+static const rc_config RC_SERVER_CONFIG = {5000, 5000, 0, 32768, 131072, true, false};
+static const rc_config RC_CLIENT_CONFIG = {5000, 5000, 0, 32768, 131072, true, true};
 
 /* The size of a body that is sent: its length, or one of these. */
 #define RC_SIZE_STREAM UINT64_MAX     /* as many bytes as come: in chunks, or up to the connection's end */
@@ -248,11 +248,13 @@ static inline rc_code rc_held(rc_conn *c, size_t start, rc_event *e) { return rc
 /* ---- what is sent */
 
 /* Lines are handed in packed, so that no value can end its line: the lengths of the name and of the value, four bytes each
- * with the lowest first, then the name, then the value. */
-static inline size_t rc_packed(size_t name, size_t value) { return 8 + name + value; }
+ * with the lowest first, then the name, then the value. A line of 4 GiB or more is packed without its bytes, which is refused. */
+static inline bool rc_fits_(size_t name, size_t value) { return name <= UINT32_MAX && value <= UINT32_MAX; }
+static inline size_t rc_packed(size_t name, size_t value) { return rc_fits_(name, value) ? 8 + name + value : 8; }
 
 /* Packs a line at `to`, and answers where the next one goes. */
 static inline uint8_t *rc_pack(uint8_t *to, const void *name, size_t name_len, const void *value, size_t value_len) {
+    if (!rc_fits_(name_len, value_len)) name_len = value_len = 0;
     for (int i = 0; i < 4; i++) {
         to[i] = (uint8_t)(name_len >> (8 * i));
         to[4 + i] = (uint8_t)(value_len >> (8 * i));
@@ -262,16 +264,17 @@ static inline uint8_t *rc_pack(uint8_t *to, const void *name, size_t name_len, c
     return to + 8 + name_len + value_len;
 }
 
-/* Answers the open request. RC_INVALID: a status below 100 or above 999, a name or a value that none may be, or lines that
- * aren't packed. `content-length`, `transfer-encoding`, `connection` and `date` are written by the library. */
+/* Answers the open request. RC_INVALID: a status below 100 or above 999, a `keep` that is none, a name or a value that none may
+ * be, or lines that aren't packed. `content-length`, `transfer-encoding`, `connection` and `date` are written by the library. */
 static inline rc_code rc_answer(rc_conn *c, unsigned status, rc_keep keep, uint64_t size, const uint8_t *packed, size_t len, rc_event *e) {
-    if (status > 999) status = 1000; /* the library refuses it, and clears the event */
+    if (status > 999 || (unsigned)keep > RC_UPGRADE) status = 1000, keep = RC_KEEP_DEFAULT; /* the library refuses it, and clears the event */
     return rc_call_(c, 6 | (status | (uint32_t)keep << 10) << 8, size, packed, len, e);
 }
 
 /* A client asks a request of HTTP/1.`minor`. The first pair of `packed` is the method and the target, the others are lines.
- * RC_INVALID: a method, a target, a name or a value that none may be, or text that isn't packed. */
+ * RC_INVALID: a `minor` above 1, a `keep`, a method, a target, a name or a value that none may be, or text that isn't packed. */
 static inline rc_code rc_ask(rc_conn *c, unsigned minor, rc_keep keep, uint64_t size, const uint8_t *packed, size_t len, rc_event *e) {
+    if (minor > 1 || (unsigned)keep > RC_UPGRADE) keep = RC_KEEP_DEFAULT, len = 0; /* the library refuses a request without a method */
     return rc_call_(c, 6 | ((uint32_t)(minor == 0) | (uint32_t)keep << 10) << 8, size, packed, len, e);
 }
 

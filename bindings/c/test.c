@@ -196,7 +196,12 @@ static bool websocket(rc_event *e) {
     DO(rc_read(c, "\x81\x85\x37\xfa\x21\x3d\x7f\x9f\x4d\x51\x58", 11, e)); /* RFC 6455, section 5.7 */
     DO(rc_frame(c, e));
     WANT(e->kind == RC_FRAME && e->minor == 1 && e->bytes.len == 5 && memcmp(e->bytes.at, "Hello", 5) == 0);
+    rc_span payload = e->bytes;
+    DO(rc_read(c, "\x89\x80zzzz", 6, e)); /* a Ping */
     DO(rc_send(c, 1, 0, "Hello", 5, e));
+    WANT(payload.len == 5 && memcmp(payload.at, "Hello", 5) == 0);
+    DO(rc_frame(c, e));
+    WANT(e->kind == RC_FRAME && e->minor == 9 && e->bytes.len == 0);
     t.len = 0;
     if (!written(c, e, &t)) return false;
     WANT(same(&t, "\x81\x05Hello"));
@@ -274,6 +279,50 @@ static bool held(rc_event *e) {
     return true;
 }
 
+/* ---- how long spans stand */
+
+static bool holds(rc_span span, const char *words) { return span.len == strlen(words) && memcmp(span.at, words, span.len) == 0; }
+
+static bool read_all(rc_conn *c, rc_event *e, const void *data, size_t len) {
+    DO(rc_read(c, data, len, e));
+    WANT(e->number == len);
+    return true;
+}
+
+/* Those of a head, of a piece and of trailers, while all other calls come. */
+static bool stand(rc_event *e) {
+    static _Thread_local rc_event head, piece, lines;
+    static const char more[40000] = "GET /2 HTTP/1.1\r\nHost: b\r\n\r\n";
+    const char *request = "POST /p HTTP/1.1\r\nHost: a\r\nTransfer-Encoding: chunked\r\n\r\n5\r\nhello\r\n0\r\nX-Sum: 5\r\n\r\n";
+    rc_conn *c;
+    DO(rc_new(&RC_SERVER_CONFIG, &c));
+    if (!read_all(c, e, request, strlen(request))) return false;
+    DO(rc_next(c, &head));
+    DO(rc_pull(c, &piece));
+    WANT(rc_next(c, e) == RC_MISPLACED && rc_pull(c, &lines) == RC_OK);
+    if (!read_all(c, e, more, strlen(more)) || !answer(c, e, false)) return false;
+    DO(rc_tick(c, 1700000000000, e));
+    DO(rc_front(c, e));
+    DO(rc_advance(c, e->bytes.len, e));
+    DO(rc_state(c, e));
+    DO(rc_ahead(c, e));
+    if (!read_all(c, e, more, sizeof more)) return false;
+    WANT(holds(head.method, "POST") && holds(head.target, "/p") && head.count == 2 && holds(head.fields[0].value, "a"));
+    WANT(lines.kind == RC_TRAILERS && holds(lines.fields[0].name, "x-sum") && holds(lines.fields[0].value, "5"));
+    DO(rc_next(c, e));
+    WANT(e->kind == RC_HEAD && holds(e->target, "/2"));
+    end(c);
+    DO(rc_new(&RC_SERVER_CONFIG, &c));
+    request = "POST /p HTTP/1.1\r\nHost: a\r\nContent-Length: 100\r\n\r\nhello";
+    if (!read_all(c, e, request, strlen(request))) return false;
+    DO(rc_next(c, &head));
+    DO(rc_pull(c, &piece));
+    if (!read_all(c, e, more, 95) || !answer(c, e, false) || !read_all(c, e, more, sizeof more)) return false;
+    WANT(holds(piece.bytes, "hello") && holds(head.target, "/p"));
+    end(c);
+    return true;
+}
+
 /* ---- wrong calls */
 
 static bool wrong(rc_event *e) {
@@ -299,6 +348,8 @@ static bool wrong(rc_event *e) {
     WANT(e->target.len == 0 && e->kind == RC_DONE); /* nothing of the head is left in the event */
     WANT(rc_answer(c, 99, RC_KEEP_DEFAULT, 0, b, 0, e) == RC_INVALID && rc_answer(c, 1000, RC_KEEP_DEFAULT, 0, b, 0, e) == RC_INVALID);
     WANT(rc_state(c, e) == RC_OK && rc_answer(c, 1224, RC_KEEP_DEFAULT, 0, b, 0, e) == RC_INVALID && e->kind == RC_DONE);
+    WANT(rc_state(c, e) == RC_OK && rc_answer(c, 200, (rc_keep)4, 0, b, 0, e) == RC_INVALID && e->kind == RC_DONE);
+    WANT(rc_answer(c, 200, (rc_keep)0x4000, 0, b, 0, e) == RC_INVALID && rc_answer(c, 200, (rc_keep)-1, 0, b, 0, e) == RC_INVALID);
     WANT(rc_answer(c, 200, RC_KEEP_DEFAULT, 0, b, 7, e) == RC_INVALID); /* lengths are cut off */
     WANT(rc_answer(c, 200, RC_KEEP_DEFAULT, 0, b, 9, e) == RC_INVALID); /* bytes are cut off */
     DO(rc_answer(c, 204, RC_KEEP_DEFAULT, RC_SIZE_NONE, NULL, 0, e));
@@ -306,6 +357,29 @@ static bool wrong(rc_event *e) {
     DO(rc_read(c, "\0\1\2\r\n\r\n", 7, e));
     DO(rc_next(c, e));
     WANT(e->kind == RC_FAULT && e->reason == 1);
+    end(c);
+    return true;
+}
+
+/* A line whose length doesn't fit is packed as one that is refused: nothing of it is taken for a line. */
+static bool large(rc_event *e) {
+    rc_conn *c;
+    uint8_t b[64];
+    size_t large = (size_t)UINT32_MAX + 1;
+    DO(rc_new(&RC_SERVER_CONFIG, &c));
+    DO(rc_read(c, "GET / HTTP/1.1\r\n\r\n", 18, e));
+    DO(rc_next(c, e));
+    WANT(rc_packed(large, 1) == 8 && rc_packed(1, large) == 8 && rc_packed(3, 4) == 15);
+    WANT(rc_pack(b, "x", large, "a", 1) == b + 8);
+    WANT(rc_answer(c, 200, RC_KEEP_DEFAULT, 0, b, 8, e) == RC_INVALID);
+    WANT(rc_pack(b, "x", 1, "a", large) == b + 8);
+    WANT(rc_answer(c, 200, RC_KEEP_DEFAULT, 0, b, 8, e) == RC_INVALID);
+    end(c);
+    DO(rc_new(&RC_CLIENT_CONFIG, &c));
+    uint8_t *last = rc_pack(b, "GET", 3, "/", 1);
+    WANT(rc_ask(c, 2, RC_KEEP_DEFAULT, RC_SIZE_NONE, b, (size_t)(last - b), e) == RC_INVALID);
+    WANT(rc_ask(c, 1, (rc_keep)4, RC_SIZE_NONE, b, (size_t)(last - b), e) == RC_INVALID);
+    WANT(rc_pack(b, "x", large, "a", 1) == b + 8 && rc_ask(c, 1, RC_KEEP_DEFAULT, RC_SIZE_NONE, b, 8, e) == RC_INVALID);
     end(c);
     return true;
 }
@@ -333,7 +407,7 @@ static bool all(long *most) {
     *most = made;
     for (long refusal = 0; refusal <= *most; refusal++)
         if (!serves(&e, 100000, refusal) || !serves(&e, 7, refusal)) return false;
-    if (!opens() || !websocket(&e) || !client(&e) || !held(&e) || !wrong(&e)) return false;
+    if (!opens() || !websocket(&e) || !client(&e) || !held(&e) || !stand(&e) || !wrong(&e) || !large(&e)) return false;
     WANT(live == 0);
     return true;
 }

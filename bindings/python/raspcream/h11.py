@@ -10,10 +10,11 @@
 The engine reads all that comes, checks the lines that are sent, says how a body is framed and when the connection ends, and
 writes bodies. The extension writes heads and trailers, with the caller's reason, and its lines in their order and case.
 
-What differs from h11: lines of one name come together, with the name in lower case; 8 KiB at least are held of what comes, and
-128 KiB by itself; a piece of a body doesn't say where it stands in its chunk; a client can't send CONNECT; a server closes the
-connection where it declines a CONNECT without a length, or an upgrade that the `connection` line names; nothing is answered
-before a request came.
+What differs from h11: lines of one name come together, with the name in lower case; 128 KiB may wait for the rest of an event
+where no `max_incomplete_event_size` is given, and 1 MiB of a head at most; a piece of a body doesn't say where it stands in its
+chunk; no body's length is sent with a status of 100 to 199 or 204, for CONNECT, or behind a body; empty lines before a request
+are passed over; a client can't send CONNECT; a server closes the connection where it declines a CONNECT without a length, or an
+upgrade that the `connection` line names; nothing is answered before a request came.
 """
 from ._conn import Connection, ConnectionClosed, Data, EndOfMessage, Event, InformationalResponse, Request, Response
 from ._words import (

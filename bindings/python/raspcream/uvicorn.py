@@ -143,7 +143,8 @@ class Protocol(asyncio.Protocol):
         try:
             head = self.conn.next()
         except Misplaced:
-            return False
+            # A connection that closes is written out first.
+            return self.write()
         if head is None:
             return False
         if head[0] == Kind.HEAD:
@@ -221,9 +222,11 @@ class Protocol(asyncio.Protocol):
     # ---- what goes
 
     def write(self):
+        """Whether something waited."""
         data = self.conn.take()
         if data and not self.transport.is_closing():
             self.transport.write(data)
+        return bool(data)
 
     def done(self, exchange):
         """The answer is whole."""
@@ -340,6 +343,8 @@ class Exchange:
             if name not in _WRITTEN:
                 lines.append((name, value))
             elif name == b"content-length":
+                if not value.isdigit():
+                    raise ValueError(f"no content-length: {value!r}")
                 size = int(value)
             elif name == b"transfer-encoding":
                 is_stream = True

@@ -5,22 +5,33 @@ typedef struct {
     PyObject_HEAD
     rc_conn *conn;
     int is_client;
+    int has_lost; /* whether an event couldn't be told, for want of memory */
     rc_event event;
 } Conn;
+
+#define READY(SELF) \
+    do { \
+        OPEN(SELF); \
+        if ((SELF)->has_lost) return PyErr_SetString(PyExc_ValueError, "memory ran out, and what came next is lost"), NULL; \
+    } while (0)
+
+/* What an event is told as. Where there is no memory for that, the connection is over: no one may go on behind a gap. */
+static PyObject *told(Conn *self, PyObject *as) {
+    if (!as) self->has_lost = 1;
+    return as;
+}
 
 /* ---- making one */
 
 static int Conn_init(Conn *self, PyObject *args, PyObject *words) {
     static char *known[] = {"client", "keep_alive_ms", "request_ms", "disconnect_ms", "write_buffer", "hold_size", "half_closed", NULL};
     int client = 0, half_closed = 1;
-    unsigned long long keep_alive = 5000, request = 5000, disconnect = 0;
-    Py_ssize_t write_buffer = 32768, hold_size = 131072;
-    if (!PyArg_ParseTupleAndKeywords(args, words, "|$pKKKnnp", known, &client, &keep_alive, &request, &disconnect, &write_buffer, &hold_size,
-                                     &half_closed))
+    uint64_t keep_alive = 5000, request = 5000, disconnect = 0, write_buffer = 32768, hold_size = 131072;
+    if (!PyArg_ParseTupleAndKeywords(args, words, "|$pO&O&O&O&O&p", known, &client, to_number, &keep_alive, to_number, &request, to_number,
+                                     &disconnect, to_number, &write_buffer, to_number, &hold_size, &half_closed))
         return -1;
+    if (self->conn) return PyErr_SetString(PyExc_TypeError, "a connection begins once"), -1;
     rc_config config = {keep_alive, request, disconnect, (size_t)write_buffer, (size_t)hold_size, half_closed != 0, client != 0};
-    rc_free(self->conn);
-    self->conn = NULL;
     rc_code code = rc_new(&config, &self->conn);
     if (code != RC_OK) return failed(code), -1;
     self->is_client = client;
@@ -36,31 +47,27 @@ static void Conn_dealloc(Conn *self) {
 
 static PyObject *Conn_read(Conn *self, PyObject *data) {
     Py_buffer buffer;
-    OPEN(self);
+    READY(self);
     if (PyObject_GetBuffer(data, &buffer, PyBUF_SIMPLE) < 0) return NULL;
     rc_code code = rc_read(self->conn, buffer.buf, (size_t)buffer.len, &self->event);
+    uint64_t count = self->event.number;
     PyBuffer_Release(&buffer);
     TRY(code);
-    return PyLong_FromUnsignedLongLong(self->event.number);
+    return PyLong_FromUnsignedLongLong(count);
 }
 
 static PyObject *Conn_tick(Conn *self, PyObject *moment) {
-    OPEN(self);
-    unsigned long long ms = PyLong_AsUnsignedLongLong(moment);
-    if (PyErr_Occurred()) return NULL;
+    uint64_t ms;
+    READY(self);
+    if (!to_number(moment, &ms)) return NULL;
     TRY(rc_tick(self->conn, ms, &self->event));
     return Py_BuildValue("(II)", self->event.kind, self->event.reason);
 }
 
 /* ---- what is handed out */
 
-static PyObject *Conn_next(Conn *self, PyObject *unused) {
+static PyObject *tell_head(Conn *self) {
     rc_event *event = &self->event;
-    (void)unused;
-    OPEN(self);
-    TRY(rc_next(self->conn, event));
-    if (event->kind == RC_PENDING) Py_RETURN_NONE;
-    if (event->kind != RC_HEAD) return Py_BuildValue("(II)", event->kind, event->reason);
     PyObject *fields = with_fields(PyList_New(0), event), *first = NULL, *second = NULL, *head = NULL;
     if (fields) first = self->is_client ? PyLong_FromUnsignedLong(event->reason) : name_of(event->method);
     if (first) second = bytes_of(self->is_client ? event->method : event->target);
@@ -71,43 +78,75 @@ static PyObject *Conn_next(Conn *self, PyObject *unused) {
     return head;
 }
 
+static PyObject *Conn_next(Conn *self, PyObject *unused) {
+    rc_event *event = &self->event;
+    (void)unused;
+    READY(self);
+    TRY(rc_next(self->conn, event));
+    if (event->kind == RC_PENDING) Py_RETURN_NONE;
+    if (event->kind != RC_HEAD) return told(self, Py_BuildValue("(II)", event->kind, event->reason));
+    int did_run = stop_collector();
+    PyObject *head = tell_head(self);
+    start_collector(did_run);
+    return told(self, head);
+}
+
+static PyObject *tell_trailers(const rc_event *event) {
+    int did_run = stop_collector();
+    PyObject *lines = with_fields(PyList_New(0), event);
+    start_collector(did_run);
+    return lines;
+}
+
 static PyObject *Conn_pull(Conn *self, PyObject *unused) {
     rc_event *event = &self->event;
     (void)unused;
-    OPEN(self);
+    READY(self);
     TRY(rc_pull(self->conn, event));
     if (event->kind == RC_PENDING) Py_RETURN_NONE;
-    if (event->kind == RC_PIECE) return bytes_of(event->bytes);
-    if (event->kind == RC_TRAILERS) return with_fields(PyList_New(0), event);
-    return Py_BuildValue("(II)", event->kind, event->reason);
+    if (event->kind == RC_PIECE) return told(self, bytes_of(event->bytes));
+    if (event->kind == RC_TRAILERS) return told(self, tell_trailers(event));
+    return told(self, Py_BuildValue("(II)", event->kind, event->reason));
 }
 
 static PyObject *Conn_frame(Conn *self, PyObject *unused) {
     rc_event *event = &self->event;
     (void)unused;
-    OPEN(self);
+    READY(self);
     TRY(rc_frame(self->conn, event));
     if (event->kind == RC_PENDING) Py_RETURN_NONE;
-    if (event->kind != RC_FRAME) return Py_BuildValue("(II)", event->kind, event->reason);
-    return Py_BuildValue("(IKN)", event->minor, (unsigned long long)event->number, bytes_of(event->bytes));
+    if (event->kind != RC_FRAME) return told(self, Py_BuildValue("(II)", event->kind, event->reason));
+    return told(self, Py_BuildValue("(IKN)", event->minor, (unsigned long long)event->number, bytes_of(event->bytes)));
 }
 
 static PyObject *Conn_held(Conn *self, PyObject *unused) {
     (void)unused;
-    OPEN(self);
+    READY(self);
     return all_held(self->conn, &self->event);
 }
 
 /* ---- what is sent */
 
+/* For "O&": the size of a body, -1 for a stream and -2 for none, into a uint64_t. */
+static int to_size(PyObject *given, void *size) {
+    PyObject *index = PyNumber_Index(given);
+    if (!index) return 0;
+    int over = 0;
+    long long number = PyLong_AsLongLongAndOverflow(index, &over);
+    Py_DECREF(index);
+    if (over || number < -2) return failed(RC_INVALID), 0;
+    *(uint64_t *)size = (uint64_t)number;
+    return 1;
+}
+
 static PyObject *Conn_answer(Conn *self, PyObject *args) {
-    unsigned status, keep;
-    long long size;
+    uint64_t status, keep, size;
     PyObject *headers;
     packed p;
-    OPEN(self);
-    if (!PyArg_ParseTuple(args, "IILO", &status, &keep, &size, &headers) || pack(&p, NULL, headers, NULL) < 0) return NULL;
-    rc_code code = keep > RC_UPGRADE ? RC_INVALID : rc_answer(self->conn, status, (rc_keep)keep, (uint64_t)size, p.at, p.len, &self->event);
+    READY(self);
+    if (!PyArg_ParseTuple(args, "O&O&O&O", to_number, &status, to_number, &keep, to_size, &size, &headers)) return NULL;
+    if (pack(&p, NULL, headers, NULL) < 0) return NULL;
+    rc_code code = rc_answer(self->conn, at_most(status, 999), (rc_keep)at_most(keep, RC_UPGRADE), size, p.at, p.len, &self->event);
     let_go(&p);
     TRY(code);
     Py_RETURN_NONE;
@@ -115,17 +154,16 @@ static PyObject *Conn_answer(Conn *self, PyObject *args) {
 
 static PyObject *Conn_ask(Conn *self, PyObject *args) {
     PyObject *method, *target, *headers;
-    unsigned minor, keep;
-    long long size;
+    uint64_t minor, keep, size;
     packed p;
-    OPEN(self);
-    if (!PyArg_ParseTuple(args, "SSIILO", &method, &target, &minor, &keep, &size, &headers)) return NULL;
+    READY(self);
+    if (!PyArg_ParseTuple(args, "SSO&O&O&O", &method, &target, to_number, &minor, to_number, &keep, to_size, &size, &headers)) return NULL;
     PyObject *first = PyTuple_Pack(2, method, target);
     if (!first) return NULL;
     int done = pack(&p, first, headers, NULL);
     Py_DECREF(first);
     if (done < 0) return NULL;
-    rc_code code = keep > RC_UPGRADE ? RC_INVALID : rc_ask(self->conn, minor, (rc_keep)keep, (uint64_t)size, p.at, p.len, &self->event);
+    rc_code code = rc_ask(self->conn, at_most(minor, 1), (rc_keep)at_most(keep, RC_UPGRADE), size, p.at, p.len, &self->event);
     let_go(&p);
     TRY(code);
     Py_RETURN_NONE;
@@ -133,7 +171,7 @@ static PyObject *Conn_ask(Conn *self, PyObject *args) {
 
 static PyObject *Conn_chunk(Conn *self, PyObject *data) {
     Py_buffer buffer;
-    OPEN(self);
+    READY(self);
     if (PyObject_GetBuffer(data, &buffer, PyBUF_SIMPLE) < 0) return NULL;
     rc_code code = rc_chunk(self->conn, buffer.buf, (size_t)buffer.len, &self->event);
     PyBuffer_Release(&buffer);
@@ -143,14 +181,14 @@ static PyObject *Conn_chunk(Conn *self, PyObject *data) {
 
 static PyObject *Conn_take(Conn *self, PyObject *unused) {
     (void)unused;
-    OPEN(self);
+    READY(self);
     return all_waiting(self->conn, &self->event);
 }
 
 #define SIMPLE(NAME, CALL) \
     static PyObject *Conn_##NAME(Conn *self, PyObject *unused) { \
         (void)unused; \
-        OPEN(self); \
+        READY(self); \
         TRY(CALL(self->conn, &self->event)); \
         Py_RETURN_NONE; \
     }
@@ -164,29 +202,30 @@ SIMPLE(drain, rc_drain)
 /* ---- WebSocket */
 
 static PyObject *Conn_accept(Conn *self, PyObject *most) {
-    OPEN(self);
-    size_t limit = PyLong_AsSize_t(most);
-    if (PyErr_Occurred()) return NULL;
+    uint64_t limit;
+    READY(self);
+    if (!to_number(most, &limit)) return NULL;
     TRY(rc_accept(self->conn, limit, &self->event));
     return PyLong_FromUnsignedLong(self->event.kind == RC_REFUSED ? self->event.reason : 0);
 }
 
 static PyObject *Conn_send(Conn *self, PyObject *args) {
-    unsigned opcode, close_code;
+    uint64_t opcode, close_code;
     Py_buffer buffer;
-    OPEN(self);
-    if (!PyArg_ParseTuple(args, "IIy*", &opcode, &close_code, &buffer)) return NULL;
-    rc_code code = opcode > 255 ? RC_INVALID : rc_send(self->conn, opcode, close_code, buffer.buf, (size_t)buffer.len, &self->event);
+    READY(self);
+    if (!PyArg_ParseTuple(args, "O&O&y*", to_number, &opcode, to_number, &close_code, &buffer)) return NULL;
+    rc_code code = rc_send(self->conn, at_most(opcode, 255), at_most(close_code, 65535), buffer.buf, (size_t)buffer.len, &self->event);
+    uint32_t rule = self->event.kind == RC_PROTOCOL ? self->event.reason : 0;
     PyBuffer_Release(&buffer);
     TRY(code);
-    return PyLong_FromUnsignedLong(self->event.kind == RC_PROTOCOL ? self->event.reason : 0);
+    return PyLong_FromUnsignedLong(rule);
 }
 
 /* ---- questions */
 
 static PyObject *Conn_state(Conn *self, PyObject *unused) {
     (void)unused;
-    OPEN(self);
+    READY(self);
     TRY(rc_state(self->conn, &self->event));
     const rc_numbers *n = &self->event.state;
     long long deadline = n->deadline == UINT64_MAX ? -1 : (long long)n->deadline;
@@ -196,7 +235,7 @@ static PyObject *Conn_state(Conn *self, PyObject *unused) {
 
 static PyObject *Conn_ahead(Conn *self, PyObject *unused) {
     (void)unused;
-    OPEN(self);
+    READY(self);
     TRY(rc_ahead(self->conn, &self->event));
     return PyLong_FromUnsignedLongLong(self->event.number);
 }

@@ -93,6 +93,8 @@ int tell_time(Connection *self) {
 
 /* ---- making one */
 
+enum { LEAST_HELD = 131072, MOST_HELD = 1048576 };
+
 static int find_role(Connection *self, PyObject *role_word) {
     if (role_word != roles[CLIENT] && role_word != roles[SERVER])
         return PyErr_Format(PyExc_ValueError, "expected CLIENT or SERVER, not %R", role_word), -1;
@@ -106,17 +108,18 @@ static int Connection_init(Connection *self, PyObject *args, PyObject *named) {
                             "request_ms", "disconnect_ms",             "write_buffer", "half_closed", NULL};
     PyObject *role_word, *now = Py_None;
     int half_closed = 1;
-    unsigned long long keep_alive = 5000, request = 5000, disconnect = 0;
-    Py_ssize_t write_buffer = 32768, most = 131072;
-    if (!PyArg_ParseTupleAndKeywords(args, named, "O|$nOKKKnp", known, &role_word, &most, &now, &keep_alive, &request, &disconnect, &write_buffer,
-                                     &half_closed))
+    uint64_t keep_alive = 5000, request = 5000, disconnect = 0, write_buffer = 32768;
+    Py_ssize_t most = 131072;
+    if (!PyArg_ParseTupleAndKeywords(args, named, "O|$nOO&O&O&O&p", known, &role_word, &most, &now, to_number, &keep_alive, to_number, &request,
+                                     to_number, &disconnect, to_number, &write_buffer, &half_closed))
         return -1;
     if (self->conn) return PyErr_SetString(PyExc_TypeError, "a connection begins once"), -1;
     if (find_role(self, role_word) < 0) return -1;
-    size_t hold_size = most < 8192 ? 8192 : (size_t)most;
+    size_t hold_size = most < LEAST_HELD ? LEAST_HELD : most > MOST_HELD ? MOST_HELD : (size_t)most;
     rc_config config = {keep_alive, request, disconnect, (size_t)write_buffer, hold_size, half_closed != 0, !is_server(self)};
     rc_code code = rc_new(&config, &self->conn);
     if (code != RC_OK) return failed(code), -1;
+    self->most = most < 0 ? 0 : (size_t)most;
     self->now = now == Py_None ? NULL : Py_NewRef(now);
     self->second = -1;
     self->lasts = true;
@@ -181,8 +184,8 @@ static PyObject *both_states(Connection *self, void *unused) {
 static PyObject *trailing_data(Connection *self, void *unused) {
     (void)unused;
     OPEN(self);
-    PyObject *all = all_held(self->conn, &self->event), *left = all ? rest_bytes(&self->left) : NULL;
-    if (left) PyBytes_ConcatAndDel(&all, left);
+    PyObject *all = all_held(self->conn, &self->event);
+    if (all) PyBytes_ConcatAndDel(&all, rest_bytes(&self->left));
     return all ? Py_BuildValue("(NN)", all, PyBool_FromLong(self->has_ended)) : NULL;
 }
 
@@ -208,7 +211,7 @@ static PyMethodDef methods[] = {
     METHOD(Connection, send_with_data_passthrough, METH_O, ", event", "The same as a list, with the caller's own data in it."),
     METHOD(Connection, send_failed, METH_NOARGS, "", "What `send` gave couldn't be written."),
     METHOD(Connection, start_next_cycle, METH_NOARGS, "", "Both sides are done: another request may follow."),
-    METHOD(Connection, bytes_to_send, METH_NOARGS, "", "After RemoteProtocolError the engine's own answer, where none was sent in its place."),
+    METHOD(Connection, bytes_to_send, METH_NOARGS, "", "After RemoteProtocolError the engine's own answer, where it has one and none was sent in its place."),
     {NULL, NULL, 0, NULL},
 };
 

@@ -13,13 +13,14 @@ typedef struct {
 
     /* What there was no room for; whether the input has ended behind it, and whether the engine knows. */
     rest left;
+    size_t most; /* as many bytes may wait for the rest of an event */
     bool has_ended, told_end;
 
     role ours, theirs;
     state states[2];
     PyObject *version; /* what the peer speaks, NULL before its first head */
     bool lasts;        /* whether the connection may outlive this exchange */
-    bool is_refused;   /* whether a head was refused */
+    bool is_refused;   /* of a server: whether a head was refused, to which the caller's answer is no one's step */
 
     /* Of this exchange: what its request asks for, and whether another protocol may follow it. */
     bool is_connect, is_head, expects, switches;

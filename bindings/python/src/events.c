@@ -13,7 +13,7 @@ typedef struct {
 
 PyObject *roles[2], *states[STATES], *need_data, *paused, *local_error, *remote_error, *versions[2];
 
-static PyTypeObject *types[EVENTS];
+static PyTypeObject *base_type, *types[EVENTS];
 static PyObject *no_bytes, *no_lines;
 
 static const char *const value_names[EVENTS][VALUES] = {
@@ -94,15 +94,21 @@ static int lacks(event_kind kind, PyObject *const *values, int place) {
 
 static bool is_1_1(PyObject *version) { return PyBytes_Size(version) == 3 && !memcmp(PyBytes_AsString(version), "1.1", 3); }
 
-static int check_request(PyObject *self) {
-    PyObject *method = value_of(self, METHOD_AT), *headers = value_of(self, 1), *target = value_of(self, TARGET_AT);
+/* Drops the values of an event that is refused: none that isn't well formed may stand in one. */
+static int drop(PyObject *const *values) {
+    for (int i = 0; i < VALUES; i++) Py_XDECREF(values[i]);
+    return -1;
+}
+
+static int check_request(PyObject *const *values) {
+    PyObject *method = values[METHOD_AT], *headers = values[1], *target = values[TARGET_AT];
     int hosts = 0;
     for (Py_ssize_t i = 0; i < PyList_Size(headers); i++) {
         PyObject *pair = PyList_GetItem(headers, i), *name = is_pair(pair) ? PyTuple_GetItem(pair, 0) : NULL;
         if (name) hosts += kind_of_line(PyBytes_AsString(name), (size_t)PyBytes_Size(name)) == HOST;
     }
     if (hosts > 1) return broken(local_error, "Found multiple Host: headers", 400), -1;
-    if (hosts == 0 && is_1_1(value_of(self, REQUEST_VERSION_AT))) return broken(local_error, "Missing mandatory Host: header", 400), -1;
+    if (hosts == 0 && is_1_1(values[REQUEST_VERSION_AT])) return broken(local_error, "Missing mandatory Host: header", 400), -1;
     if (!is_token(PyBytes_AsString(method), (size_t)PyBytes_Size(method))) return broken(local_error, "Illegal method characters", 400), -1;
     if (!is_target(PyBytes_AsString(target), (size_t)PyBytes_Size(target))) return broken(local_error, "Illegal target characters", 400), -1;
     return 0;
@@ -115,12 +121,12 @@ static int Request_init(PyObject *self, PyObject *args, PyObject *named) {
     if (values[0]) values[2] = bytes_from(given[2]);
     if (values[2]) values[3] = given[3] ? bytes_from(given[3]) : Py_NewRef(versions[1]);
     if (values[3]) values[1] = headers_of(given[1] ? given[1] : no_lines);
-    return fill(self, REQUEST, values) < 0 ? -1 : check_request(self);
+    return values[1] && check_request(values) < 0 ? drop(values) : fill(self, REQUEST, values);
 }
 
-static int check_answer(PyObject *self, event_kind kind) {
+static int check_answer(PyObject *const *values, event_kind kind) {
     static const long least[] = {[INFORMATIONAL] = 100, [RESPONSE] = 200}, most[] = {[INFORMATIONAL] = 199, [RESPONSE] = 999};
-    PyObject *reason = value_of(self, REASON_AT), *status = value_of(self, STATUS_AT);
+    PyObject *reason = values[REASON_AT], *status = values[STATUS_AT];
     int over = 0;
     long number = PyLong_AsLongAndOverflow(status, &over);
     if (over || number < least[kind] || number > most[kind])
@@ -139,16 +145,24 @@ static int init_answer(PyObject *self, event_kind kind, PyObject *args, PyObject
     if (values[0]) values[2] = given[2] ? bytes_from(given[2]) : Py_NewRef(versions[1]);
     if (values[2]) values[3] = given[3] ? bytes_from(given[3]) : Py_NewRef(no_bytes);
     if (values[3]) values[1] = headers_of(given[1] ? given[1] : no_lines);
-    return fill(self, kind, values) < 0 ? -1 : check_answer(self, kind);
+    return values[1] && check_answer(values, kind) < 0 ? drop(values) : fill(self, kind, values);
 }
 
 static int InformationalResponse_init(PyObject *self, PyObject *args, PyObject *named) { return init_answer(self, INFORMATIONAL, args, named); }
 static int Response_init(PyObject *self, PyObject *args, PyObject *named) { return init_answer(self, RESPONSE, args, named); }
 
+static PyObject *truth_of(PyObject *given) {
+    int truth = given ? PyObject_IsTrue(given) : 0;
+    return truth < 0 ? NULL : PyBool_FromLong(truth);
+}
+
 static int Data_init(PyObject *self, PyObject *args, PyObject *named) {
     PyObject *given[VALUES];
     if (arguments(DATA, args, named, given) < 0 || lacks(DATA, given, DATA_AT)) return -1;
-    PyObject *values[VALUES] = {Py_NewRef(given[0]), Py_NewRef(given[1] ? given[1] : Py_False), Py_NewRef(given[2] ? given[2] : Py_False), NULL};
+    /* Events don't nest, so the end of one never ends a long row of others. */
+    if (PyObject_TypeCheck(given[DATA_AT], base_type)) return PyErr_SetString(PyExc_TypeError, "an event is no data"), -1;
+    PyObject *values[VALUES] = {Py_NewRef(given[0]), truth_of(given[1]), NULL, NULL};
+    if (values[1]) values[2] = truth_of(given[2]);
     return fill(self, DATA, values);
 }
 
@@ -212,7 +226,8 @@ static void Event_dealloc(PyObject *self) {
 
 /* ---- the types */
 
-enum { FLAGS = Py_TPFLAGS_DEFAULT | Py_TPFLAGS_BASETYPE | Py_TPFLAGS_HAVE_GC };
+/* An immutable type is no other's: no object takes its place by `__class__`, with values that it doesn't have. */
+enum { FLAGS = Py_TPFLAGS_DEFAULT | Py_TPFLAGS_BASETYPE | Py_TPFLAGS_HAVE_GC | Py_TPFLAGS_IMMUTABLETYPE };
 
 static PyType_Slot base_slots[] = {
     {Py_tp_doc, "What the two sides tell each other."},
@@ -312,12 +327,11 @@ static int find_words(void) {
 int add_events(PyObject *module) {
     the_words = PyImport_ImportModule("raspcream._words");
     if (!the_words || find_words() < 0) return -1;
-    PyObject *base = PyType_FromSpec(&base_spec);
-    if (!base || PyModule_AddObjectRef(module, "Event", base) < 0) return -1;
+    base_type = (PyTypeObject *)PyType_FromSpec(&base_spec);
+    if (!base_type || PyModule_AddObjectRef(module, "Event", (PyObject *)base_type) < 0) return -1;
     for (event_kind kind = 0; kind < EVENTS; kind++) {
-        types[kind] = type_of(kind, base);
+        types[kind] = type_of(kind, (PyObject *)base_type);
         if (!types[kind] || PyModule_AddObjectRef(module, event_names[kind], (PyObject *)types[kind]) < 0) return -1;
     }
-    Py_DECREF(base);
     return 0;
 }

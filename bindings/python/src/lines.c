@@ -85,7 +85,10 @@ uint64_t length_said(const char *text, size_t len) {
 PyObject *no_headers(void) { return PyType_GenericAlloc((PyTypeObject *)headers_type, 0); }
 
 PyObject *raw_of(PyObject *headers) {
-    return Py_IS_TYPE(headers, (PyTypeObject *)written_type) ? PyObject_GetAttr(headers, raw_name) : Py_NewRef(headers);
+    PyObject *raw = Py_IS_TYPE(headers, (PyTypeObject *)written_type) ? PyObject_GetAttr(headers, raw_name) : Py_NewRef(headers);
+    if (!raw || PyList_Check(raw)) return raw;
+    Py_DECREF(raw);
+    return PyErr_SetString(PyExc_TypeError, "headers are a list"), NULL;
 }
 
 PyObject *bytes_from(PyObject *text) {
@@ -108,9 +111,10 @@ static PyObject *lowered(PyObject *text) {
     size_t len = (size_t)PyBytes_Size(text), i = 0;
     while (i < len && lower(at[i]) == at[i]) i++;
     if (i == len) return Py_NewRef(text);
-    PyObject *low = PyBytes_FromStringAndSize(at, (Py_ssize_t)len);
+    /* Without bytes, so that it is an object of its own: one of a single byte would be the interpreter's. */
+    PyObject *low = PyBytes_FromStringAndSize(NULL, (Py_ssize_t)len);
     char *to = low ? PyBytes_AsString(low) : NULL;
-    for (; to && i < len; i++) to[i] = lower(to[i]);
+    for (i = 0; to && i < len; i++) to[i] = lower(at[i]);
     return low;
 }
 
@@ -139,7 +143,7 @@ static int frame(making *m, line_kind kind, PyObject **value) {
         if (!length) return -1;
         replace(value, length);
         if (!m->length) {
-            m->length = length;
+            m->length = Py_NewRef(length);
             return 0;
         }
         int same = PyObject_RichCompareBool(m->length, length, Py_EQ);
@@ -217,6 +221,7 @@ PyObject *headers_of(PyObject *given) {
     Py_XDECREF(each);
     Py_XDECREF(m.raw);
     Py_XDECREF(m.lines);
+    Py_XDECREF(m.length);
     return all;
 }
 

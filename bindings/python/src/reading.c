@@ -104,11 +104,26 @@ static void set_version(Connection *self, uint32_t minor) {
     Py_XDECREF(old);
 }
 
-static PyObject *request(Connection *self) {
-    rc_event *head = &self->event;
+static PyObject *request_of(const rc_event *head) {
+    int did_run = stop_collector();
     PyObject *headers = with_fields(no_headers(), head);
     PyObject *event = event_of(REQUEST, name_of(head->method), headers, bytes_of(head->target), Py_NewRef(versions[head->minor != 0]));
-    if (!event) return NULL;
+    start_collector(did_run);
+    return event;
+}
+
+static PyObject *response_of(const rc_event *head) {
+    int did_run = stop_collector();
+    PyObject *headers = with_fields(no_headers(), head), *number = PyLong_FromUnsignedLong(head->reason);
+    PyObject *version = Py_NewRef(versions[head->minor != 0]), *reason = bytes_of(head->method);
+    PyObject *event = event_of(head->reason < 200 ? INFORMATIONAL : RESPONSE, number, headers, version, reason);
+    start_collector(did_run);
+    return event;
+}
+
+/* Until its event is made, no Python code may run: the head would be gone. */
+static PyObject *request(Connection *self) {
+    rc_event *head = &self->event;
     bool lasts, upgrades;
     read_lines(head, &lasts, &upgrades);
     set_version(self, head->minor);
@@ -118,38 +133,51 @@ static PyObject *request(Connection *self) {
     /* What follows may be another protocol's, unless the request is declined. */
     self->switches = head->body == RC_BODY_RAW || self->is_connect || upgrades;
     body_comes(self, head->body != RC_BODY_RAW ? head->body : RC_BODY_NONE, head->number);
+    PyObject *event = request_of(head);
     self->expects = self->has_body && rc_state(self->conn, head) == RC_OK && (head->state.can & RC_CAN_CONTINUE);
-    if (step(self, CLIENT, REQUEST, remote_error) < 0) Py_CLEAR(event);
+    if (event && step(self, CLIENT, REQUEST, remote_error) < 0) Py_CLEAR(event);
     return event;
 }
 
 static PyObject *response(Connection *self) {
     rc_event *head = &self->event;
-    uint32_t status = head->reason;
-    PyObject *headers = with_fields(no_headers(), head), *number = PyLong_FromUnsignedLong(status);
-    PyObject *version = Py_NewRef(versions[head->minor != 0]), *reason = bytes_of(head->method);
-    PyObject *event = event_of(status < 200 ? INFORMATIONAL : RESPONSE, number, headers, version, reason);
-    if (!event) return NULL;
+    uint32_t status = head->reason, body = head->body;
+    uint64_t length = head->number;
     bool lasts, upgrades;
     int done = 0;
     read_lines(head, &lasts, &upgrades);
     set_version(self, head->minor);
     self->expects = false;
+    PyObject *event = response_of(head);
+    if (!event) return NULL;
     if (status == 101 || (self->is_connect && status >= 200 && status < 300)) {
         done = switch_protocol(self, NULL);
     } else if (status >= 200) {
         self->switches = false;
         self->lasts = self->lasts && lasts;
-        body_comes(self, head->body, head->number);
+        body_comes(self, body, length);
         done = step(self, SERVER, RESPONSE, remote_error);
     }
     if (done < 0) Py_CLEAR(event);
     return event;
 }
 
+/* Whether what came begins with a byte with which no head begins. Before a request empty lines may stand. */
+static bool begins_wrongly(Connection *self) {
+    if (rc_held(self->conn, 0, &self->event) != RC_OK || self->event.bytes.len == 0) return false;
+    uint8_t first = self->event.bytes.at[0];
+    return first < '!' && !(is_server(self) && (first == '\r' || first == '\n'));
+}
+
+static PyObject *refuse_head(Connection *self, const char *message, int status) {
+    self->is_refused = is_server(self);
+    return refuse(message, status);
+}
+
 static PyObject *next_head(Connection *self) {
     static const char cut[] = "the peer closed the connection where a head was to come";
     bool is_inside = self->has_ended && (!is_server(self) || has_more(self));
+    if (!is_server(self) && begins_wrongly(self)) return refuse_head(self, "the head is malformed", 400);
     rc_code code = rc_next(self->conn, &self->event);
     if (code == RC_MISPLACED) return Py_NewRef(paused);
     if (code != RC_OK) return failed(code);
@@ -157,11 +185,11 @@ static PyObject *next_head(Connection *self) {
     case RC_HEAD:
         return is_server(self) ? request(self) : response(self);
     case RC_PENDING:
+        if (begins_wrongly(self)) return refuse_head(self, "the head is malformed", 400);
         if (!self->has_ended || rest_len(&self->left)) return Py_NewRef(need_data);
         return is_inside ? refuse(cut, 400) : between(self);
     case RC_FAULT:
-        self->is_refused = true;
-        return self->event.reason == 2 ? refuse("the head is too large", 431) : refuse("the head is malformed", 400);
+        return self->event.reason == 2 ? refuse_head(self, "the head is too large", 431) : refuse_head(self, "the head is malformed", 400);
     default:
         return is_inside ? refuse(cut, 400) : closed(self);
     }
@@ -178,9 +206,11 @@ static PyObject *broken_body(Connection *self) {
 }
 
 static PyObject *end_of_message(Connection *self, const rc_event *trailers) {
+    int did_run = stop_collector();
     PyObject *headers = no_headers();
     if (headers && trailers) headers = with_fields(headers, trailers);
     PyObject *event = event_of(END, headers, NULL, NULL, NULL);
+    start_collector(did_run);
     if (!event) return NULL;
     self->in_body = self->expects = false;
     if (step(self, self->theirs, END, remote_error) < 0) Py_CLEAR(event);
@@ -208,6 +238,14 @@ static PyObject *next_piece(Connection *self) {
 
 /* ---- the next event */
 
+/* More is to come, unless too much waits for it already. */
+static PyObject *pending(Connection *self) {
+    size_t held = rc_state(self->conn, &self->event) == RC_OK ? self->event.state.held : 0;
+    if (held + rest_len(&self->left) <= self->most) return Py_NewRef(need_data);
+    static const char many[] = "too many bytes wait for the rest of an event";
+    return self->in_body ? refuse(many, 431) : refuse_head(self, many, 431);
+}
+
 static PyObject *next_of(Connection *self) {
     state theirs = self->states[self->theirs];
     if (has_paused(self)) return Py_NewRef(paused);
@@ -226,11 +264,13 @@ PyObject *Connection_next_event(Connection *self, PyObject *unused) {
         PyObject *event = next_of(self);
         if (!event) break;
         if (event != need_data) return event;
-        int more = feed(self);
-        if (more == 0) return event;
         Py_DECREF(event);
-        if (more < 0) break;
+        int more = feed(self);
+        if (more == 0) event = pending(self);
+        if (more == 0 && event) return event;
+        if (more <= 0) break;
     }
-    if (PyErr_ExceptionMatches(remote_error)) fail_side(self, self->theirs);
+    /* Also where memory ran out: an event may be lost, and no one goes on behind a gap. */
+    fail_side(self, self->theirs);
     return NULL;
 }

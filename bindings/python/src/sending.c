@@ -28,6 +28,7 @@ static void begin(text *t) {
 }
 
 static bool make_room(text *t, size_t len) {
+    if (len > PY_SSIZE_T_MAX / 2 - t->len) return false;
     size_t size = 2 * (t->len + len);
     char *at = PyMem_Realloc(t->at == t->room ? NULL : t->at, size);
     if (!at) return false;
@@ -62,7 +63,7 @@ static PyObject *ended(text *t, int done) {
 
 /* A set of kinds of lines. */
 #define KIND(KIND_) (1u << (KIND_))
-enum { FRAMING = KIND(LENGTH) | KIND(CODING) | KIND(CONNECTION) | KIND(DATE) };
+enum { SIZING = KIND(LENGTH) | KIND(CODING), FRAMING = SIZING | KIND(CONNECTION) | KIND(DATE) };
 
 static line_kind kind_of_name(PyObject *name) { return kind_of_line(PyBytes_AsString(name), (size_t)PyBytes_Size(name)); }
 
@@ -195,10 +196,11 @@ static void put_status(text *t, PyObject *event, unsigned status) {
     put_string(t, "\r\n");
 }
 
-/* The caller's lines; those that frame the body and end the connection are the engine's. */
-static PyObject *answer_text(const Connection *self, PyObject *event, unsigned status, bool is_stream, bool is_chunked) {
+/* The caller's lines; those that frame the body and end the connection are the engine's. A message that never has a body says
+ * nothing of one (RFC 9110, section 8.6). */
+static PyObject *answer_text(const Connection *self, PyObject *event, unsigned status, bool has_length, bool is_chunked) {
     text t;
-    unsigned left_out = KIND(CODING) | (is_stream ? KIND(LENGTH) : 0) | (self->lasts ? 0 : KIND(CONNECTION));
+    unsigned left_out = KIND(CODING) | (has_length ? 0 : KIND(LENGTH)) | (self->lasts ? 0 : KIND(CONNECTION));
     begin(&t);
     put_status(&t, event, status);
     int done = put_lines(&t, headers_in(event), ~left_out);
@@ -234,7 +236,7 @@ static PyObject *send_answer(Connection *self, PyObject *event) {
     if (is_chunked == 0) is_chunked = self->is_head && is_stream && is_1_1(self->version);
     if (is_chunked >= 0) {
         begin_body(self, s.size, is_chunked);
-        sent = answer_text(self, event, status, is_stream, is_chunked);
+        sent = answer_text(self, event, status, !is_stream && status != 204 && !is_tunnel, is_chunked);
     }
     if (sent && end_answer(self, is_tunnel, behind) < 0) Py_CLEAR(sent);
     Py_XDECREF(behind);
@@ -275,7 +277,7 @@ static PyObject *send_informational(Connection *self, PyObject *event) {
     if (done < 0) return NULL;
     begin(&t);
     put_status(&t, event, status);
-    return ended(&t, put_lines(&t, headers_in(event), ~0u));
+    return ended(&t, put_lines(&t, headers_in(event), ~SIZING));
 }
 
 /* ---- requests */
@@ -340,27 +342,38 @@ static PyObject *pass(Connection *self, PyObject *event, PyObject *data, size_t 
     return Py_BuildValue("[yOy]", line, data, "\r\n");
 }
 
-static PyObject *engine_sends(Connection *self, PyObject *event, PyObject *data) {
-    Py_buffer buffer;
-    if (PyObject_GetBuffer(data, &buffer, PyBUF_SIMPLE) < 0) return NULL;
-    rc_code code = rc_chunk(self->conn, buffer.buf, (size_t)buffer.len, &self->event);
-    PyBuffer_Release(&buffer);
+/* So many bytes of a body are sent; raises where a body with a length has fewer left. */
+static int count_body(Connection *self, size_t count) {
+    if (step(self, self->ours, DATA, local_error) < 0) return -1;
+    if (!is_server(self)) self->expects = false;
+    if (!self->is_sized) return 0;
+    if (count > self->size) return refuse("Too much data for declared Content-Length"), -1;
+    self->size -= count;
+    return 0;
+}
+
+static PyObject *engine_sends(Connection *self, PyObject *event, const Py_buffer *data) {
+    size_t count = (size_t)data->len;
+    if (count_body(self, count) < 0) return NULL;
+    if (count == 0 || self->is_refused) return PyBytes_FromStringAndSize(data->buf, data->len);
+    rc_code code = rc_chunk(self->conn, data->buf, count, &self->event);
     return code == RC_OK ? all_waiting(self->conn, &self->event) : refused(code, event);
 }
 
 static PyObject *send_data(Connection *self, PyObject *event) {
-    PyObject *data = value_of(event, DATA_AT);
-    if (step(self, self->ours, DATA, local_error) < 0) return NULL;
-    Py_ssize_t count = PyObject_Size(data);
-    if (count < 0) return NULL;
-    if (!is_server(self)) self->expects = false;
-    if (self->is_sized) {
-        if ((uint64_t)count > self->size) return refuse("Too much data for declared Content-Length");
-        self->size -= (uint64_t)count;
+    PyObject *data = value_of(event, DATA_AT), *sent;
+    Py_buffer buffer;
+    /* Both may call the caller's code, so the state is looked at behind them. */
+    if (PyObject_CheckBuffer(data)) {
+        if (PyObject_GetBuffer(data, &buffer, PyBUF_SIMPLE) < 0) return NULL;
+        sent = engine_sends(self, event, &buffer);
+        PyBuffer_Release(&buffer);
+        return sent;
     }
+    Py_ssize_t count = PyObject_Size(data);
+    if (count < 0 || count_body(self, (size_t)count) < 0) return NULL;
     if (count == 0) return PyList_New(0);
-    if (self->is_refused) return Py_BuildValue("[O]", data);
-    return PyObject_CheckBuffer(data) ? engine_sends(self, event, data) : pass(self, event, data, (size_t)count);
+    return self->is_refused ? Py_BuildValue("[O]", data) : pass(self, event, data, (size_t)count);
 }
 
 static PyObject *send_end(Connection *self, PyObject *event) {
@@ -379,7 +392,7 @@ static PyObject *send_end(Connection *self, PyObject *event) {
     Py_DECREF(sent);
     begin(&t);
     put_string(&t, "0\r\n");
-    return ended(&t, put_lines(&t, headers, ~0u));
+    return ended(&t, put_lines(&t, headers, ~SIZING));
 }
 
 static PyObject *send_closed(Connection *self, PyObject *event) {
@@ -403,7 +416,8 @@ static PyObject *parts_of(Connection *self, PyObject *event) {
     if (self->states[self->ours] == ERROR) return refuse("can't send data when our state is ERROR");
     event_kind kind = kind_of_event(event);
     PyObject *sent = kind < EVENTS ? send[kind](self, event) : PyErr_Format(local_error, "can't send %R", event);
-    if (!sent && PyErr_ExceptionMatches(local_error)) fail_side(self, self->ours);
+    /* Whatever failed: part of the message may be gone. */
+    if (!sent) fail_side(self, self->ours);
     return sent;
 }
 

@@ -1,3 +1,5 @@
+#include <string.h>
+
 #include "shared.h"
 
 PyObject *misplaced, *invalid;
@@ -17,6 +19,16 @@ PyObject *failed(rc_code code) {
         PyErr_SetString(invalid, "an argument is wrong");
         return NULL;
     }
+}
+
+int to_number(PyObject *given, void *number) {
+    PyObject *index = PyNumber_Index(given);
+    if (!index) return 0;
+    *(uint64_t *)number = PyLong_AsUnsignedLongLong(index);
+    Py_DECREF(index);
+    if (!PyErr_Occurred()) return 1;
+    if (PyErr_ExceptionMatches(PyExc_OverflowError)) failed(RC_INVALID);
+    return 0;
 }
 
 void release(PyObject *self) {
@@ -60,39 +72,47 @@ PyObject *with_fields(PyObject *list, const rc_event *event) {
     return list;
 }
 
-/* All parts of what `ask` gives, joined. */
-static PyObject *joined(rc_conn *conn, rc_event *event, rc_code (*ask)(rc_conn *, size_t, rc_event *)) {
-    PyObject *all = PyBytes_FromStringAndSize(NULL, 0);
-    for (size_t start = 0; all; start += event->bytes.len) {
-        rc_code code = ask(conn, start, event);
-        if (code != RC_OK) {
-            Py_DECREF(all);
-            return failed(code);
-        }
-        if (event->bytes.len == 0) return all;
-        PyObject *part = bytes_of(event->bytes);
-        if (start == 0 && part) {
-            Py_DECREF(all);
-            all = part;
-        } else {
-            PyBytes_ConcatAndDel(&all, part);
-        }
+/* So many bytes, of which `next` tells the part at a place, and passes it. */
+static PyObject *joined(rc_conn *conn, rc_event *event, size_t size, rc_code (*next)(rc_conn *, size_t, rc_event *, uint8_t *to, size_t *len)) {
+    PyObject *all = size <= PY_SSIZE_T_MAX ? PyBytes_FromStringAndSize(NULL, (Py_ssize_t)size) : PyErr_NoMemory();
+    for (size_t done = 0, len; all && done < size; done += len) {
+        len = size - done;
+        rc_code code = next(conn, done, event, (uint8_t *)PyBytes_AsString(all) + done, &len);
+        if (code == RC_OK && len > 0) continue;
+        Py_DECREF(all);
+        return code != RC_OK ? failed(code) : (PyErr_SetString(PyExc_SystemError, "fewer bytes than the library told"), NULL);
     }
     return all;
 }
 
-PyObject *all_held(rc_conn *conn, rc_event *event) { return joined(conn, event, rc_held); }
-
-/* The bytes to write next; those that were told last count as written. */
-static rc_code front_behind(rc_conn *conn, size_t start, rc_event *event) {
-    if (start > 0) {
-        rc_code code = rc_advance(conn, event->bytes.len, event);
-        if (code != RC_OK) return code;
-    }
-    return rc_front(conn, event);
+static void copy_bytes(const rc_event *event, uint8_t *to, size_t *len) {
+    if (event->bytes.len < *len) *len = event->bytes.len;
+    memcpy(to, event->bytes.at, *len);
 }
 
-PyObject *all_waiting(rc_conn *conn, rc_event *event) { return joined(conn, event, front_behind); }
+static rc_code next_held(rc_conn *conn, size_t start, rc_event *event, uint8_t *to, size_t *len) {
+    rc_code code = rc_held(conn, start, event);
+    if (code == RC_OK) copy_bytes(event, to, len);
+    return code;
+}
+
+static rc_code next_waiting(rc_conn *conn, size_t start, rc_event *event, uint8_t *to, size_t *len) {
+    (void)start;
+    rc_code code = rc_front(conn, event);
+    if (code != RC_OK) return code;
+    copy_bytes(event, to, len);
+    return rc_advance(conn, *len, event);
+}
+
+PyObject *all_held(rc_conn *conn, rc_event *event) {
+    TRY(rc_state(conn, event));
+    return joined(conn, event, event->state.held, next_held);
+}
+
+PyObject *all_waiting(rc_conn *conn, rc_event *event) {
+    TRY(rc_state(conn, event));
+    return joined(conn, event, event->state.buffered, next_waiting);
+}
 
 void let_go(packed *p) {
     if (p->at != p->room) PyMem_Free(p->at);
@@ -117,7 +137,9 @@ static int pack_pairs(packed *p, PyObject *first, PyObject *pairs, int (*wanted)
     for (Py_ssize_t i = 0; i < count; i++) {
         PyObject *pair = PyTuple_GetItem(pairs, i);
         if (!is_pair(pair)) return PyErr_SetString(PyExc_TypeError, "headers are pairs of bytes"), -1;
-        if (!wanted || wanted(PyTuple_GetItem(pair, 0))) p->len += pair_size(pair);
+        size_t size = !wanted || wanted(PyTuple_GetItem(pair, 0)) ? pair_size(pair) : 0;
+        if (size > PY_SSIZE_T_MAX - p->len) return PyErr_NoMemory(), -1;
+        p->len += size;
     }
     p->at = p->len <= sizeof p->room ? p->room : PyMem_Malloc(p->len);
     if (!p->at) return PyErr_NoMemory(), -1;

@@ -9,7 +9,16 @@ import unittest
 HAS_UVICORN = importlib.util.find_spec("uvicorn") is not None
 
 
+async def echo(scope, receive, send):
+    await receive()
+    await send({"type": "websocket.accept"})
+    while (message := await receive())["type"] == "websocket.receive":
+        await send({"type": "websocket.send", "text": f"{scope['path']} {message['text']}"})
+
+
 async def app(scope, receive, send):
+    if scope["type"] == "websocket":
+        await echo(scope, receive, send)
     if scope["type"] != "http":
         return
     if scope["path"] == "/raises":
@@ -100,6 +109,31 @@ class Uvicorn(unittest.TestCase):
         self.assertTrue(self.talk(b"GET / HTTP/1.1\r\nbad line\r\n\r\n").startswith(b"HTTP/1.1 400 "))
         text = self.talk(b"GET /raises HTTP/1.1\r\nHost: a\r\n\r\n")
         self.assertTrue(text.startswith(b"HTTP/1.1 500 ") and text.endswith(b"Internal Server Error"), text)
+
+    @unittest.skipUnless(importlib.util.find_spec("wsproto"), "there is no wsproto (apt-get install python3-wsproto)")
+    def test_a_websocket_is_handed_over(self):
+        with socket.create_connection(("127.0.0.1", self.port), timeout=20) as sock:
+            sock.sendall(
+                b"GET /w HTTP/1.1\r\nHost: a\r\nUpgrade: websocket\r\nConnection: Upgrade\r\n"
+                b"Sec-WebSocket-Key: dGhlIHNhbXBsZSBub25jZQ==\r\nSec-WebSocket-Version: 13\r\n\r\n"
+            )
+            text = b""
+            while not text.endswith(b"\r\n\r\n"):
+                text += sock.recv(65536)
+            self.assertIn(b"s3pPLMBiTxaQ9kYGzzhZRbK+xOo=", text)
+            sock.sendall(b"\x81\x85\x37\xfa\x21\x3d\x7f\x9f\x4d\x51\x58")
+            self.assertEqual(sock.recv(65536), b"\x81\x08/w Hello")
+            # uvicorn's protocol goes on waiting where no Close comes.
+            sock.sendall(b"\x88\x80zzzz")
+            self.assertEqual(sock.recv(65536)[0], 0x88)
+
+    def test_a_slow_client_is_closed(self):
+        with socket.create_connection(("127.0.0.1", self.port), timeout=20) as sock:
+            sock.sendall(b"GET / HTT")
+            text = b""
+            while part := sock.recv(65536):
+                text += part
+        self.assertTrue(text.startswith(b"HTTP/1.1 408 "), text)
 
     def test_a_half_closed_client_is_answered(self):
         with socket.create_connection(("127.0.0.1", self.port), timeout=20) as sock:

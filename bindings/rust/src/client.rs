@@ -23,7 +23,7 @@ impl Client {
     pub fn ask(&mut self, method: &str, target: &[u8], lines: &[(&[u8], &[u8])], size: Size, keep: Keep) -> Result<(), Error> {
         let op = handle::HEAD | ((keep as u32) << 10) << 8;
         self.0
-            .call_packed(op, size.number(), Some((method.as_bytes(), target)), lines)
+            .call_packed(op, size.number()?, Some((method.as_bytes(), target)), lines)
     }
 
     /// The next answer.

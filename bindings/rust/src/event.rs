@@ -56,11 +56,13 @@ pub enum Size {
 }
 
 impl Size {
-    pub(crate) fn number(self) -> u64 {
+    /// As the library takes it, of which two lengths are no lengths.
+    pub(crate) fn number(self) -> Result<u64, Error> {
         match self {
-            Size::Stream => u64::MAX,
-            Size::None => u64::MAX - 1,
-            Size::Bytes(count) => count.min(u64::MAX - 2),
+            Size::Stream => Ok(u64::MAX),
+            Size::None => Ok(u64::MAX - 1),
+            Size::Bytes(count) if count < u64::MAX - 1 => Ok(count),
+            Size::Bytes(_) => Err(Error::Invalid),
         }
     }
 }

@@ -95,6 +95,7 @@ impl Handle {
         for (name, value) in first.iter().chain(lines) {
             pack(&mut packed, name, value)?;
         }
+        // `packed` is no field meanwhile, so that the call may take the handle whole.
         let answer = self.call(op, number, &packed).map(|_| ());
         self.packed = packed;
         answer
@@ -136,8 +137,13 @@ impl Handle {
 
 fn pack(packed: &mut Vec<u8>, name: &[u8], value: &[u8]) -> Result<(), Error> {
     let size = |text: &[u8]| u32::try_from(text.len()).map_err(|_| Error::Invalid);
-    packed.extend_from_slice(&size(name)?.to_le_bytes());
-    packed.extend_from_slice(&size(value)?.to_le_bytes());
+    let (name_size, value_size) = (size(name)?, size(value)?);
+    let needed = name.len().checked_add(value.len()).and_then(|sum| sum.checked_add(8));
+    let needed = needed.ok_or(Error::NoMemory)?;
+    // What follows then takes no memory, of which the lack would end the program.
+    packed.try_reserve(needed).map_err(|_| Error::NoMemory)?;
+    packed.extend_from_slice(&name_size.to_le_bytes());
+    packed.extend_from_slice(&value_size.to_le_bytes());
     packed.extend_from_slice(name);
     packed.extend_from_slice(value);
     Ok(())

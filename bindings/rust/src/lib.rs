@@ -3,7 +3,25 @@
 //! Whoever owns the socket hands in what was read, writes out what [`Server::front`] gives, and tells the time. What a call
 //! hands out borrows the connection, so it is gone at the next call. After an error the connection is as it was.
 //!
+//! ```compile_fail,E0499
+//! # let mut server = raspcream::Server::new(&raspcream::Config::default())?;
+//! let head = server.next_request()?;
+//! server.read(b"more")?; // the head's bytes may move
+//! println!("{head:?}");
+//! # Ok::<(), raspcream::Error>(())
+//! ```
+//!
 //! A connection may go from thread to thread (`Send`), and isn't shared: each call takes it whole.
+//!
+//! ```
+//! fn is_send<T: Send>() {}
+//! is_send::<raspcream::Server>();
+//! ```
+//!
+//! ```compile_fail,E0277
+//! fn is_sync<T: Sync>() {}
+//! is_sync::<raspcream::Server>();
+//! ```
 //!
 //! ```
 //! use raspcream::{Body, Config, Keep, Next, Server, Size};

@@ -59,7 +59,7 @@ impl Server {
             return Err(Error::Invalid);
         }
         let op = handle::HEAD | (u32::from(status) | (keep as u32) << 10) << 8;
-        self.0.call_packed(op, size.number(), None, lines)
+        self.0.call_packed(op, size.number()?, None, lines)
     }
 
     /// No further request is answered.
