@@ -408,14 +408,12 @@ worker_processes 1; daemon off; pid %(place)s/pid; error_log %(place)s/error.log
 http { access_log off; client_body_temp_path %(place)s/b; proxy_temp_path %(place)s/p; fastcgi_temp_path %(place)s/f;
   uwsgi_temp_path %(place)s/u; scgi_temp_path %(place)s/s;
   server { listen 127.0.0.1:%(port)d;
-    location = / { proxy_pass http://%(page)s; }
-    location ~ ^/chat\\.(css|js)$ { proxy_pass http://%(page)s; }
     location / { proxy_pass http://%(rooms)s; proxy_http_version 1.1; proxy_read_timeout 1d;
       proxy_set_header Upgrade $http_upgrade; proxy_set_header Connection "upgrade"; } } }
 """
 
 
-def behind_nginx(address, page):
+def behind_nginx(address):
     """The page and the rooms behind one address."""
     if not has("nginx"):
         return
@@ -423,7 +421,7 @@ def behind_nginx(address, page):
     with tempfile.TemporaryDirectory() as place:
         os.chmod(place, 0o755)
         with open(f"{place}/nginx.conf", "w") as text:
-            text.write(NGINX % {"place": place, "port": port, "rooms": "%s:%d" % address, "page": "%s:%d" % page})
+            text.write(NGINX % {"place": place, "port": port, "rooms": "%s:%d" % address})
         nginx = subprocess.Popen(["nginx", "-c", f"{place}/nginx.conf"], stderr=subprocess.DEVNULL)
         try:
             wait_for(("127.0.0.1", port), SECONDS)
@@ -473,7 +471,7 @@ def room_clients(address):
     full_rooms(address, page)
     two_browsers(page)
     two_browsers(address, " at the rooms' port")
-    behind_nginx(address, page)
+    behind_nginx(address)
 
 
 if __name__ == "__main__":
