@@ -49,6 +49,8 @@ def frames_of(seen):
         size, start = seen[at + 1], at + 2
         if size == 126:
             size, start = int.from_bytes(seen[start:start + 2], "big"), start + 2
+        elif size == 127:
+            size, start = int.from_bytes(seen[start:start + 8], "big"), start + 8
         found.append((seen[at], seen[start:start + size]))
         at = start + size
     return found
@@ -198,22 +200,23 @@ def silent_member(address):
 
 
 def answering_member(address):
-    """Answers each Ping, from now on; hands out the check that it is still there after 70 seconds."""
+    """Answers each Ping for 70 seconds, from now on; hands out the check that it is still there."""
     sock, _ = joined(address, b"/quiet")
-    began = time.monotonic()
-    pings = []
+    began, seen = time.monotonic(), []
+
+    def listen():
+        sock.settimeout(SECONDS)
+        while time.monotonic() - began < 70 and seen[-1:] in ([], [b"\x89\x00"]):
+            seen.append(sock.recv(16))
+            sock.sendall(frame(0x8a, b""))
+    listening = threading.Thread(target=listen, daemon=True)
+    listening.start()
 
     def make():
-        sock.settimeout(SECONDS)
+        listening.join(2 * SECONDS)
         with sock:
-            while time.monotonic() - began < 70:
-                ping = sock.recv(2)
-                if ping != b"\x89\x00":
-                    return ping
-                pings.append(round(time.monotonic() - began))
-                sock.sendall(frame(0x8a, b""))
             sock.sendall(frame(0x88, b""))
-            return differs(read_all(sock), b"\x88\x00")
+            return differs((seen, read_all(sock)), ([b"\x89\x00"] * len(seen), b"\x88\x00"))
     return lambda: check("rooms, one that answers each Ping", make)
 
 
