@@ -115,7 +115,14 @@ serve_to_input_end() {
 
 launch_chat() {
     flags="--ignore-input"
-    valued="--bind"
+    valued="--bind --origin"
+    value() {
+        case $1 in
+            --bind) [ $# -gt 1 ] || wrong Bind ;;
+            # A scheme and a host, without a path.
+            --origin) [ $# -gt 1 ] && [[ $2 =~ ^[^:/]+://[^/]+$ ]] || wrong Origin ;;
+        esac
+    }
     operand() {
         [ "$1" = 1 ] || wrong TooMany
         # The page is at the next port.

@@ -1,32 +1,58 @@
 """Members of the rooms of app_chat: python's websockets, sockets by hand, and two browsers."""
-import asyncio, base64, json, os, socket, subprocess, sys, tempfile, time, urllib.request
+import asyncio, base64, json, os, socket, subprocess, sys, tempfile, threading, time, urllib.request
 
 sys.path.append("/usr/lib/python3/dist-packages")
 from checks import check, connect, differs, free_port, has, read_all, results, statuses_of, wait_for
 
 ASKED = (b"GET %s HTTP/1.1\r\nHost: a\r\nConnection: keep-alive, Upgrade\r\nUpgrade: websocket\r\nSec-WebSocket-Version: 13\r\n"
          b"Sec-WebSocket-Key: dGhlIHNhbXBsZSBub25jZQ==\r\nSec-WebSocket-Extensions: permessage-deflate\r\n\r\n")
+MEMBERS = 512
 SECONDS = 60
 
 # How many messages are said to one that doesn't read.
 COUNT = 2000
 
 
+def head(first, size, key=bytes(4)):
+    """The head of a frame of a client."""
+    if size < 126:
+        return bytes([first, 0x80 | size]) + key
+    return bytes([first]) + (b"\xfe" + size.to_bytes(2, "big") if size < 65_536 else b"\xff" + size.to_bytes(8, "big")) + key
+
+
 def frame(first, payload):
     """A frame of a client, whose mask changes nothing."""
-    size = bytes([0x80 | len(payload)]) if len(payload) < 126 else b"\xfe" + len(payload).to_bytes(2, "big")
-    return bytes([first]) + size + bytes(4) + payload
+    return head(first, len(payload)) + payload
+
+
+def masked(first, payload, key=b"\x11\x22\x33\x44"):
+    """A frame of a client, with a mask."""
+    both = int.from_bytes(payload, "big") ^ int.from_bytes((key * (len(payload) // 4 + 1))[:len(payload)], "big")
+    return head(first, len(payload), key) + both.to_bytes(len(payload), "big")
+
+
+def joined_frames(frames):
+    """The messages that these frames of a server are: the first byte and the payload of each."""
+    found, parts = [], []
+    for first, payload in frames:
+        parts.append((first, payload))
+        if first & 0x80:
+            found.append((0x80 | parts[0][0] & 0x0f, b"".join(payload for _, payload in parts)))
+            parts = []
+    return found
 
 
 def frames_of(seen):
     """The frames of a server: the first byte and the payload of each."""
     found, at = [], 0
     while at < len(seen):
-        size, head = seen[at + 1], 2
+        size, start = seen[at + 1], at + 2
         if size == 126:
-            size, head = int.from_bytes(seen[at + 2:at + 4], "big"), 4
-        found.append((seen[at], seen[at + head:at + head + size]))
-        at += head + size
+            size, start = int.from_bytes(seen[start:start + 2], "big"), start + 2
+        elif size == 127:
+            size, start = int.from_bytes(seen[start:start + 8], "big"), start + 8
+        found.append((seen[at], seen[start:start + size]))
+        at = start + size
     return found
 
 
@@ -65,9 +91,69 @@ def socket_members(address):
     ended("a Close without a code", frame(0x88, b""), [(0x88, b"")])
     ended("a Ping, then a Close", frame(0x89, b"hi") + frame(0x88, b""), [(0x8a, b"hi"), (0x88, b"")])
     ended("text that isn't UTF-8", frame(0x81, b"\xc3\x28"), [(0x88, b"\x03\xef")])
-    ended("a frame that is too large", frame(0x82, bytes(20_000)), [])
-    ended("a frame without a mask", b"\x81\x01a", [])
+    broken = [(0x88, b"\x03\xea")]
+    ended("a frame without a mask", b"\x81\x01a", broken)
+    ended("a reserved bit", frame(0xc1, b"a"), broken)
+    ended("an unknown opcode", frame(0x83, b"a"), broken)
+    ended("a Ping of 126 bytes", frame(0x89, bytes(126)), broken)
+    ended("a Ping in fragments", frame(0x09, b"a"), broken)
+    ended("a fragment of no message", frame(0x80, b"a"), broken)
+    ended("a message inside another one", frame(0x01, b"a") + frame(0x81, b"b"), broken)
+    ended("a Close with a code that may not be sent", frame(0x88, b"\x03\xed"), broken)
+    ended("a Ping, then a frame without a mask", frame(0x89, b"hi") + b"\x81\x01a", [(0x8a, b"hi")] + broken)
+    ended("a frame of 65,537 bytes, by its head", head(0x82, 65_537), [(0x88, b"\x03\xf1")])
+    ended("a frame of 200,000 bytes", frame(0x82, bytes(200_000)), [(0x88, b"\x03\xf1")])
+    ended("a frame of 2 to the 63rd bytes", b"\x82\xff\x7f" + b"\xff" * 7 + bytes(4), [(0x88, b"\x03\xf1")])
+    ended("1,048,577 bytes in fragments", frame(0x02, b"a") + frame(0x00, bytes(65_536)) * 16, [(0x88, b"\x03\xf1")])
+    ended("text of 60,000 bytes that isn't UTF-8", masked(0x81, b"a" * 59_999 + b"\xc3"), [(0x88, b"\x03\xef")])
     ended("1024 fragments and no last one", frame(0x01, b"") + frame(0x00, b"") * 1023, [(0x88, b"\x03\xf1")])
+
+    def whole(size):
+        def make():
+            one, _ = joined(address, b"/whole")
+            other, _ = joined(address, b"/whole")
+            said = bytes(range(32, 127)) * (size // 95 + 1)
+            with one, other:
+                # The head comes byte by byte.
+                text = masked(0x81, said[:size])
+                for at in range(8):
+                    one.sendall(text[at:at + 1])
+                    time.sleep(0.01)
+                one.sendall(text[8:] + masked(0x82, b"then") + frame(0x88, b""))
+                read_all(one)
+                other.sendall(frame(0x88, b""))
+                # One that waits for long is sent a Ping.
+                seen = [one for one in frames_of(read_all(other)) if one != (0x89, b"")]
+                return differs(joined_frames(seen), [(0x81, said[:size]), (0x82, b"then"), (0x88, b"")])
+        check(f"rooms, a text of {size:,} bytes in one frame", make)
+    for size in (125, 126, 16_370, 16_371, 65_535, 65_536):
+        whole(size)
+
+    def early():
+        with connect(address) as sock:
+            sock.sendall(ASKED % b"/early" + frame(0x89, b"hi") + masked(0x82, bytes(20_000)) + frame(0x88, b""))
+            return differs(frames_of(read_all(sock).partition(b"\r\n\r\n")[2]), [(0x8a, b"hi"), (0x88, b"")])
+    check("rooms, frames before the answer", early)
+
+    def again():
+        with connect(address) as sock:
+            sock.sendall(b"GET /none HTTP/1.1\r\nHost: a\r\n\r\n" + ASKED % b"/again" + frame(0x88, b""))
+            seen = read_all(sock)
+            return differs((statuses_of(seen), seen[-2:]), ([b"404", b"101"], b"\x88\x00"))
+    check("rooms, a request and then one that joins", again)
+
+    def refused(name, old, new):
+        def make():
+            with connect(address) as sock:
+                sock.sendall((ASKED % b"/r").replace(old, new).replace(b"keep-alive", b"close"))
+                sock.settimeout(SECONDS)
+                seen = read_all(sock)
+                return None if b" 426 " in seen[:20] and b"sec-websocket-version: 13\r\n" in seen.lower() else seen[:300]
+        check("rooms, " + name, make)
+    refused("version 8 of WebSocket", b"Version: 13", b"Version: 8")
+    refused("version 25 of WebSocket", b"Version: 13", b"Version: 25")
+    refused("no version of WebSocket", b"Sec-WebSocket-Version: 13\r\n", b"")
+    refused("HTTP/1.0", b"HTTP/1.1", b"HTTP/1.0")
 
     def gone():
         # The last words of one who vanishes are heard, and nobody else is disturbed.
@@ -93,6 +179,85 @@ def socket_members(address):
             seen = frames_of(read_all(other))
             return differs(seen, [(0x81, b"last"), (0x88, b"")]) or differs(frames_of(read_all(one)), [])
     check("rooms, one that sends no more", half_closed)
+
+
+def silent_member(address):
+    """Says nothing, from now on; hands out the check of what it is sent: a Ping after 20 seconds, and a Close after 20 more."""
+    sock, _ = joined(address, b"/silent")
+    began, seen = time.monotonic(), []
+
+    def listen():
+        with sock:
+            while piece := sock.recv(65536):
+                seen.append((round(time.monotonic() - began), piece))
+    listening = threading.Thread(target=listen, daemon=True)
+    listening.start()
+
+    def make():
+        listening.join(SECONDS)
+        sent = b"".join(piece for _, piece in seen)
+        wrong = differs(sent, b"\x89\x00\x88\x02\x03\xf0")
+        return wrong or (None if 20 <= seen[0][0] <= 23 and 40 <= seen[-1][0] <= 46 else seen)
+    return lambda: check("rooms, one that says nothing", make)
+
+
+def answering_member(address):
+    """Answers each Ping for 70 seconds, from now on; hands out the check that it is still there."""
+    sock, _ = joined(address, b"/quiet")
+    began, seen = time.monotonic(), []
+
+    def listen():
+        sock.settimeout(SECONDS)
+        while time.monotonic() - began < 70 and seen[-1:] in ([], [b"\x89\x00"]):
+            seen.append(sock.recv(16))
+            sock.sendall(frame(0x8a, b""))
+    listening = threading.Thread(target=listen, daemon=True)
+    listening.start()
+
+    def make():
+        listening.join(2 * SECONDS)
+        with sock:
+            sock.sendall(frame(0x88, b""))
+            return differs((seen, read_all(sock)), ([b"\x89\x00"] * len(seen), b"\x88\x00"))
+    return lambda: check("rooms, one that answers each Ping", make)
+
+
+def full_rooms(address, page):
+    def make():
+        members = [joined(address, b"/full")[0] for _ in range(MEMBERS)]
+        try:
+            with connect(address) as sock:
+                sock.sendall((ASKED % b"/full").replace(b"keep-alive", b"close"))
+                wrong = differs(statuses_of(read_all(sock)), [b"503"])
+            with connect(page) as sock:
+                sock.sendall(b"GET /full HTTP/1.1\r\nHost: a\r\nConnection: close\r\n\r\n")
+                wrong = wrong or differs(statuses_of(read_all(sock)), [b"503"])
+        finally:
+            for sock in members:
+                sock.close()
+        time.sleep(3)
+        sock, seen = joined(address, b"/full")
+        sock.close()
+        return wrong or (None if b" 101 " in seen[:20] else seen)
+    check(f"rooms, one more than {MEMBERS} members", make)
+
+
+def closed_rooms(address):
+    """Rooms that only pages of https://chat.example and http://localhost:81 may join."""
+    def answered(name, lines, wanted):
+        def make():
+            with connect(address) as sock:
+                sock.sendall((ASKED % b"/o").replace(b"Host: a\r\n", b"Host: a\r\n" + lines) + frame(0x88, b""))
+                return differs(statuses_of(sock.recv(65536)), [wanted])
+        check("rooms with --origin, " + name, make)
+    answered("no origin", b"", b"101")
+    answered("the first one", b"Origin: https://chat.example\r\n", b"101")
+    answered("the second one", b"Origin: http://localhost:81\r\n", b"101")
+    answered("another one", b"Origin: https://evil.example\r\n", b"403")
+    answered("the same host by another scheme", b"Origin: http://chat.example\r\n", b"403")
+    answered("one that begins as ours", b"Origin: https://chat.example.evil\r\n", b"403")
+    answered("ours and another one", b"Origin: https://chat.example\r\nOrigin: https://evil.example\r\n", b"403")
+    answered("a page without an origin", b"Origin: null\r\n", b"403")
 
 
 def websockets_members(address):
@@ -166,7 +331,7 @@ def websockets_members(address):
         if wrong:
             return wrong
         with sock:
-            seen = frames_of(await asyncio.to_thread(read_all, sock))
+            seen = [one for one in frames_of(await asyncio.to_thread(read_all, sock)) if one != (0x89, b"")]
         # What the socket had taken and 1024 that waited came first.
         return differs((seen[-1], len(seen) > 1024, all(one == (0x81, text.encode()) for one in seen[:-1])), ((0x88, b"\x03\xf0"), True, True))
     member("one that never reads beside one that gets all 2,000 messages", deaf)
@@ -248,14 +413,12 @@ worker_processes 1; daemon off; pid %(place)s/pid; error_log %(place)s/error.log
 http { access_log off; client_body_temp_path %(place)s/b; proxy_temp_path %(place)s/p; fastcgi_temp_path %(place)s/f;
   uwsgi_temp_path %(place)s/u; scgi_temp_path %(place)s/s;
   server { listen 127.0.0.1:%(port)d;
-    location = / { proxy_pass http://%(page)s; }
-    location ~ ^/chat\\.(css|js)$ { proxy_pass http://%(page)s; }
     location / { proxy_pass http://%(rooms)s; proxy_http_version 1.1; proxy_read_timeout 1d;
       proxy_set_header Upgrade $http_upgrade; proxy_set_header Connection "upgrade"; } } }
 """
 
 
-def behind_nginx(address, page):
+def behind_nginx(address):
     """The page and the rooms behind one address."""
     if not has("nginx"):
         return
@@ -263,7 +426,7 @@ def behind_nginx(address, page):
     with tempfile.TemporaryDirectory() as place:
         os.chmod(place, 0o755)
         with open(f"{place}/nginx.conf", "w") as text:
-            text.write(NGINX % {"place": place, "port": port, "rooms": "%s:%d" % address, "page": "%s:%d" % page})
+            text.write(NGINX % {"place": place, "port": port, "rooms": "%s:%d" % address})
         nginx = subprocess.Popen(["nginx", "-c", f"{place}/nginx.conf"], stderr=subprocess.DEVNULL)
         try:
             wait_for(("127.0.0.1", port), SECONDS)
@@ -293,26 +456,32 @@ def behind_nginx(address, page):
 
 def room_clients(address):
     page = (address[0], address[1] + 1)
+    later = [silent_member(address), answering_member(address)]
 
-    def served(path, wanted):
+    def served(at, path, wanted):
         def make():
-            with connect(page) as sock:
+            with connect(at) as sock:
                 sock.sendall(b"GET %s HTTP/1.1\r\nhost: a\r\nconnection: close\r\n\r\n" % path)
                 seen = read_all(sock)
                 return None if seen.startswith(b"HTTP/1.1 200 OK\r\n") and wanted in seen else seen[:300]
-        check(f"the page of the rooms, {path.decode()}", make)
-    served(b"/", b'data-rooms="%d"' % address[1])
-    served(b"/chat.js", b"new WebSocket(")
-    served(b"/chat.css", b"prefers-color-scheme")
+        check(f"the page of the rooms, {path.decode()} at the {'rooms' if at == address else 'next'} port", make)
+    for at in (address, page):
+        served(at, b"/", b"<title>Chat rooms</title>")
+        served(at, b"/chat.js", b"new WebSocket(")
+        served(at, b"/chat.css", b"prefers-color-scheme")
     socket_members(address)
+    for check_later in later:
+        check_later()
     websockets_members(address)
+    full_rooms(address, page)
     two_browsers(page)
-    behind_nginx(address, page)
+    two_browsers(address, " at the rooms' port")
+    behind_nginx(address)
 
 
 if __name__ == "__main__":
-    # python3 test/lib/rooms.py HOST:PORT
+    # python3 test/lib/rooms.py HOST:PORT [--closed]
     host, port = sys.argv[1].rsplit(":", 1)
-    room_clients((host, int(port)))
+    (closed_rooms if "--closed" in sys.argv else room_clients)((host, int(port)))
     print(f"{results.count(True)} right, {results.count(False)} wrong")
     sys.exit(0 if all(results) else 1)

@@ -1,8 +1,8 @@
 //! All members, and the limits that are theirs together.
 use crate::house::House;
-use crate::member::{Member, Stage};
+use crate::member::{Joining, Member, Stage};
 use crate::serve::serve;
-use mio::net::TcpStream;
+use crate::watch::watch;
 use rooms::{NoMemory, ServiceConfig};
 use std::alloc::Global;
 
@@ -87,18 +87,27 @@ impl Hall {
         Some(self.house.len())
     }
 
-    /// A member comes with a socket. The moment is in milliseconds since 1970.
-    pub fn admit(&mut self, stream: TcpStream, moment: u64) -> Result<(), NoMemory> {
+    /// A member joins. The moment is in milliseconds since 1970, the other one is of uptime. One whose connection doesn't take
+    /// its request is dropped.
+    pub fn admit(&mut self, joining: Joining, moment: u64, uptime: u64) -> Result<(), NoMemory> {
+        let Joining {
+            stream,
+            owed,
+            request,
+        } = joining;
         let Some(number) = self.house.open()? else {
             return Ok(());
         };
+        self.house.tick(number, moment)?;
+        if !self.house.read(number, request.as_slice())? {
+            return Ok(());
+        }
         // Numbers are given one after another.
         for _ in self.members.len()..number {
             self.members.push(None)?;
         }
-        self.members.push(Some(Member::new(stream)))?;
+        self.members.push(Some(Member::new(stream, owed, uptime)))?;
         self.present.push(number)?;
-        self.house.tick(number, moment)?;
         Ok(())
     }
 
@@ -199,6 +208,7 @@ impl Hall {
             };
             if let Some(Some(member)) = self.members.get_mut(number) {
                 tick_one(&mut self.house, number, member, moment, uptime)?;
+                watch(&mut self.house, number, member, !self.is_full, uptime)?;
                 if self.is_renewing {
                     self.house.drain(number)?;
                 }

@@ -1,7 +1,9 @@
 //! Chat rooms over WebSocket, and a page to chat with: `app_chat PORT`.
 #![tactic(auto)]
 
+mod control;
 mod flow;
+mod gate;
 mod hall;
 mod house;
 mod member;
@@ -12,9 +14,10 @@ mod serve;
 mod server;
 mod text;
 mod visit;
+mod watch;
 
+use crate::gate::Gate;
 use crate::options::{Command, HELP, Options, VERSION};
-use crate::page::{Page, Ports};
 use crate::server::{ServeError, Server};
 use http_types::{ServiceConfig, ServiceConfigBuilder};
 use std::alloc::Global;
@@ -33,8 +36,8 @@ const NO_PORT: u8 = 4;
 /// Memory has run out.
 const NO_MEMORY: u8 = 5;
 
-/// The most bytes of a request's head, and of a frame with its own head.
-const HOLD_SIZE: usize = 16_384;
+/// The most bytes of a request's head, and of a frame with its own head: its payload has at most 65,536.
+const HOLD_SIZE: usize = 65_550;
 
 /// How long a peer may take for what is left once its connection ends, in milliseconds.
 const DISCONNECT_TIMEOUT: u64 = 10_000;
@@ -47,10 +50,10 @@ fn main(rt: HostRuntime) -> ExitCode {
         // Words that can't be had are wrong words.
         Err(_) => Vec::new(alloc),
     };
-    match options::read(&words) {
+    match options::read(alloc, &words) {
         Ok(Command::Help) => print(rt, HELP),
         Ok(Command::Version) => print(rt, VERSION),
-        Ok(Command::Serve(options)) => open(rt, &options),
+        Ok(Command::Serve(options)) => open(rt, options),
         Err(error) => {
             let _ = eprintln!(rt; "app_chat: {error}; --help says more");
             ExitCode::from(USAGE)
@@ -70,7 +73,7 @@ fn words(rt: &(impl Env + Alloc<A = Global>)) -> io::Result<Vec<String>> {
     Ok(env::args(rt)?.skip(1).collect(rt.alloc())?)
 }
 
-fn open(rt: HostRuntime, options: &Options<'_>) -> ExitCode {
+fn open(rt: HostRuntime, options: Options<'_>) -> ExitCode {
     let Some((rooms, at)) = listen(rt, options.address, options.port) else {
         return ExitCode::from(NO_PORT);
     };
@@ -78,11 +81,7 @@ fn open(rt: HostRuntime, options: &Options<'_>) -> ExitCode {
         return ExitCode::from(NO_PORT);
     };
     let _ = eprintln!(rt; "app_chat: rooms at ws://{at}/ROOM, the page at http://{page_at}/");
-    let ports = Ports {
-        rooms: at.port(),
-        page: page_at.port(),
-    };
-    match run(rt, options, rooms, pages, ports) {
+    match run(rt, options, rooms, pages) {
         Ok(()) => ExitCode::SUCCESS,
         Err(error) => {
             let _ = eprintln!(rt; "app_chat: {error}");
@@ -96,16 +95,20 @@ fn open(rt: HostRuntime, options: &Options<'_>) -> ExitCode {
 
 fn run(
     rt: HostRuntime,
-    options: &Options<'_>,
+    options: Options<'_>,
     rooms: TcpListener,
     pages: TcpListener,
-    ports: Ports,
 ) -> Result<(), ServeError> {
-    let page = Page::new(rt.alloc(), ports)?;
+    let Options {
+        origins,
+        ignores_input,
+        ..
+    } = options;
+    let gate = Gate::new(origins);
     let rooms = mio::net::TcpListener::from_std(rooms);
     let pages = mio::net::TcpListener::from_std(pages);
-    let mut server = Server::new(rt, config(), rooms, pages, page)?;
-    server.run(!options.ignores_input)
+    let mut server = Server::new(rt, config(), rooms, pages, gate)?;
+    server.run(!ignores_input)
 }
 
 // The settings of each connection.

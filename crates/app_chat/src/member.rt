@@ -1,6 +1,7 @@
 //! A connection of the rooms, with its socket.
 ghost use Rattle.std.specs.Prelude.{◌≡◌, true};
 
+use crate::control::Farewell;
 use bytes::Bytes;
 use mio::net::TcpStream;
 
@@ -49,14 +50,17 @@ pub struct Standing {
 
     /// Since when nothing that waits could be written, in milliseconds of uptime.
     pub stalled: Option<u64>,
+
+    /// Why it is let go, as it is told once its connection has ended and all is written.
+    pub last: Option<Farewell>,
 }
 
 impl Standing {
-    /// That of a socket of which nothing is known.
-    pub fn new() -> Standing {
+    /// That of a socket to which this is owed.
+    pub fn new(owed: Bytes) -> Standing {
         Standing {
             stage: Stage::Open,
-            owed: Bytes::new(),
+            owed,
             may_read: true,
             may_write: true,
             asks: false,
@@ -64,6 +68,7 @@ impl Standing {
             is_told: false,
             is_lost: false,
             stalled: None,
+            last: None,
         }
     }
 
@@ -78,19 +83,37 @@ impl Standing {
     }
 }
 
+/// One that joins: its socket, what is owed to it, and its request with what it sent behind that.
+#[derive(Drop)]
+pub struct Joining {
+    pub stream: TcpStream,
+    pub owed: Bytes,
+    pub request: Vec<u8>,
+}
+
 /// A socket of the rooms.
 #[derive(Drop)]
 pub struct Member {
     pub stream: TcpStream,
     pub standing: Standing,
+
+    /// When something came last, in milliseconds of uptime.
+    pub heard: u64,
+
+    /// When it was sent a Ping, if nothing has come since, in milliseconds of uptime.
+    pub pinged: Option<u64>,
 }
 
 impl Member {
-    /// A socket of which nothing is known.
-    pub fn new(stream: TcpStream) -> Member {
+    /// One that joins now, in milliseconds of uptime. Its connection was told of its request.
+    pub fn new(stream: TcpStream, owed: Bytes, uptime: u64) -> Member {
+        let mut standing = Standing::new(owed);
+        standing.asks = true;
         Member {
             stream,
-            standing: Standing::new(),
+            standing,
+            heard: uptime,
+            pinged: None,
         }
     }
 }

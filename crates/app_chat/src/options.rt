@@ -1,4 +1,5 @@
 //! The words that the program is started with.
+use std::alloc::Global;
 use thiserror::Error;
 
 pub const VERSION: &str = "app_chat 0.1.0";
@@ -6,23 +7,28 @@ pub const VERSION: &str = "app_chat 0.1.0";
 pub const HELP: &str = "app_chat PORT [OPTIONS]
 
 Chat rooms over WebSocket. A room is a path: who joins ws://ADDRESS:PORT/kitchen hears what the others say there. A page
-to chat with is served over HTTP/1 on the next port.
+to chat with is served over HTTP/1 at http://ADDRESS:PORT/. The next port serves the same.
 
-  PORT             the port of the rooms; the page is at PORT + 1; 0: the system chooses both
+  PORT             the port; PORT + 1 is the other one; 0: the system chooses both
   --bind ADDRESS   the address to listen on, of IPv4 or IPv6: 127.0.0.1 by default, which only this machine reaches;
                    0.0.0.0 and :: are all
+  --origin URL     let only pages of this site join, as https://chat.example:8443, and what is no browser; may be given
+                   several times. Without it pages of all sites may
   --ignore-input   go on where the standard input ends, as that of a service does at once
   --help           print this and end
   --version        print the version and end
 
-It ends where the standard input ends. At most 512 members are there at once. Who doesn't read is told Close 1008 once
-1024 frames wait for it, and is cut off where it takes nothing for 30 seconds. The Origin of a request isn't checked: a
-page of any site that a member visits may join the rooms in that member's browser.
+It ends where the standard input ends. At most 512 members are there at once; a further one gets 503. A frame has at
+most 65,536 bytes and a message 1,048,576, else its member is told Close 1009. Who doesn't read is told Close 1008 once
+1024 frames wait for it, and is cut off where it takes nothing for 30 seconds. Who is silent for 20 seconds is sent a
+Ping, and is told Close 1008 after 20 more. Without --origin a page of any site that a member visits may join the rooms
+in that member's browser.
 
 It ends with status 0, 1 where the system fails to tell what is ready, 2 for words out of form, 4 where an address can't
 be listened on, and 5 where memory runs out.";
 
 /// What the program is to do.
+#[derive(Drop)]
 pub enum Command<'a> {
     Help,
     Version,
@@ -30,7 +36,7 @@ pub enum Command<'a> {
 }
 
 /// Where the rooms and the page are, and when the program ends.
-#[derive(Clone, Copy)]
+#[derive(Drop)]
 pub struct Options<'a> {
     /// The port of the rooms.
     pub port: u16,
@@ -38,6 +44,9 @@ pub struct Options<'a> {
     /// The port of the page.
     pub page_port: u16,
     pub address: &'a str,
+
+    /// The sites that pages may come from, any where there is none.
+    pub origins: Vec<String>,
 
     /// It goes on where the standard input ends.
     pub ignores_input: bool,
@@ -58,15 +67,22 @@ pub enum UsageError {
     #[error("--bind wants an address")]
     Bind,
 
+    #[error("--origin wants a scheme and a host, as https://chat.example")]
+    Origin,
+
+    #[error("no memory is left")]
+    NoMemory,
+
     #[error("there is no such option")]
     Option,
 }
 
 /// Reads the words, without the program's name.
-pub fn read(words: &[String]) -> Result<Command<'_>, UsageError> {
+pub fn read(alloc: Global, words: &[String]) -> Result<Command<'_>, UsageError> {
     let mut port = None;
     let mut address = None;
     let mut ignores_input = false;
+    let mut origins = Vec::new(alloc);
     let mut rest = words.iter();
     while let Some(word) = rest.next() {
         match word.as_str() {
@@ -74,6 +90,10 @@ pub fn read(words: &[String]) -> Result<Command<'_>, UsageError> {
             "--version" => return Ok(Command::Version),
             "--ignore-input" => ignores_input = true,
             "--bind" => address = Some(rest.next().ok_or(UsageError::Bind)?.as_str()),
+            "--origin" => {
+                let origin = rest.next().ok_or(UsageError::Origin)?;
+                add_origin(&mut origins, origin)?;
+            }
             option if option.starts_with('-') => return Err(UsageError::Option),
             text if port.is_none() => {
                 port = Some(text.parse::<u16>().map_err(|_| UsageError::Port)?);
@@ -88,8 +108,26 @@ pub fn read(words: &[String]) -> Result<Command<'_>, UsageError> {
         port,
         page_port: next_port(port)?,
         address: address.unwrap_or("127.0.0.1"),
+        origins,
         ignores_input,
     }))
+}
+
+// Adds one that a browser may name: a scheme and what follows, without a path.
+fn add_origin(origins: &mut Vec<String>, origin: &String) -> Result<(), UsageError> {
+    let Some((scheme, host)) = origin.as_str().split_once("://") else {
+        return Err(UsageError::Origin);
+    };
+    if scheme.is_empty() || host.is_empty() || host.split_once('/').is_some() {
+        return Err(UsageError::Origin);
+    }
+    let Ok(copy) = origin.clone() else {
+        return Err(UsageError::NoMemory);
+    };
+    if origins.push(copy).is_err() {
+        return Err(UsageError::NoMemory);
+    }
+    Ok(())
 }
 
 // The port of the page.

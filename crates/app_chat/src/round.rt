@@ -5,6 +5,7 @@ ghost use Rattle.rooms.specs.Hub.{HubState};
 ghost use Rattle.app_chat.specs.Moves.{Moves};
 ghost use Rattle.app_chat.specs.Flow.{Passes, sides};
 
+use crate::control::Farewell;
 use crate::flow::{TakenIn, take_in, write};
 use crate::house::House;
 use crate::member::{Stage, Standing};
@@ -119,6 +120,9 @@ enum Effect {
     Nothing,
     Some,
     SaysClose,
+
+    // A rule is broken: it is told so once all else is written.
+    Breaks(Farewell),
     Ends,
 }
 
@@ -136,6 +140,13 @@ fn take_turn(house: &mut House, number: usize, standing: &mut Standing) -> Resul
         Effect::Some => Ok(true),
         Effect::SaysClose => {
             standing.stage = Stage::Closing;
+            Ok(true)
+        }
+        Effect::Breaks(farewell) => {
+            // After a Close nothing more is said.
+            if standing.stage == Stage::Open {
+                standing.last = Some(farewell);
+            }
             Ok(true)
         }
         Effect::Ends => {
@@ -159,6 +170,7 @@ fn effect_of(turn: &Option<HubTurn>) -> Effect {
     match &turn.outcome {
         Outcome::Pending => Effect::Nothing,
         Outcome::Closed(_) | Outcome::Abandoned => Effect::Ends,
+        Outcome::Protocol(error) => Effect::Breaks(Farewell::of(*error)),
         _ => {
             if says_close(&turn.event) {
                 return Effect::SaysClose;
@@ -237,8 +249,8 @@ fn fetch(house: &mut House, number: usize, standing: &mut Standing) -> Result<()
     }
 }
 
-// How many bytes its connection has to write.
-fn buffered(house: &House, number: usize) -> usize {
+/// How many bytes its connection has to write.
+pub fn buffered(house: &House, number: usize) -> usize {
     match house.connection(number) {
         Some(connection) if connection.can_write() => connection.buffered(),
         _ => 0,

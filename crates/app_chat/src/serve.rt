@@ -1,7 +1,8 @@
 //! One round of a member, whose socket is closed once its connection has ended and all was written.
+use crate::control::say;
 use crate::house::House;
 use crate::member::{Member, Stage};
-use crate::round::{Round, go_round};
+use crate::round::{Round, buffered, go_round};
 use net_sockets::{Incoming, Outgoing};
 use rooms::NoMemory;
 use std::io::Read;
@@ -36,20 +37,34 @@ pub fn serve(
     }
     let limit = if reads { room.len() } else { 0 };
     let mut round = go(house, number, member, &mut room[..limit], uptime)?;
-    if member.standing.stage != Stage::Ended || !member.standing.owed.is_empty() {
-        return Ok(Served {
-            round,
-            is_over: false,
-        });
+    if round.read > 0 {
+        member.heard = uptime;
+        member.pinged = None;
     }
-    if !member.standing.is_lost {
-        round.moved = true;
-        shut(member, uptime);
+    let is_over = end(house, number, member, uptime, &mut round.moved);
+    Ok(Served { round, is_over })
+}
+
+// Ends what has nothing more to do, and says whether its socket is done with.
+fn end(house: &House, number: usize, member: &mut Member, uptime: u64, moved: &mut bool) -> bool {
+    let standing = &mut member.standing;
+    if standing.stage != Stage::Ended || !standing.owed.is_empty() {
+        return false;
     }
-    Ok(Served {
-        round,
-        is_over: member.standing.is_lost,
-    })
+    if standing.is_lost {
+        return true;
+    }
+    if buffered(house, number) > 0 {
+        return false;
+    }
+    *moved = true;
+    if let Some(farewell) = standing.last {
+        standing.last = None;
+        say(&mut standing.owed, farewell.close());
+        return false;
+    }
+    shut(member, uptime);
+    false
 }
 
 // A round over its socket.

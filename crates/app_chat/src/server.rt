@@ -1,6 +1,7 @@
 //! The loop: it waits until a socket is ready, and gives every member and every visit of the page a round.
+use crate::gate::Gate;
 use crate::hall::{Hall, READ_SIZE};
-use crate::page::Page;
+use crate::member::Joining;
 use crate::visit::{Progress, Visit};
 use http_types::{NoMemory, ServiceConfig};
 use mio::net::{TcpListener, TcpStream};
@@ -24,8 +25,8 @@ const PAGE_TOKEN: usize = 2;
 /// The tokens of visits begin here, and those of members behind them.
 const VISITS: usize = 16;
 
-/// The most visits of the page at once.
-const MAX_VISITS: usize = 64;
+/// The most connections at once that haven't joined.
+const MAX_VISITS: usize = 256;
 
 const MEMBERS: usize = VISITS + MAX_VISITS;
 
@@ -34,9 +35,6 @@ const EVENTS: usize = 256;
 
 /// The most rounds before sockets are asked for again.
 const ROUNDS: u32 = 16;
-
-/// The most connections that are accepted at once.
-const ACCEPTS: u32 = 64;
 
 /// How long a wait takes at most, and how often the time is told, in milliseconds.
 const SECOND: u64 = 1000;
@@ -67,10 +65,10 @@ pub struct Server {
     rooms: TcpListener,
     pages: TcpListener,
     hall: Hall,
-    page: Page,
+    gate: Gate,
     visits: Vec<Option<Visit>>,
     room: Vec<u8>,
-    may_join: bool,
+    may_accept: bool,
     may_visit: bool,
     input_ended: bool,
     last_tick: u64,
@@ -83,7 +81,7 @@ impl Server {
         config: ServiceConfig,
         mut rooms: TcpListener,
         mut pages: TcpListener,
-        page: Page,
+        gate: Gate,
     ) -> Result<Server, ServeError> {
         let alloc = rt.alloc();
         let Ok(poll) = Poll::new(&rt) else {
@@ -108,10 +106,10 @@ impl Server {
             rooms,
             pages,
             hall: Hall::new(alloc, config)?,
-            page,
+            gate,
             visits: no_visits(alloc)?,
             room: Vec::from_elem(alloc, 0, READ_SIZE)?,
-            may_join: true,
+            may_accept: true,
             may_visit: true,
             input_ended: false,
             last_tick: 0,
@@ -149,7 +147,7 @@ impl Server {
     fn note(&mut self, token: usize, may_read: bool, may_write: bool) {
         match token {
             INPUT_TOKEN => self.read_input(),
-            ROOMS_TOKEN => self.may_join = true,
+            ROOMS_TOKEN => self.may_accept = true,
             PAGE_TOKEN => self.may_visit = true,
             _ if token >= MEMBERS => self.hall.note(token - MEMBERS, may_read, may_write),
             _ => {
@@ -167,12 +165,11 @@ impl Server {
         if uptime.saturating_sub(self.last_tick) >= SECOND {
             self.last_tick = uptime;
             // Descriptors may be free again.
-            self.may_join = true;
+            self.may_accept = true;
             self.may_visit = true;
             self.hall.tick(moment, uptime)?;
         }
-        self.accept_members(moment)?;
-        self.accept_visits(uptime)?;
+        self.accept(uptime);
         let goes_on = self.serve_visits(moment, uptime)?;
         for _ in 0..ROUNDS {
             if !self.hall.round(uptime)? {
@@ -182,53 +179,44 @@ impl Server {
         Ok(true)
     }
 
-    fn accept_members(&mut self, moment: u64) -> Result<(), ServeError> {
-        for _ in 0..ACCEPTS {
-            if !self.may_join {
-                break;
-            }
-            let Some(number) = self.hall.next_number() else {
-                break;
-            };
-            let Some(mut stream) = accept(&self.rooms, &mut self.may_join) else {
-                continue;
-            };
-            if register(&self.poll, &mut stream, MEMBERS.saturating_add(number)) {
-                self.hall.admit(stream, moment)?;
-            }
-        }
-        Ok(())
-    }
-
-    fn accept_visits(&mut self, uptime: u64) -> Result<(), ServeError> {
+    // Accepts connections at both ports.
+    fn accept(&mut self, uptime: u64) {
         let mut slot: usize = 0;
         for place in &mut self.visits {
-            if !self.may_visit {
-                break;
-            }
-            if place.is_none()
-                && let Some(mut stream) = accept(&self.pages, &mut self.may_visit)
-                && register(&self.poll, &mut stream, VISITS.saturating_add(slot))
-            {
-                *place = Some(Visit::new(self.alloc, self.config, stream, uptime));
+            if place.is_none() {
+                let mut accepted = accept(&self.rooms, &mut self.may_accept);
+                if accepted.is_none() {
+                    accepted = accept(&self.pages, &mut self.may_visit);
+                }
+                if let Some(mut stream) = accepted
+                    && register(&self.poll, &mut stream, VISITS.saturating_add(slot))
+                {
+                    *place = Some(Visit::new(self.alloc, self.config, stream, uptime));
+                }
             }
             slot = slot.saturating_add(1);
         }
-        Ok(())
     }
 
     // Serves each visit for a while, and says whether one may go on at once.
     fn serve_visits(&mut self, moment: u64, uptime: u64) -> Result<bool, ServeError> {
         let mut goes_on = false;
         for place in &mut self.visits {
+            let is_full = self.hall.next_number().is_none();
             let progress = match place {
-                Some(visit) => visit.serve(&self.page, &mut self.room, moment, uptime)?,
+                Some(visit) => visit.serve(&self.gate, is_full, &mut self.room, moment, uptime)?,
                 None => Progress::Waits,
             };
             match progress {
                 Progress::More => goes_on = true,
                 Progress::Waits => {}
                 Progress::Over => *place = None,
+                Progress::Joins => {
+                    if let Some(visit) = place.take() {
+                        let joining = visit.into_joining()?;
+                        admit(&mut self.hall, &self.poll, joining, moment, uptime)?;
+                    }
+                }
             }
         }
         Ok(goes_on)
@@ -272,8 +260,34 @@ fn no_visits(alloc: Global) -> Result<Vec<Option<Visit>>, NoMemory> {
     Ok(visits)
 }
 
+// Has one join, whose socket is told ready under its new number from now on.
+fn admit(
+    hall: &mut Hall,
+    poll: &Poll,
+    mut joining: Joining,
+    moment: u64,
+    uptime: u64,
+) -> Result<(), NoMemory> {
+    let Some(number) = hall.next_number() else {
+        return Ok(());
+    };
+    let interests = Interest::READABLE | Interest::WRITABLE;
+    let token = Token(MEMBERS.saturating_add(number));
+    if poll
+        .registry()
+        .reregister(&mut joining.stream, token, interests)
+        .is_ok()
+    {
+        hall.admit(joining, moment, uptime)?;
+    }
+    Ok(())
+}
+
 // The next connection, where one waits; `may_accept` says whether there may be more.
 fn accept(listener: &TcpListener, may_accept: &mut bool) -> Option<TcpStream> {
+    if !*may_accept {
+        return None;
+    }
     match listener.accept() {
         Ok((stream, _)) => {
             // Small pieces go out at once.

@@ -1,14 +1,8 @@
 //! The page, its style and its script.
 
-/// The page up to the port of the rooms.
-pub const BEFORE_ROOMS: &str = r##"<!doctype html>
-<html lang="en" data-rooms=""##;
-
-/// The page between the port of the rooms and its own.
-pub const BEFORE_PAGE: &str = r##"" data-page=""##;
-
-/// The rest of the page.
-pub const AFTER_PAGE: &str = r##"">
+/// The page.
+pub const HTML: &str = r##"<!doctype html>
+<html lang="en">
 <head>
 <meta charset="utf-8">
 <meta name="viewport" content="width=device-width, initial-scale=1">
@@ -37,8 +31,8 @@ pub const AFTER_PAGE: &str = r##"">
 <noscript><p>This page needs JavaScript for its WebSocket.</p></noscript>
 <footer>
 <p>Nothing that is said is kept: who joins later doesn't see it. Names aren't checked.</p>
-<p>The rooms don't check the <code>Origin</code> of a request: a page of any site that you visit may join them from your
-browser, if your browser can reach them.</p>
+<p>Unless the server was started with <code>--origin</code>, a page of any site that you visit may join the rooms from
+your browser, if your browser can reach them.</p>
 </footer>
 </main>
 </body>
@@ -80,8 +74,9 @@ const LONGEST_WAIT = 30;
 // Why a socket was closed, by its code (RFC 6455, section 7.4.1).
 const REASONS = {
   1000: "You left the room.",
+  1002: "The server couldn't read what your browser sent.",
   1007: "The server was sent text that isn't UTF-8.",
-  1008: "The server cut you off: too much was waiting for you.",
+  1008: "The server cut you off: too much was waiting for you, or nothing was heard of you.",
   1009: "A message was too long for the server.",
 };
 let socket = null;
@@ -108,17 +103,23 @@ function show(inside) {
 }
 
 function address(room) {
-  const ports = document.documentElement.dataset;
-  const scheme = location.protocol === "https:" ? "wss://" : "ws://";
-  // A page that came through a proxy finds the rooms there, too.
-  const host = location.port === ports.page ? location.hostname + ":" + ports.rooms : location.host;
-  return scheme + host + "/" + encodeURIComponent(room);
+  return location.host + "/" + encodeURIComponent(room);
+}
+
+// Why a room couldn't be joined: a browser doesn't tell a page what its WebSocket was answered.
+async function whyNot(room) {
+  try {
+    const answer = await fetch("//" + address(room), { cache: "no-store" });
+    if (answer.status === 503) return "The rooms are full.";
+    if (answer.status === 404) return "The server lets no page of this site join.";
+  } catch { /* It can't be reached. */ }
+  return "The room can't be reached.";
 }
 
 function join() {
   clearTimeout(again);
   const room = at("room").value.trim();
-  const own = new WebSocket(address(room));
+  const own = new WebSocket((location.protocol === "https:" ? "wss://" : "ws://") + address(room));
   let opened = false;
   socket = own;
   tell("Joining " + room + " \u2026");
@@ -131,7 +132,7 @@ function join() {
     at("text").focus();
   };
   own.onmessage = event => { add(typeof event.data === "string" ? event.data : "(bytes, which this page doesn't show)"); };
-  own.onclose = event => {
+  own.onclose = async event => {
     if (socket !== own) return;
     socket = null;
     const reason = REASONS[event.code];
@@ -141,7 +142,7 @@ function join() {
       show(false);
       return;
     }
-    const what = opened ? "The connection ended (code " + event.code + "); what is said meanwhile is missed." : "The room can't be reached.";
+    const what = opened ? "The connection ended (code " + event.code + "); what is said meanwhile is missed." : await whyNot(room);
     tell(what + " Joining again in " + wait + (wait === 1 ? " second." : " seconds."));
     again = setTimeout(join, wait * 1000);
     wait = Math.min(wait * 2, LONGEST_WAIT);

@@ -1,9 +1,14 @@
-//! A connection of the page.
-use crate::page::Page;
+//! A connection that hasn't joined a room: it is answered, and joins where it asks for that and may.
+use crate::gate::{Gate, Verdict};
+use crate::member::Joining;
+use crate::page::{Reply, forbidden, full, malformed, outdated, page_for};
+use bytes::Bytes;
 use h1_connection::{
-    BodySize, Connection, Expiry, NextHead, NoMemory, ReadFromError, ServiceConfig,
+    Accepted, BodySize, Connection, Expiry, HeadItem, NextHead, NoMemory, ReadFromError,
+    RequestHead, ServiceConfig,
 };
-use http_types::{RequestHead, Sink};
+use http_types::Sink;
+use http_types::header::SEC_WEBSOCKET_KEY;
 use mio::net::TcpStream;
 use net_sockets::{Incoming, Outgoing, Polled};
 use std::alloc::Global;
@@ -19,6 +24,13 @@ const LONGEST: u64 = 30_000;
 /// How long a peer is waited for after the last byte was written, in milliseconds.
 const LINGER: u64 = 2000;
 
+/// The most bytes of a frame's payload.
+const FRAME: usize = 65_536;
+
+/// The lines of a request to join, but for its target and its key.
+const LINES: &[u8] =
+    b" HTTP/1.1\r\nupgrade: websocket\r\nconnection: upgrade\r\nsec-websocket-version: 13\r\nsec-websocket-key: ";
+
 /// How far a visit has come.
 #[derive(Clone, Copy)]
 pub enum Progress {
@@ -30,11 +42,15 @@ pub enum Progress {
 
     /// It is over.
     Over,
+
+    /// It joins a room.
+    Joins,
 }
 
-/// A socket of the page.
+/// A socket that hasn't joined.
 #[derive(Drop)]
 pub struct Visit {
+    alloc: Global,
     stream: TcpStream,
     connection: Connection,
     may_read: bool,
@@ -45,18 +61,25 @@ pub struct Visit {
 
     // Its connection has ended, and all was written.
     is_lingering: bool,
+
+    // The request by which it joins, and what is owed to it from before.
+    request: Vec<u8>,
+    owed: Bytes,
 }
 
 impl Visit {
     /// A visit that begins now, in milliseconds of uptime.
     pub fn new(alloc: Global, config: ServiceConfig, stream: TcpStream, uptime: u64) -> Visit {
         Visit {
+            alloc,
             stream,
             connection: Connection::new(alloc, config),
             may_read: true,
             may_write: true,
             until: uptime.saturating_add(LONGEST),
             is_lingering: false,
+            request: Vec::new(alloc),
+            owed: Bytes::new(),
         }
     }
 
@@ -66,10 +89,11 @@ impl Visit {
         self.may_write = self.may_write || may_write;
     }
 
-    /// Serves it for a while, without waiting.
+    /// Serves it for a while, without waiting. Where `is_full` is true none may join.
     pub fn serve(
         &mut self,
-        page: &Page,
+        gate: &Gate,
+        is_full: bool,
         room: &mut [u8],
         moment: u64,
         uptime: u64,
@@ -83,7 +107,7 @@ impl Visit {
         if self.tell_time(moment)? {
             return Ok(Progress::Over);
         }
-        self.take_turns(page, uptime)
+        self.take_turns(gate, is_full, uptime)
     }
 
     // Tells the moment, and says whether its peer took too long.
@@ -99,7 +123,12 @@ impl Visit {
     }
 
     // Reads, answers and writes.
-    fn take_turns(&mut self, page: &Page, uptime: u64) -> Result<Progress, NoMemory> {
+    fn take_turns(
+        &mut self,
+        gate: &Gate,
+        is_full: bool,
+        uptime: u64,
+    ) -> Result<Progress, NoMemory> {
         for _ in 0..TURNS {
             if self.read()? || self.write() {
                 return Ok(Progress::Over);
@@ -108,7 +137,11 @@ impl Visit {
                 return Ok(Progress::Waits);
             }
             match self.connection.next()? {
-                NextHead::Head(item) => self.answer(page, &item.head)?,
+                NextHead::Head(item) => {
+                    if self.judge(gate, is_full, &item)? {
+                        return Ok(Progress::Joins);
+                    }
+                }
                 NextHead::Fault(_) => {}
                 NextHead::Pending => {
                     if !self.may_read {
@@ -144,9 +177,61 @@ impl Visit {
         Ok(false)
     }
 
+    // Answers the open request, or accepts it, and says whether it joins by it.
+    fn judge(&mut self, gate: &Gate, is_full: bool, item: &HeadItem) -> Result<bool, NoMemory> {
+        let reply = match gate.judge(&item.head) {
+            Verdict::Page => page_for(self.alloc, &item.head, is_full)?,
+            Verdict::Outdated => outdated(self.alloc)?,
+            Verdict::Forbidden => forbidden(self.alloc)?,
+            Verdict::Join if is_full => full(self.alloc)?,
+            Verdict::Join => {
+                if self.join(item)? {
+                    return Ok(true);
+                }
+                malformed(self.alloc)?
+            }
+        };
+        self.answer(&reply)?;
+        Ok(false)
+    }
+
+    // Accepts the open request where that may be, and says whether it did.
+    fn join(&mut self, item: &HeadItem) -> Result<bool, NoMemory> {
+        let before = self.connection.buffered();
+        if !self.connection.can_accept(FRAME) {
+            return Ok(false);
+        }
+        match self.connection.accept(FRAME)? {
+            Accepted::Done => {}
+            Accepted::Refused(_) => return Ok(false),
+        }
+        // The answer to this request is that of the rooms' own connection.
+        if self.connection.can_write() {
+            self.owed = self.connection.write(before)?;
+        }
+        put_request(&mut self.request, item.target.as_slice(), &item.head)?;
+        Ok(true)
+    }
+
+    /// What joins: its socket, with what is owed to it and what it sent.
+    pub fn into_joining(self) -> Result<Joining, NoMemory> {
+        let Visit {
+            stream,
+            connection,
+            mut request,
+            owed,
+            ..
+        } = self;
+        put_held(&connection, &mut request)?;
+        Ok(Joining {
+            stream,
+            owed,
+            request,
+        })
+    }
+
     // Answers the open request.
-    fn answer(&mut self, page: &Page, asked: &RequestHead) -> Result<(), NoMemory> {
-        let reply = page.reply(asked)?;
+    fn answer(&mut self, reply: &Reply) -> Result<(), NoMemory> {
         if self.connection.can_answer() {
             let size = BodySize::Sized(reply.body.len() as u64);
             self.connection.answer(&reply.head, size)?;
@@ -216,4 +301,30 @@ impl Visit {
         }
         Progress::More
     }
+}
+
+// The request by which a connection of the rooms is joined, behind nothing else.
+fn put_request(out: &mut Vec<u8>, target: &[u8], head: &RequestHead) -> Result<(), NoMemory> {
+    out.extend_from_slice(b"GET ")?;
+    out.extend_from_slice(target)?;
+    out.extend_from_slice(LINES)?;
+    if let Some(key) = head.headers.get(SEC_WEBSOCKET_KEY) {
+        out.extend_from_slice(key.as_bytes())?;
+    }
+    out.extend_from_slice(b"\r\n\r\n")?;
+    Ok(())
+}
+
+// What a connection holds, behind other bytes.
+fn put_held(connection: &Connection, out: &mut Vec<u8>) -> Result<(), NoMemory> {
+    let mut start: usize = 0;
+    for _ in 0..connection.held() {
+        let piece = connection.held_bytes(start);
+        if piece.is_empty() {
+            break;
+        }
+        start = start.saturating_add(piece.len());
+        out.extend_from_slice(piece)?;
+    }
+    Ok(())
 }
