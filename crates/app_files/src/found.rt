@@ -105,8 +105,8 @@ impl Unlisted {
     }
 }
 
-/// The names in a folder, in order, those with a dot in front only where they are to be shown. One that can't be looked at
-/// is left out.
+/// The names in a folder, in order, those with a dot in front only where they are to be shown. One that isn't UTF-8 is left
+/// out, as is one that can't be looked at.
 pub fn entries(
     rt: &HostRuntime,
     path: &FilePath,
@@ -121,6 +121,8 @@ pub fn entries(
     for item in listing {
         let item = match item {
             Ok(item) => item,
+            // A path is text here, so there is no file of such a name that could be served.
+            Err(error) if error.kind() == ErrorKind::InvalidFilename => continue,
             Err(error) => return Err(Unlisted::of(&error)),
         };
         if !shows_dots && item.file_name().starts_with('.') {

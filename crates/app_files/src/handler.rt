@@ -2,16 +2,17 @@
 ghost use Rattle.std.specs.Prelude.{None};
 ghost use Rattle.serve_blocking.specs.Served.{Follows};
 
+use crate::asked::{bytes_of, conditions_of};
 use crate::found::{Found, Unlisted, entries, is_file, look, open};
 use crate::reply::{Sent, add, add_range, file_head, page_head};
 use crate::shared::Shared;
 use http_files::{
-    Asked, FilePath, PathError, asked_range, content_type, folder_page, is_unchanged_since,
-    line_text, lists_etag, message_page, place_of,
+    Asked, FilePath, PathError, Verdict, content_type, folder_page, line_text, message_page,
+    place_of,
 };
 use http_types::header::CONTENT_TYPE;
 use http_types::header::names::{ALLOW, LOCATION};
-use http_types::{HeaderMap, Method, NoMemory, RequestHead, ResponseHead, StatusCode};
+use http_types::{Method, NoMemory, RequestHead, ResponseHead, StatusCode};
 use net_sockets::{TimedSink, TimedSource};
 use serve_blocking::{Answer, Body, HandleError, Handler, Handlers, Incoming};
 use std::alloc::Global;
@@ -205,7 +206,7 @@ impl FileHandler {
         send_page(head, StatusCode::OK, page.as_str(), body, answer)
     }
 
-    // Answers with a file, or a part of it, or that the client has it.
+    // Answers with a file, or a part of it, or as its conditions say.
     #[tactic(auto, using(serve_blocking::proofs::Followed::follows_none, serve_blocking::proofs::Followed::follows_then))]
     fn file<S: TimedSource, K: TimedSink>(
         &mut self,
@@ -216,7 +217,6 @@ impl FileHandler {
     ) -> Result<Sent, HandleError>
         ensures follows { Follows body.old body.new }
     {
-        let alloc = self.alloc;
         let mut file = match open(&self.rt, path) {
             Ok(file) => file,
             Err(status) => return self.refuse(status, body, answer),
@@ -224,18 +224,38 @@ impl FileHandler {
         let Ok(metadata) = file.metadata() else {
             return self.refuse(StatusCode::INTERNAL_SERVER_ERROR, body, answer);
         };
-        let found = Found::new(alloc, &metadata)?;
-        if has_it(&request.headers, &found) {
-            let status = StatusCode::NOT_MODIFIED;
-            answer.empty(body, file_head(alloc, status, &found)?)?;
-            return Ok(Sent { status, length: 0 });
+        let found = Found::new(self.alloc, &metadata)?;
+        match conditions_of(&request.headers, &found).verdict() {
+            Verdict::Served => self.send_file(request, path, &mut file, &found, body, answer),
+            Verdict::Unmodified => {
+                let status = StatusCode::NOT_MODIFIED;
+                answer.empty(body, file_head(self.alloc, status, &found)?)?;
+                Ok(Sent { status, length: 0 })
+            }
+            Verdict::Failed => self.refuse(StatusCode::PRECONDITION_FAILED, body, answer),
         }
-        let (status, part) = match asked_of(request, &found) {
+    }
+
+    // Answers with a file, or with a part of it.
+    #[tactic(auto, using(serve_blocking::proofs::Followed::follows_none, serve_blocking::proofs::Followed::follows_then))]
+    fn send_file<S: TimedSource, K: TimedSink>(
+        &mut self,
+        request: &RequestHead,
+        path: &FilePath,
+        file: &mut File,
+        found: &Found,
+        body: &mut Body<S, K>,
+        answer: Answer,
+    ) -> Result<Sent, HandleError>
+        ensures follows { Follows body.old body.new }
+    {
+        let alloc = self.alloc;
+        let (status, part) = match bytes_of(request, found) {
             Asked::Whole => (StatusCode::OK, None),
             Asked::Part(first, last) => (StatusCode::PARTIAL_CONTENT, Some((first, last))),
             Asked::Unsatisfiable => (StatusCode::RANGE_NOT_SATISFIABLE, None),
         };
-        let mut head = file_head(alloc, status, &found)?;
+        let mut head = file_head(alloc, status, found)?;
         add(alloc, &mut head, CONTENT_TYPE, content_type(path.as_str()))?;
         if status != StatusCode::OK {
             add_range(alloc, &mut head, part, found.length)?;
@@ -246,7 +266,7 @@ impl FileHandler {
             None => (0, 0),
         };
         let is_head = request.method == Method::HEAD;
-        self.send(&mut file, is_head, first, length, head, body, answer)?;
+        self.send(file, is_head, first, length, head, body, answer)?;
         Ok(Sent { status, length })
     }
 
@@ -310,44 +330,4 @@ fn send_page<S: TimedSource, K: TimedSink>(
         status,
         length: page.len() as u64,
     })
-}
-
-// Whether the client has the file already (RFC 7232, section 6).
-fn has_it(headers: &HeaderMap, found: &Found) -> bool {
-    if let Some(tags) = headers.get("if-none-match") {
-        return lists_etag(tags.to_str().unwrap_or(""), &found.tag);
-    }
-    match headers.get("if-modified-since") {
-        Some(date) => is_unchanged_since(date.as_bytes(), found.changed),
-        None => false,
-    }
-}
-
-// Which bytes are asked for. Of a file that isn't the one that `If-Range` means, all of them (RFC 7233, section 3.2).
-fn asked_of(request: &RequestHead, found: &Found) -> Asked {
-    if request.method != Method::GET {
-        return Asked::Whole;
-    }
-    let Some(range) = request.headers.get("range") else {
-        return Asked::Whole;
-    };
-    let is_meant = match request.headers.get("if-range") {
-        Some(value) => is_same(value.as_bytes(), found),
-        None => true,
-    };
-    match range.to_str() {
-        Ok(range) if is_meant => asked_range(range, found.length),
-        _ => Asked::Whole,
-    }
-}
-
-// Whether it is the file's tag, or its date.
-fn is_same(value: &[u8], found: &Found) -> bool {
-    if value == found.tag.as_bytes() {
-        return true;
-    }
-    match found.date() {
-        Some(date) => value == date.as_slice(),
-        None => false,
-    }
 }

@@ -1,6 +1,7 @@
 //! Serves the files of a folder over HTTP/1: `app_files PORT FOLDER`.
 #![tactic(auto)]
 
+mod asked;
 mod found;
 mod handler;
 mod options;

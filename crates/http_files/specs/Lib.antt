@@ -1,3 +1,4 @@
+pub mod Conditions
 pub mod Inside
 pub mod LogText
 pub mod Names

@@ -1,5 +1,5 @@
 //! What a server of static files has to know, without a file and without a socket: where a target's file lies, which of
-//! its bytes are asked for, whether the client has it already, of which type it is, and how a folder's page looks.
+//! its bytes are asked for, on which conditions, of which type it is, and how a folder's page looks.
 //!
 //! # Example
 //!
@@ -23,7 +23,7 @@ mod places;
 mod ranges;
 mod types;
 
-pub use conditions::{etag, is_unchanged_since, lists_etag};
+pub use conditions::{Conditions, Verdict, etag, is_unchanged_since, lists_etag, lists_strong_etag};
 pub use error::PathError;
 pub use listing::{Entry, folder_page, message_page};
 pub use log_text::line_text;
