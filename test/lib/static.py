@@ -1,13 +1,13 @@
-"""The file server's clients, for test/clients: conditions, ranges, names, and the options of app_files."""
-import os
-from checks import check, differs, run
+"""The file server's clients, for test/clients: conditions, ranges, names, pages, and the options of app_files."""
+import os, subprocess
+from checks import check, differs, free_port, run, wait_for
 
 BEFORE = "Sat, 01 Jan 2000 00:00:00 GMT"
 
 
 def field_of(url, name, *words):
-    """The value of a field of the answer to a HEAD, or nothing."""
-    head = run("curl", "-sSI", *words, url).stdout.decode()
+    """The value of a field of the answer to a GET, or nothing."""
+    head = run("curl", "-sS", "-o", "/dev/null", "-D", "-", *words, url).stdout.decode()
     values = [line.split(": ", 1)[1] for line in head.split("\r\n") if line.lower().startswith(name + ":")]
     return values[0] if values else None
 
@@ -18,43 +18,49 @@ def status_of(url, *lines):
     return run("curl", "-sS", "-o", "/dev/null", "-w", "%{http_code}", *words, url).stdout.decode()
 
 
-def static_clients(files, folder):
+def static_clients(files, folder, program):
+    """The clients of a file server, and of others of the same folder where there is the program."""
     url = "http://%s:%d" % files
     condition_clients(url)
     range_clients(f"{url}/big.bin", open(f"{folder}/big.bin", "rb").read())
     name_clients(url, folder)
+    page_clients(url, folder)
+    if program:
+        option_clients(program, folder)
 
 
 # ---- conditions (RFC 9110, 13.2.2)
 
+def judged(url, name, wanted, *lines):
+    """The status that is wanted of a request with these lines, which may name the file's tag and its date."""
+    def make():
+        given = {"tag": field_of(url, "etag"), "date": field_of(url, "last-modified"), "before": BEFORE}
+        return differs(status_of(url, *[line % given for line in lines]), wanted)
+    check("curl, " + name, make)
+
+
 def condition_clients(url):
     big = f"{url}/big.bin"
-
-    def judged(name, wanted, *lines, of=big):
-        def make():
-            given = {"tag": field_of(big, "etag"), "date": field_of(big, "last-modified"), "before": BEFORE}
-            return differs(status_of(of, *[line % given for line in lines]), wanted)
-        check("curl, " + name, make)
-    judged("If-None-Match, the file's ETag", "304", "If-None-Match: %(tag)s")
-    judged("If-None-Match, another ETag", "200", 'If-None-Match: "a"')
-    judged("If-None-Match in two lines", "304", 'If-None-Match: "a"', "If-None-Match: %(tag)s")
-    judged("If-Modified-Since, the file's date", "304", "If-Modified-Since: %(date)s")
-    judged("If-Modified-Since, a date before", "200", "If-Modified-Since: %(before)s")
-    judged("If-Match, the file's ETag", "200", "If-Match: %(tag)s")
-    judged("If-Match, the file's ETag among others", "200", 'If-Match: "a", W/"b", %(tag)s')
-    judged("If-Match in two lines", "200", 'If-Match: "a"', "If-Match: %(tag)s")
-    judged("If-Match, any", "200", "If-Match: *")
-    judged("If-Match, another ETag", "412", 'If-Match: "a"')
-    judged("If-Match, the file's ETag as a weak one", "412", "If-Match: W/%(tag)s")
-    judged("If-Unmodified-Since, the file's date", "200", "If-Unmodified-Since: %(date)s")
-    judged("If-Unmodified-Since, a date before", "412", "If-Unmodified-Since: %(before)s")
-    judged("If-Unmodified-Since, no date", "200", "If-Unmodified-Since: yesterday")
-    judged("If-Match counts, and no date beside it", "200", "If-Match: %(tag)s", "If-Unmodified-Since: %(before)s")
-    judged("If-Match comes before If-None-Match", "412", 'If-Match: "a"', "If-None-Match: %(tag)s")
-    judged("If-Unmodified-Since comes before If-Modified-Since", "412", "If-Unmodified-Since: %(before)s", "If-Modified-Since: %(date)s")
-    judged("If-None-Match counts after If-Match", "304", "If-Match: %(tag)s", "If-None-Match: %(tag)s")
-    judged("If-Match comes before a range", "412", 'If-Match: "a"', "Range: bytes=0-9")
-    judged("If-Match of a file that isn't there", "404", 'If-Match: "a"', of=f"{url}/nothing")
+    judged(big, "If-None-Match, the file's ETag", "304", "If-None-Match: %(tag)s")
+    judged(big, "If-None-Match, another ETag", "200", 'If-None-Match: "a"')
+    judged(big, "If-None-Match in two lines", "304", 'If-None-Match: "a"', "If-None-Match: %(tag)s")
+    judged(big, "If-Modified-Since, the file's date", "304", "If-Modified-Since: %(date)s")
+    judged(big, "If-Modified-Since, a date before", "200", "If-Modified-Since: %(before)s")
+    judged(big, "If-Match, the file's ETag", "200", "If-Match: %(tag)s")
+    judged(big, "If-Match, the file's ETag among others", "200", 'If-Match: "a", W/"b", %(tag)s')
+    judged(big, "If-Match in two lines", "200", 'If-Match: "a"', "If-Match: %(tag)s")
+    judged(big, "If-Match, any", "200", "If-Match: *")
+    judged(big, "If-Match, another ETag", "412", 'If-Match: "a"')
+    judged(big, "If-Match, the file's ETag as a weak one", "412", "If-Match: W/%(tag)s")
+    judged(big, "If-Unmodified-Since, the file's date", "200", "If-Unmodified-Since: %(date)s")
+    judged(big, "If-Unmodified-Since, a date before", "412", "If-Unmodified-Since: %(before)s")
+    judged(big, "If-Unmodified-Since, no date", "200", "If-Unmodified-Since: yesterday")
+    judged(big, "If-Match counts, and no date beside it", "200", "If-Match: %(tag)s", "If-Unmodified-Since: %(before)s")
+    judged(big, "If-Match comes before If-None-Match", "412", 'If-Match: "a"', "If-None-Match: %(tag)s")
+    judged(big, "If-Unmodified-Since comes before If-Modified-Since", "412", "If-Unmodified-Since: %(before)s", "If-Modified-Since: %(date)s")
+    judged(big, "If-None-Match counts after If-Match", "304", "If-Match: %(tag)s", "If-None-Match: %(tag)s")
+    judged(big, "If-Match comes before a range", "412", 'If-Match: "a"', "Range: bytes=0-9")
+    judged(f"{url}/nothing", "If-Match of a file that isn't there", "404", 'If-Match: "a"')
 
 
 # ---- ranges
@@ -91,3 +97,67 @@ def name_clients(url, folder):
         check("curl, " + name, lambda: differs(run("curl", "-sS", "-w", "%{http_code}", f"{url}/names/{path}").stdout, wanted))
     fetched("a name in UTF-8 by its escapes", "caf%C3%A9.txt", "café.txt200".encode())
     fetched("an escape in a name", "plain%2etxt", b"plain.txt200")
+
+
+# ---- pages of names
+
+def page_clients(url, folder):
+    """A page is as old as the youngest of what it shows."""
+    os.makedirs(f"{folder}/dated", exist_ok=True)
+    for name, second in ("a.txt", 1_000_000_000), ("b.txt", 1_100_000_000), ("", 1_050_000_000):
+        if name:
+            open(f"{folder}/dated/{name}", "w").close()
+        os.utime(f"{folder}/dated/{name}", (second, second))
+    page, date = f"{url}/dated/", "Tue, 09 Nov 2004 11:33:20 GMT"
+    check("curl, the date of a folder's page", lambda: differs(field_of(page, "last-modified"), date))
+    judged(page, "a folder's page, If-Modified-Since its date", "304", "If-Modified-Since: %(date)s")
+    judged(page, "a folder's page, If-Modified-Since before", "200", "If-Modified-Since: Tue, 09 Nov 2004 11:33:19 GMT")
+    judged(page, "a folder's page, If-Unmodified-Since before", "412", "If-Unmodified-Since: %(before)s")
+    judged(page, "a folder's page, If-Match with a tag", "412", 'If-Match: "a"')
+    judged(page, "a folder's page, If-Match without a tag", "412", "If-Match: ,")
+    judged(page, "a folder's page, If-Match any", "200", "If-Match: *")
+
+    def young():
+        # Within the second of its last change it may change again.
+        open(f"{folder}/dated/c.txt", "w").close()
+        seen = field_of(page, "last-modified"), status_of(page, "If-Modified-Since: Fri, 31 Dec 9999 23:59:59 GMT")
+        os.utime(f"{folder}/dated", (1_050_000_000, 1_050_000_000))
+        os.utime(f"{folder}/dated/c.txt", (9_000_000_000, 9_000_000_000))
+        return differs((seen, field_of(page, "last-modified")), ((None, "200"), None))
+    check("curl, a folder's page that is younger than a second, or of a later day, has no date", young)
+
+
+# ---- options
+
+def served(program, folder, *words):
+    """Another server of the folder, with these words, and its address."""
+    address = ("127.0.0.1", free_port())
+    server = subprocess.Popen([program, str(address[1]), folder, *words], stdin=subprocess.PIPE, stderr=subprocess.PIPE)
+    wait_for(address)
+    return server, "http://%s:%d" % address
+
+
+def option_clients(program, folder):
+    def refused(name, *words):
+        def make():
+            done = run(program, "0", folder, *words)
+            return differs((done.returncode, done.stderr.count(b"\n")), (2, 1))
+        check("app_files, " + name, make)
+    refused("--cache-control without a text", "--cache-control")
+    refused("--cache-control with the end of a line", "--cache-control", "a\r\nb: c")
+    refused("--cache-control with a byte 127", "--cache-control", "a\x7f")
+
+    server, url = served(program, folder, "--cache-control", "public, max-age=60")
+    try:
+        def kept(name, wanted, path, *words):
+            check(f"curl, --cache-control, {name}", lambda: differs(field_of(url + path, "cache-control", *words), wanted))
+        kept("a file", "public, max-age=60", "/a.txt")
+        kept("a folder's page", "public, max-age=60", "/sub/")
+        kept("a part of a file", "public, max-age=60", "/big.bin", "-r", "0-9")
+        kept("a file that the client has", "public, max-age=60", "/a.txt", "-H", "If-None-Match: *")
+        kept("a file that isn't the one", None, "/a.txt", "-H", 'If-Match: "a"')
+        kept("a file that isn't there", None, "/nothing")
+        kept("a part that isn't there", None, "/a.txt", "-r", "1000-")
+    finally:
+        server.terminate()
+        server.communicate()

@@ -1,17 +1,19 @@
 //! What a request asks for of a file: on which conditions, and which bytes.
-use crate::found::Found;
+use crate::found::{Found, date_text};
 use http_files::{
     Asked, Conditions, asked_range, is_unchanged_since, lists_etag, lists_strong_etag,
 };
 use http_types::{HeaderMap, HeaderValue, Method, RequestHead};
 
-/// Which of a request's conditions hold for a file (RFC 9110, section 13.1).
-pub fn conditions_of(headers: &HeaderMap, found: &Found) -> Conditions {
-    let changed = found.changed;
+/// The tag of what has none. No list has it, since white space round a tag in a list is passed over.
+pub const NO_TAG: &str = " ";
+
+/// Which of a request's conditions hold for what has this tag and was changed at this second (RFC 9110, section 13.1).
+pub fn conditions_of(headers: &HeaderMap, tag: &str, changed: Option<u64>) -> Conditions {
     Conditions {
-        if_match: is_meant(headers, &found.tag),
+        if_match: is_meant(headers, tag),
         if_unmodified_since: is_unchanged(headers, "if-unmodified-since", changed),
-        if_none_match: is_held(headers, &found.tag).map(|is_held| !is_held),
+        if_none_match: is_held(headers, tag).map(|is_held| !is_held),
         if_modified_since: is_unchanged(headers, "if-modified-since", changed).map(|same| !same),
     }
 }
@@ -39,13 +41,14 @@ fn text_of(line: &HeaderValue) -> &str {
     line.to_str().unwrap_or("")
 }
 
-// Whether what was changed at this second is no younger than the date of a field, where that has one line and is a date.
-fn is_unchanged(headers: &HeaderMap, name: &str, changed: u64) -> Option<bool> {
+// Whether what was changed at this second is no younger than the date of a field, where that has one line and is a date, and
+// the second is known.
+fn is_unchanged(headers: &HeaderMap, name: &str, changed: Option<u64>) -> Option<bool> {
     let mut lines = headers.get_all(name);
     let date = lines.next()?;
     match lines.next() {
         Some(_) => None,
-        None => is_unchanged_since(date.as_bytes(), changed),
+        None => is_unchanged_since(date.as_bytes(), changed?),
     }
 }
 
@@ -72,7 +75,7 @@ fn is_same(value: &[u8], found: &Found) -> bool {
     if value == found.tag.as_bytes() {
         return true;
     }
-    match found.date() {
+    match date_text(found.changed) {
         Some(date) => value == date.as_slice(),
         None => false,
     }

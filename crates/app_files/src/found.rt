@@ -1,5 +1,5 @@
 //! A file that was found, and its length and date.
-use http_files::{Entry, FilePath, etag};
+use http_files::{FilePath, etag};
 use http_types::StatusCode;
 use httpdate::HttpDate;
 use serve_blocking::HandleError;
@@ -33,16 +33,16 @@ impl Found {
             tag,
         })
     }
-
-    /// When it was changed, as `Last-Modified` has it, where a date can tell it.
-    pub fn date(&self) -> Option<[u8; 29]> {
-        let date = HttpDate::from_unix_secs(self.changed).ok()?;
-        Some(date.to_bytes())
-    }
 }
 
-// When a file was changed, in seconds and nanoseconds.
-fn stamp(metadata: &Metadata) -> Option<(u64, u32)> {
+/// A second after the start of 1970 as `Last-Modified` has it, where a date can tell it.
+pub fn date_text(seconds: u64) -> Option<[u8; 29]> {
+    let date = HttpDate::from_unix_secs(seconds).ok()?;
+    Some(date.to_bytes())
+}
+
+/// When a file was changed, in seconds after the start of 1970 and nanoseconds.
+pub fn stamp(metadata: &Metadata) -> Option<(u64, u32)> {
     let changed = metadata.modified().ok()?;
     let since = changed.duration_since(UNIX_EPOCH).ok()?;
     Some((since.as_secs(), since.subsec_nanos()))
@@ -83,8 +83,8 @@ pub enum Unlisted {
 }
 
 impl Unlisted {
-    // Why a folder can't be opened or read.
-    fn of(error: &Error) -> Unlisted {
+    /// Why a folder can't be opened or read.
+    pub fn of(error: &Error) -> Unlisted {
         match error.kind() {
             ErrorKind::PermissionDenied => Unlisted::Forbidden,
             ErrorKind::NotFound
@@ -103,51 +103,6 @@ impl Unlisted {
             Unlisted::Unreadable | Unlisted::NoMemory => StatusCode::INTERNAL_SERVER_ERROR,
         }
     }
-}
-
-/// The names in a folder, in order, those with a dot in front only where they are to be shown. One that isn't UTF-8 is left
-/// out, as is one that can't be looked at.
-pub fn entries(
-    rt: &HostRuntime,
-    path: &FilePath,
-    shows_dots: bool,
-) -> Result<Vec<Entry>, Unlisted> {
-    let alloc = rt.alloc();
-    let mut entries = Vec::new(alloc);
-    let listing = match fs::read_dir(rt, path.as_str()) {
-        Ok(listing) => listing,
-        Err(error) => return Err(Unlisted::of(&error)),
-    };
-    for item in listing {
-        let item = match item {
-            Ok(item) => item,
-            // A path is text here, so there is no file of such a name that could be served.
-            Err(error) if error.kind() == ErrorKind::InvalidFilename => continue,
-            Err(error) => return Err(Unlisted::of(&error)),
-        };
-        if !shows_dots && item.file_name().starts_with('.') {
-            continue;
-        }
-        let Ok(metadata) = fs::metadata(rt, item.path()) else {
-            continue;
-        };
-        let Ok(name) = String::from_str(alloc, item.file_name()) else {
-            return Err(Unlisted::NoMemory);
-        };
-        let entry = Entry {
-            is_file: !metadata.is_dir(),
-            name,
-            size: metadata.len(),
-            changed: stamp(&metadata).map(|(seconds, _)| seconds),
-        };
-        if entries.push(entry).is_err() {
-            return Err(Unlisted::NoMemory);
-        }
-    }
-    if entries.sort().is_err() {
-        return Err(Unlisted::NoMemory);
-    }
-    Ok(entries)
 }
 
 /// The status that tells of a file or a folder that can't be opened.

@@ -2,13 +2,13 @@
 ghost use Rattle.std.specs.Prelude.{None};
 ghost use Rattle.serve_blocking.specs.Served.{Follows};
 
-use crate::asked::{bytes_of, conditions_of};
-use crate::found::{Found, Unlisted, entries, is_file, look, open};
-use crate::reply::{Sent, add, add_range, file_head, page_head};
+use crate::asked::{NO_TAG, bytes_of, conditions_of};
+use crate::found::{Found, Unlisted, is_file, look, open};
+use crate::listed::Listed;
+use crate::reply::{Sent, add, add_range, file_head, listed_head, page_head};
 use crate::shared::Shared;
 use http_files::{
-    Asked, FilePath, PathError, Verdict, content_type, folder_page, line_text, message_page,
-    place_of,
+    Asked, FilePath, PathError, Verdict, content_type, line_text, message_page, place_of,
 };
 use http_types::header::CONTENT_TYPE;
 use http_types::header::names::{ALLOW, LOCATION};
@@ -77,7 +77,7 @@ impl Handler for FileHandler {
         body: &mut Body<S, K>,
         answer: Answer,
     ) -> Result<(), HandleError> {
-        let sent = self.answer(request.head(), body, answer);
+        let sent = self.answer(request, body, answer);
         self.shared.count();
         let sent = sent?;
         let method = request.head().method.as_str();
@@ -99,12 +99,13 @@ impl FileHandler {
     #[tactic(auto, using(serve_blocking::proofs::Followed::follows_none, serve_blocking::proofs::Followed::follows_then))]
     fn answer<S: TimedSource, K: TimedSink>(
         &mut self,
-        head: &RequestHead,
+        request: &Incoming<'_>,
         body: &mut Body<S, K>,
         answer: Answer,
     ) -> Result<Sent, HandleError>
         ensures follows { Follows body.old body.new }
     {
+        let head = request.head();
         if head.method != Method::GET && head.method != Method::HEAD {
             return self.refuse(StatusCode::METHOD_NOT_ALLOWED, body, answer);
         }
@@ -120,7 +121,7 @@ impl FileHandler {
         };
         match look(&self.rt, &path) {
             Ok(metadata) if metadata.is_dir() && target.ends_with('/') => {
-                self.folder(head, &path, body, answer)
+                self.folder(request, &path, body, answer)
             }
             Ok(metadata) if metadata.is_dir() => self.redirect(head, body, answer),
             Ok(metadata) if metadata.is_file() && !target.ends_with('/') => {
@@ -176,7 +177,7 @@ impl FileHandler {
     #[tactic(auto, using(serve_blocking::proofs::Followed::follows_none, serve_blocking::proofs::Followed::follows_then))]
     fn folder<S: TimedSource, K: TimedSink>(
         &mut self,
-        request: &RequestHead,
+        request: &Incoming<'_>,
         path: &FilePath,
         body: &mut Body<S, K>,
         answer: Answer,
@@ -187,23 +188,37 @@ impl FileHandler {
             return Err(HandleError::NoMemory);
         };
         if is_file(&self.rt, &index) {
-            return self.file(request, &index, body, answer);
+            return self.file(request.head(), &index, body, answer);
         }
-        let entries = match entries(&self.rt, path, self.shared.shows_dots()) {
-            Ok(entries) => entries,
-            Err(Unlisted::NoMemory) => return Err(HandleError::NoMemory),
-            Err(unlisted) => return self.refuse(unlisted.status(), body, answer),
+        match Listed::new(&self.rt, &self.shared, path, request.moment()) {
+            Ok(listed) => self.listed(request.head(), &listed, body, answer),
+            Err(Unlisted::NoMemory) => Err(HandleError::NoMemory),
+            Err(unlisted) => self.refuse(unlisted.status(), body, answer),
+        }
+    }
+
+    // Answers with a page of names, or as its conditions say. It has no tag.
+    #[tactic(auto, using(serve_blocking::proofs::Followed::follows_none, serve_blocking::proofs::Followed::follows_then))]
+    fn listed<S: TimedSource, K: TimedSink>(
+        &mut self,
+        request: &RequestHead,
+        listed: &Listed,
+        body: &mut Body<S, K>,
+        answer: Answer,
+    ) -> Result<Sent, HandleError>
+        ensures follows { Follows body.old body.new }
+    {
+        let status = match conditions_of(&request.headers, NO_TAG, listed.changed).verdict() {
+            Verdict::Served => StatusCode::OK,
+            Verdict::Unmodified => StatusCode::NOT_MODIFIED,
+            Verdict::Failed => return self.refuse(StatusCode::PRECONDITION_FAILED, body, answer),
         };
-        let alloc = self.alloc;
-        let place = path
-            .as_str()
-            .strip_prefix(self.shared.folder().as_str())
-            .unwrap_or("");
-        let mut title = String::from_str(alloc, place)?;
-        title.push_str("/")?;
-        let page = folder_page(alloc, title.as_str(), entries.as_slice())?;
-        let head = page_head(alloc, StatusCode::OK)?;
-        send_page(head, StatusCode::OK, page.as_str(), body, answer)
+        let head = listed_head(self.alloc, status, listed.changed, self.shared.cache_control())?;
+        if status == StatusCode::OK {
+            return send_page(head, status, listed.page.as_str(), body, answer);
+        }
+        answer.empty(body, head)?;
+        Ok(Sent { status, length: 0 })
     }
 
     // Answers with a file, or a part of it, or as its conditions say.
@@ -225,11 +240,13 @@ impl FileHandler {
             return self.refuse(StatusCode::INTERNAL_SERVER_ERROR, body, answer);
         };
         let found = Found::new(self.alloc, &metadata)?;
-        match conditions_of(&request.headers, &found).verdict() {
+        let changed = Some(found.changed);
+        match conditions_of(&request.headers, &found.tag, changed).verdict() {
             Verdict::Served => self.send_file(request, path, &mut file, &found, body, answer),
             Verdict::Unmodified => {
                 let status = StatusCode::NOT_MODIFIED;
-                answer.empty(body, file_head(self.alloc, status, &found)?)?;
+                let cache = self.shared.cache_control();
+                answer.empty(body, file_head(self.alloc, status, &found, cache)?)?;
                 Ok(Sent { status, length: 0 })
             }
             Verdict::Failed => self.refuse(StatusCode::PRECONDITION_FAILED, body, answer),
@@ -255,7 +272,11 @@ impl FileHandler {
             Asked::Part(first, last) => (StatusCode::PARTIAL_CONTENT, Some((first, last))),
             Asked::Unsatisfiable => (StatusCode::RANGE_NOT_SATISFIABLE, None),
         };
-        let mut head = file_head(alloc, status, found)?;
+        let cache = match status {
+            StatusCode::RANGE_NOT_SATISFIABLE => None,
+            _ => self.shared.cache_control(),
+        };
+        let mut head = file_head(alloc, status, found, cache)?;
         add(alloc, &mut head, CONTENT_TYPE, content_type(path.as_str()))?;
         if status != StatusCode::OK {
             add_range(alloc, &mut head, part, found.length)?;

@@ -4,6 +4,7 @@
 mod asked;
 mod found;
 mod handler;
+mod listed;
 mod options;
 mod reply;
 mod shared;
@@ -143,9 +144,13 @@ where
 fn share(alloc: Global, options: &Options<'_>) -> Option<Arc<Shared>> {
     let path = String::from_str(alloc, options.folder).ok()?;
     let folder = Folder::new(path)?;
+    let cache_control = match options.cache_control {
+        Some(text) => Some(String::from_str(alloc, text).ok()?),
+        None => None,
+    };
     Arc::new(
         alloc,
-        Shared::new(folder, options.shows_dots, options.requests),
+        Shared::new(folder, options.shows_dots, cache_control, options.requests),
     )
     .ok()
 }

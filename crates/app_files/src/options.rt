@@ -12,6 +12,7 @@ Serves the files of a folder over HTTP/1.
   --bind ADDRESS       the address to listen on, of IPv4 or IPv6: 127.0.0.1 by default, which only this machine
                        reaches; 0.0.0.0 and :: are all
   --dotfiles           serve and list names that begin with a dot, too
+  --cache-control TEXT send TEXT as the field Cache-Control of files and pages of names
   --lax                answer requests too whose head RFC 9110 or 9112 refuses
   --requests N         end after N requests
   --until-input-ends   end where the standard input ends
@@ -39,6 +40,9 @@ pub struct Options<'a> {
     /// Names that begin with a dot are served and listed.
     pub shows_dots: bool,
 
+    /// The field `Cache-Control` of files and of pages of names.
+    pub cache_control: Option<&'a str>,
+
     /// Heads that RFC 9110 or RFC 9112 refuses are answered too.
     pub is_lax: bool,
 
@@ -62,6 +66,9 @@ pub enum UsageError {
     #[error("--bind wants an address")]
     Bind,
 
+    #[error("--cache-control wants a text without control bytes")]
+    CacheControl,
+
     #[error("--requests wants a number")]
     Requests,
 
@@ -74,6 +81,7 @@ pub fn read(words: &[String]) -> Result<Command<'_>, UsageError> {
     let mut port = None;
     let mut folder = None;
     let mut address = None;
+    let mut cache_control = None;
     let mut requests = None;
     let mut until_input_ends = false;
     let mut shows_dots = false;
@@ -87,6 +95,7 @@ pub fn read(words: &[String]) -> Result<Command<'_>, UsageError> {
             "--lax" => is_lax = true,
             "--until-input-ends" => until_input_ends = true,
             "--bind" => address = Some(rest.next().ok_or(UsageError::Bind)?.as_str()),
+            "--cache-control" => cache_control = Some(field_value(rest.next())?),
             "--requests" => {
                 let count = rest.next().ok_or(UsageError::Requests)?;
                 requests = Some(count.parse::<u64>().map_err(|_| UsageError::Requests)?);
@@ -107,8 +116,22 @@ pub fn read(words: &[String]) -> Result<Command<'_>, UsageError> {
         folder,
         address: address.unwrap_or("127.0.0.1"),
         shows_dots,
+        cache_control,
         is_lax,
         requests,
         until_input_ends,
     }))
+}
+
+// A word that a field can have as its value (RFC 9110, section 5.5).
+fn field_value(word: Option<&String>) -> Result<&str, UsageError> {
+    match word {
+        Some(text) if !text.as_bytes().iter().any(|byte| is_control(*byte)) => Ok(text.as_str()),
+        _ => Err(UsageError::CacheControl),
+    }
+}
+
+// Whether it is a control byte other than the tab.
+fn is_control(byte: u8) -> bool {
+    byte == 127 || (byte < 32 && byte != b'\t')
 }

@@ -25,7 +25,7 @@ mod types;
 
 pub use conditions::{Conditions, Verdict, etag, is_unchanged_since, lists_etag, lists_strong_etag};
 pub use error::PathError;
-pub use listing::{Entry, folder_page, message_page};
+pub use listing::{Entry, folder_page, message_page, page_changed};
 pub use log_text::line_text;
 pub use paths::{FilePath, Folder};
 pub use places::place_of;
