@@ -1,5 +1,5 @@
-"""The file server's clients, for test/clients: conditions, ranges, names, pages, and the options of app_files."""
-import os, subprocess
+"""The file server's clients, for test/clients: conditions, ranges, names, pages, coded files, and the options of app_files."""
+import gzip, os, subprocess
 from checks import check, differs, free_port, run, wait_for
 
 BEFORE = "Sat, 01 Jan 2000 00:00:00 GMT"
@@ -25,6 +25,7 @@ def static_clients(files, folder, program):
     range_clients(f"{url}/big.bin", open(f"{folder}/big.bin", "rb").read())
     name_clients(url, folder)
     page_clients(url, folder)
+    coded_clients(f"{url}/coded", f"{folder}/coded")
     if program:
         option_clients(program, folder)
 
@@ -125,6 +126,71 @@ def page_clients(url, folder):
         os.utime(f"{folder}/dated/c.txt", (9_000_000_000, 9_000_000_000))
         return differs((seen, field_of(page, "last-modified")), ((None, "200"), None))
     check("curl, a folder's page that is younger than a second, or of a later day, has no date", young)
+
+
+# ---- coded files (RFC 9110, 12.5.3)
+
+def coded_clients(url, folder):
+    text = b"of a file that is there in several forms\n" * 100
+    forms = {"identity": text, "gzip": gzip.compress(text), "br": b"no Brotli, but nobody reads it"}
+    os.makedirs(folder, exist_ok=True)
+    for name, coding in ("all.html", "identity"), ("all.html.gz", "gzip"), ("all.html.br", "br"), ("one.txt", "identity"), \
+            ("one.txt.gz", "gzip"), ("index.html", "identity"), ("index.html.gz", "gzip"), ("alone.txt", "identity"):
+        with open(f"{folder}/{name}", "wb") as file:
+            file.write(forms[coding])
+        os.utime(f"{folder}/{name}", (1_000_000_000, 1_000_000_000))
+
+    def asked(path, *lines):
+        """The status, the fields and the body of an answer."""
+        words = [word for line in lines for word in ("-H", line)]
+        head, _, body = run("curl", "-sS", "-i", *words, f"{url}/{path}").stdout.partition(b"\r\n\r\n")
+        status, *fields = head.decode().split("\r\n")
+        return status.split()[1], {name.lower(): value for name, value in (it.split(": ", 1) for it in fields)}, body
+
+    def chosen(accept, coding, path="all.html", media_type="text/html; charset=utf-8"):
+        def make():
+            status, fields, body = asked(path, *[f"Accept-Encoding: {line}" for line in accept])
+            seen = status, fields.get("content-encoding", "identity"), fields.get("content-type"), fields.get("vary"), body
+            return differs(seen, ("200", coding, media_type, "accept-encoding", forms[coding]))
+        check(f"curl, a coded file, Accept-Encoding {' and '.join(accept) or 'missing'}, {path}", make)
+    chosen([], "identity")
+    chosen(["gzip"], "gzip")
+    chosen(["gzip, br"], "br")
+    chosen(["gzip", "br"], "br")
+    chosen(["gzip;q=1, br;q=0.5"], "gzip")
+    chosen(["br;q=0.3,gzip;q=0.301"], "gzip")
+    chosen(["gzip;q=0.5, identity"], "identity")
+    chosen(["gzip, identity"], "gzip")
+    chosen(["*"], "br")
+    chosen(["*;q=0"], "identity")
+    chosen(["br;q=0, *"], "gzip")
+    chosen(["br;q=0"], "identity")
+    chosen(["X-GZip ; q=0.1"], "gzip")
+    chosen(["br;q=2, gzip"], "gzip")
+    chosen(["zstd, deflate"], "identity")
+    chosen(["br"], "identity", "one.txt", "text/plain; charset=utf-8")
+    chosen(["br, gzip"], "gzip", "one.txt", "text/plain; charset=utf-8")
+    chosen(["gzip"], "gzip", "")
+    check("curl --compressed reads a coded file", lambda: differs(run("curl", "-sS", "--compressed", f"{url}/one.txt").stdout, text))
+    check("curl, no form but one", lambda: differs(field_of(f"{url}/alone.txt", "vary"), None))
+
+    def told(name, wanted, *lines):
+        def make():
+            plain, coded = (asked("all.html", *it)[1]["etag"] for it in ([], ["Accept-Encoding: gzip"]))
+            given = {"plain": plain, "coded": coded, "date": "Sun, 09 Sep 2001 01:46:40 GMT"}
+            status, fields, body = asked("all.html", *[line % given for line in lines])
+            return "one tag" if plain == coded else differs((status, fields.get("vary"), body), wanted)
+        check("curl, a coded file, " + name, make)
+    accept, part, packed = "Accept-Encoding: gzip", "Range: bytes=3-9", forms["gzip"]
+    told("which the client has", ("304", "accept-encoding", b""), accept, "If-None-Match: %(coded)s")
+    told("whose plain form the client has", ("200", "accept-encoding", packed), accept, "If-None-Match: %(plain)s")
+    told("whose plain form the client means", ("412", None, asked("all.html", 'If-Match: "a"')[2]), accept, "If-Match: %(plain)s")
+    told("a range", ("206", "accept-encoding", packed[3:10]), accept, part)
+    told("a range of its plain form", ("206", "accept-encoding", text[3:10]), part)
+    told("a range, If-Range with its tag", ("206", "accept-encoding", packed[3:10]), accept, part, "If-Range: %(coded)s")
+    told("a range, If-Range with the plain form's tag", ("200", "accept-encoding", packed), accept, part, "If-Range: %(plain)s")
+    told("a range of its plain form, If-Range with the coded one's tag", ("200", "accept-encoding", text), part, "If-Range: %(coded)s")
+    told("a range, If-Range with the date of both forms", ("200", "accept-encoding", packed), accept, part, "If-Range: %(date)s")
 
 
 # ---- options

@@ -70,13 +70,14 @@ pub fn bytes_of(request: &RequestHead, found: &Found) -> Asked {
     }
 }
 
-// Whether it is the file's tag, or its date.
+// Whether it is the file's tag, or its date. All forms of a file may have one date, so that a date doesn't tell which of them is
+// meant.
 fn is_same(value: &[u8], found: &Found) -> bool {
     if value == found.tag.as_bytes() {
         return true;
     }
     match date_text(found.changed) {
-        Some(date) => value == date.as_slice(),
+        Some(date) => !found.varies && value == date.as_slice(),
         None => false,
     }
 }

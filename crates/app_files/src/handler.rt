@@ -3,14 +3,14 @@ ghost use Rattle.std.specs.Prelude.{None};
 ghost use Rattle.serve_blocking.specs.Served.{Follows};
 
 use crate::asked::{NO_TAG, bytes_of, conditions_of};
-use crate::found::{Found, Unlisted, is_file, look, open};
+use crate::found::{Found, open};
 use crate::listed::Listed;
-use crate::reply::{Sent, add, add_range, file_head, listed_head, page_head};
+use crate::lookup::{Unread, is_file, look};
+use crate::reply::{Sent, add, add_range, add_type, file_head, listed_head, page_head};
 use crate::shared::Shared;
 use http_files::{
     Asked, FilePath, PathError, Verdict, content_type, line_text, message_page, place_of,
 };
-use http_types::header::CONTENT_TYPE;
 use http_types::header::names::{ALLOW, LOCATION};
 use http_types::{Method, NoMemory, RequestHead, ResponseHead, StatusCode};
 use net_sockets::{TimedSink, TimedSource};
@@ -128,7 +128,7 @@ impl FileHandler {
                 self.file(head, &path, body, answer)
             }
             Ok(_) => self.refuse(StatusCode::NOT_FOUND, body, answer),
-            Err(status) => self.refuse(status, body, answer),
+            Err(unread) => self.refuse(unread.status(), body, answer),
         }
     }
 
@@ -192,8 +192,8 @@ impl FileHandler {
         }
         match Listed::new(&self.rt, &self.shared, path, request.moment()) {
             Ok(listed) => self.listed(request.head(), &listed, body, answer),
-            Err(Unlisted::NoMemory) => Err(HandleError::NoMemory),
-            Err(unlisted) => self.refuse(unlisted.status(), body, answer),
+            Err(Unread::NoMemory) => Err(HandleError::NoMemory),
+            Err(unread) => self.refuse(unread.status(), body, answer),
         }
     }
 
@@ -213,7 +213,12 @@ impl FileHandler {
             Verdict::Unmodified => StatusCode::NOT_MODIFIED,
             Verdict::Failed => return self.refuse(StatusCode::PRECONDITION_FAILED, body, answer),
         };
-        let head = listed_head(self.alloc, status, listed.changed, self.shared.cache_control())?;
+        let head = listed_head(
+            self.alloc,
+            status,
+            listed.changed,
+            self.shared.cache_control(),
+        )?;
         if status == StatusCode::OK {
             return send_page(head, status, listed.page.as_str(), body, answer);
         }
@@ -232,14 +237,11 @@ impl FileHandler {
     ) -> Result<Sent, HandleError>
         ensures follows { Follows body.old body.new }
     {
-        let mut file = match open(&self.rt, path) {
-            Ok(file) => file,
-            Err(status) => return self.refuse(status, body, answer),
+        let (mut file, found) = match open(&self.rt, self.shared.folder(), request, path) {
+            Ok(opened) => opened,
+            Err(Unread::NoMemory) => return Err(HandleError::NoMemory),
+            Err(unread) => return self.refuse(unread.status(), body, answer),
         };
-        let Ok(metadata) = file.metadata() else {
-            return self.refuse(StatusCode::INTERNAL_SERVER_ERROR, body, answer);
-        };
-        let found = Found::new(self.alloc, &metadata)?;
         let changed = Some(found.changed);
         match conditions_of(&request.headers, &found.tag, changed).verdict() {
             Verdict::Served => self.send_file(request, path, &mut file, &found, body, answer),
@@ -272,12 +274,13 @@ impl FileHandler {
             Asked::Part(first, last) => (StatusCode::PARTIAL_CONTENT, Some((first, last))),
             Asked::Unsatisfiable => (StatusCode::RANGE_NOT_SATISFIABLE, None),
         };
-        let cache = match status {
-            StatusCode::RANGE_NOT_SATISFIABLE => None,
-            _ => self.shared.cache_control(),
+        let cache = if status == StatusCode::RANGE_NOT_SATISFIABLE {
+            None
+        } else {
+            self.shared.cache_control()
         };
         let mut head = file_head(alloc, status, found, cache)?;
-        add(alloc, &mut head, CONTENT_TYPE, content_type(path.as_str()))?;
+        add_type(alloc, &mut head, content_type(path.as_str()), found)?;
         if status != StatusCode::OK {
             add_range(alloc, &mut head, part, found.length)?;
         }

@@ -1,5 +1,5 @@
 //! A folder's page.
-use crate::found::{Unlisted, stamp};
+use crate::lookup::{Unread, look, stamp};
 use crate::shared::Shared;
 use http_files::{Entry, FilePath, folder_page, page_changed};
 use std::alloc::{AllocError, Global};
@@ -22,17 +22,14 @@ impl Listed {
         shared: &Shared,
         path: &FilePath,
         moment: Option<u64>,
-    ) -> Result<Listed, Unlisted> {
+    ) -> Result<Listed, Unread> {
         // Looked at before the names are read: what changes later is younger.
-        let changed = match fs::metadata(rt, path.as_str()) {
-            Ok(metadata) => stamp(&metadata).map(|(seconds, _)| seconds),
-            Err(error) => return Err(Unlisted::of(&error)),
-        };
+        let changed = stamp(&look(rt, path)?).map(|(seconds, _)| seconds);
         let entries = entries(rt, path, shared.shows_dots())?;
         let changed = page_changed(changed, entries.as_slice(), moment);
         match page_of(rt.alloc(), shared, path, entries.as_slice()) {
             Ok(page) => Ok(Listed { page, changed }),
-            Err(AllocError) => Err(Unlisted::NoMemory),
+            Err(AllocError) => Err(Unread::NoMemory),
         }
     }
 }
@@ -55,23 +52,19 @@ fn page_of(
 
 // The names in a folder, in order, those with a dot in front only where they are to be shown. One that isn't UTF-8 is left
 // out, as is one that can't be looked at.
-fn entries(
-    rt: &HostRuntime,
-    path: &FilePath,
-    shows_dots: bool,
-) -> Result<Vec<Entry>, Unlisted> {
+fn entries(rt: &HostRuntime, path: &FilePath, shows_dots: bool) -> Result<Vec<Entry>, Unread> {
     let alloc = rt.alloc();
     let mut entries = Vec::new(alloc);
     let listing = match fs::read_dir(rt, path.as_str()) {
         Ok(listing) => listing,
-        Err(error) => return Err(Unlisted::of(&error)),
+        Err(error) => return Err(Unread::of(&error)),
     };
     for item in listing {
         let item = match item {
             Ok(item) => item,
             // A path is text here, so there is no file of such a name that could be served.
             Err(error) if error.kind() == ErrorKind::InvalidFilename => continue,
-            Err(error) => return Err(Unlisted::of(&error)),
+            Err(error) => return Err(Unread::of(&error)),
         };
         if !shows_dots && item.file_name().starts_with('.') {
             continue;
@@ -80,7 +73,7 @@ fn entries(
             continue;
         };
         let Ok(name) = String::from_str(alloc, item.file_name()) else {
-            return Err(Unlisted::NoMemory);
+            return Err(Unread::NoMemory);
         };
         let entry = Entry {
             is_file: !metadata.is_dir(),
@@ -89,11 +82,11 @@ fn entries(
             changed: stamp(&metadata).map(|(seconds, _)| seconds),
         };
         if entries.push(entry).is_err() {
-            return Err(Unlisted::NoMemory);
+            return Err(Unread::NoMemory);
         }
     }
     if entries.sort().is_err() {
-        return Err(Unlisted::NoMemory);
+        return Err(Unread::NoMemory);
     }
     Ok(entries)
 }

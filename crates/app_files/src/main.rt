@@ -2,9 +2,11 @@
 #![tactic(auto)]
 
 mod asked;
+mod form;
 mod found;
 mod handler;
 mod listed;
+mod lookup;
 mod options;
 mod reply;
 mod shared;

@@ -1,7 +1,7 @@
 //! Heads of answers, with the headers that each kind has.
 use crate::found::{Found, date_text};
 use http_types::header::names::{
-    ACCEPT_RANGES, CACHE_CONTROL, CONTENT_RANGE, ETAG, LAST_MODIFIED,
+    ACCEPT_RANGES, CACHE_CONTROL, CONTENT_ENCODING, CONTENT_RANGE, ETAG, LAST_MODIFIED, VARY,
 };
 use http_types::header::{CONTENT_TYPE, HeaderName, HeaderValue, ValueError, value_of_bytes};
 use http_types::{ResponseHead, StatusCode};
@@ -51,7 +51,8 @@ pub fn page_head(alloc: Global, status: StatusCode) -> Result<ResponseHead, Hand
     Ok(head)
 }
 
-/// The head of a file's answer: its tag, its date, that ranges of it may be asked for, and how long it may be kept.
+/// The head of a file's answer: its tag, its date, that ranges of it may be asked for, how long it may be kept, and whether its
+/// form is the client's choice.
 pub fn file_head(
     alloc: Global,
     status: StatusCode,
@@ -63,7 +64,25 @@ pub fn file_head(
     add_dated(alloc, &mut head, Some(found.changed), cache)?;
     head.headers
         .append(ACCEPT_RANGES, HeaderValue::from_static("bytes"))?;
+    if found.varies {
+        head.headers
+            .append(VARY, HeaderValue::from_static("accept-encoding"))?;
+    }
     Ok(head)
+}
+
+/// Says of which type a file is, and how its bytes are coded.
+pub fn add_type(
+    alloc: Global,
+    head: &mut ResponseHead,
+    media_type: &str,
+    found: &Found,
+) -> Result<(), HandleError> {
+    add(alloc, head, CONTENT_TYPE, media_type)?;
+    match found.coding.name() {
+        Some(name) => add(alloc, head, CONTENT_ENCODING, name),
+        None => Ok(()),
+    }
 }
 
 /// The head of a folder's page, or of the answer that the client has it.

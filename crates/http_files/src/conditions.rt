@@ -3,17 +3,21 @@ ghost use Rattle.std.specs.Prelude.{◌≡◌};
 ghost use Rattle.http_files.specs.Conditions.{unchanged_since, holds, verdict_of};
 ghost use Rattle.http_files.specs.Tags.{lists, is_tag, without_weak, lists_strong, has_strong, is_strong_tag};
 
+use crate::Coding;
 use httpdate::HttpDate;
 use std::alloc::{AllocError, Global};
 
-/// A file's entity tag (RFC 7232, section 2.3): its length in bytes, and when it was changed, in seconds and nanoseconds.
+/// A file's entity tag (RFC 7232, section 2.3): its length in bytes, when it was changed, in seconds and nanoseconds, and how it
+/// is coded. So two codings of a file have two tags.
 pub fn etag(
     alloc: Global,
     length: u64,
     seconds: u64,
     nanoseconds: u32,
+    coding: Coding,
 ) -> Result<String, AllocError> {
-    format!(in alloc; "\"{length:x}-{seconds:x}-{nanoseconds:x}\"")
+    let ending = coding.ending();
+    format!(in alloc; "\"{length:x}-{seconds:x}-{nanoseconds:x}{ending}\"")
 }
 
 /// Whether a list of entity tags has this one, or is `*` (RFC 7232, section 3.2). Weak tags are as good as strong ones.

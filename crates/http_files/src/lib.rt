@@ -14,6 +14,7 @@
 //! A path is the folder's, and then plain names: no `..`, no NUL. A range is one of bytes, as RFC 7233 has it.
 #![tactic(auto)]
 
+mod codings;
 mod conditions;
 mod error;
 mod listing;
@@ -23,7 +24,10 @@ mod places;
 mod ranges;
 mod types;
 
-pub use conditions::{Conditions, Verdict, etag, is_unchanged_since, lists_etag, lists_strong_etag};
+pub use codings::{Accepted, Coding};
+pub use conditions::{
+    Conditions, Verdict, etag, is_unchanged_since, lists_etag, lists_strong_etag,
+};
 pub use error::PathError;
 pub use listing::{Entry, folder_page, message_page, page_changed};
 pub use log_text::line_text;
