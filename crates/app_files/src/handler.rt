@@ -269,29 +269,38 @@ impl FileHandler {
         ensures follows { Follows body.old body.new }
     {
         let alloc = self.alloc;
-        let (status, part) = match bytes_of(request, found) {
-            Asked::Whole => (StatusCode::OK, None),
-            Asked::Part(first, last) => (StatusCode::PARTIAL_CONTENT, Some((first, last))),
-            Asked::Unsatisfiable => (StatusCode::RANGE_NOT_SATISFIABLE, None),
+        let (status, first, last) = match bytes_of(request, found) {
+            Asked::Whole => (StatusCode::OK, 0, found.length.saturating_sub(1)),
+            Asked::Part(first, last) => (StatusCode::PARTIAL_CONTENT, first, last),
+            Asked::Unsatisfiable => return self.unsatisfiable(found, body, answer),
         };
-        let cache = if status == StatusCode::RANGE_NOT_SATISFIABLE {
-            None
-        } else {
-            self.shared.cache_control()
-        };
-        let mut head = file_head(alloc, status, found, cache)?;
+        let mut head = file_head(alloc, status, found, self.shared.cache_control())?;
         add_type(alloc, &mut head, content_type(path.as_str()), found)?;
-        if status != StatusCode::OK {
-            add_range(alloc, &mut head, part, found.length)?;
+        let mut length = found.length;
+        if status == StatusCode::PARTIAL_CONTENT {
+            add_range(alloc, &mut head, Some((first, last)), found.length)?;
+            length = last.saturating_sub(first).saturating_add(1);
         }
-        let (first, length) = match part {
-            Some((first, last)) => (first, last.saturating_sub(first).saturating_add(1)),
-            None if status == StatusCode::OK => (0, found.length),
-            None => (0, 0),
-        };
         let is_head = request.method == Method::HEAD;
         self.send(file, is_head, first, length, head, body, answer)?;
         Ok(Sent { status, length })
+    }
+
+    // Says that the bytes that are asked for aren't there, and how many there are.
+    #[tactic(auto, using(serve_blocking::proofs::Followed::follows_none, serve_blocking::proofs::Followed::follows_then))]
+    fn unsatisfiable<S: TimedSource, K: TimedSink>(
+        &mut self,
+        found: &Found,
+        body: &mut Body<S, K>,
+        answer: Answer,
+    ) -> Result<Sent, HandleError>
+        ensures follows { Follows body.old body.new }
+    {
+        let status = StatusCode::RANGE_NOT_SATISFIABLE;
+        let mut head = page_head(self.alloc, status)?;
+        add_range(self.alloc, &mut head, None, found.length)?;
+        let page = message_page(self.alloc, "Range Not Satisfiable")?;
+        send_page(head, status, page.as_str(), body, answer)
     }
 
     // Sends so many bytes of a file, piece by piece.
