@@ -54,7 +54,7 @@ END
 value() { [ $# -gt 1 ] || wrong Bind; }
 
 launch_serve() {
-    flags="--dotfiles --lax --until-input-ends"
+    flags="--dotfiles --lax --log --log=json --until-input-ends"
     valued="--bind --cache-control --requests"
     option_mark=--
     value() {

@@ -1,6 +1,6 @@
 """The file server's clients, for test/clients: conditions, ranges, names, pages, coded files, and the options of app_files."""
-import gzip, os, subprocess
-from checks import check, differs, free_port, run, wait_for
+import datetime, gzip, json, os, re, subprocess
+from checks import check, connect, differs, free_port, read_all, run, wait_for
 
 BEFORE = "Sat, 01 Jan 2000 00:00:00 GMT"
 
@@ -213,6 +213,7 @@ def option_clients(program, folder):
     refused("--cache-control with the end of a line", "--cache-control", "a\r\nb: c")
     refused("--cache-control with a byte 127", "--cache-control", "a\x7f")
 
+    log_clients(program, folder)
     server, url = served(program, folder, "--cache-control", "public, max-age=60")
     try:
         def kept(name, wanted, path, *words):
@@ -227,3 +228,48 @@ def option_clients(program, folder):
     finally:
         server.terminate()
         server.communicate()
+
+
+def log_clients(program, folder):
+    def lines(*words):
+        """The lines that a server with these words writes of three requests."""
+        server, url = served(program, folder, "--lax", *words)
+        try:
+            run("curl", "-sS", f"{url}/a.txt")
+            run("curl", "-sS", "-0", "-I", f"{url}/nothing?a=%22")
+            with connect(("127.0.0.1", int(url.rsplit(":", 1)[1]))) as sock:
+                sock.sendall(b'GET /"a\\b HTTP/1.1\r\nhost: a\r\nconnection: close\r\n\r\n')
+                read_all(sock)
+        finally:
+            server.terminate()
+        return server.communicate()[1].decode().splitlines()[1:]
+
+    def short():
+        wanted = [r"GET /a\.txt 200 6", r"HEAD /nothing\?a=%22 404 \d+", r'GET /"a\\x5cb 404 \d+']
+        return fits(lines(), [rf"127\.0\.0\.1:\d+ {line}" for line in wanted])
+    check("app_files, the lines of three requests", short)
+
+    def long():
+        time = r"\d{4}-\d\d-\d\dT\d\d:\d\d:\d\d\.\d{3}Z"
+        wanted = [r"GET /a\.txt HTTP/1\.1 200 6", r"HEAD /nothing\?a=%22 HTTP/1\.0 404 \d+", r'GET /"a\\x5cb HTTP/1\.1 404 \d+']
+        return fits(lines("--log"), [rf"{time} 127\.0\.0\.1:\d+ {line} \d+" for line in wanted])
+    check("app_files --log, the lines of three requests", long)
+
+    def in_json():
+        seen = [json.loads(line) for line in lines("--log=json")]
+        now = datetime.datetime.now(datetime.timezone.utc).replace(tzinfo=None)
+        for it in seen:
+            age = now - datetime.datetime.strptime(it.pop("time"), "%Y-%m-%dT%H:%M:%S.%fZ")
+            if not (0 <= age.total_seconds() < 20 and 0 <= it.pop("milliseconds") < 20_000 and it.pop("peer").startswith("127.0.0.1:")):
+                return str(it)
+        size = seen[1]["bytes"]
+        keys = "method", "target", "version", "status", "bytes"
+        wanted = ("GET", "/a.txt", "HTTP/1.1", 200, 6), ("HEAD", "/nothing?a=%22", "HTTP/1.0", 404, size), ("GET", '/"a\\b', "HTTP/1.1", 404, size)
+        return differs(seen, [dict(zip(keys, it)) for it in wanted])
+    check("app_files --log=json, the lines of three requests", in_json)
+
+
+def fits(seen, wanted):
+    """Whether each line has its form."""
+    fit = len(seen) == len(wanted) and all(re.fullmatch(form, line) for form, line in zip(wanted, seen))
+    return None if fit else str(seen)

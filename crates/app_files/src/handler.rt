@@ -2,15 +2,14 @@
 ghost use Rattle.std.specs.Prelude.{None};
 ghost use Rattle.serve_blocking.specs.Served.{Follows};
 
+use crate::access::tell;
 use crate::asked::{NO_TAG, bytes_of, conditions_of};
 use crate::found::{Found, open};
 use crate::listed::Listed;
 use crate::lookup::{Unread, is_file, look};
 use crate::reply::{Sent, add, add_range, add_type, file_head, listed_head, page_head};
 use crate::shared::Shared;
-use http_files::{
-    Asked, FilePath, PathError, Verdict, content_type, line_text, message_page, place_of,
-};
+use http_files::{Asked, FilePath, PathError, Verdict, content_type, message_page, place_of};
 use http_types::header::names::{ALLOW, LOCATION};
 use http_types::{Method, NoMemory, RequestHead, ResponseHead, StatusCode};
 use net_sockets::{TimedSink, TimedSource};
@@ -20,6 +19,7 @@ use std::fs::File;
 use std::io::{Read, Seek, SeekFrom};
 use std::net::SocketAddr;
 use std::sync::Arc;
+use std::time::Instant;
 
 /// How many bytes of a file are held at once.
 const PIECE: usize = 65_536;
@@ -77,16 +77,10 @@ impl Handler for FileHandler {
         body: &mut Body<S, K>,
         answer: Answer,
     ) -> Result<(), HandleError> {
+        let begun = Instant::now(&self.rt).ok();
         let sent = self.answer(request, body, answer);
         self.shared.count();
-        let sent = sent?;
-        let method = request.head().method.as_str();
-        let target = line_text(self.alloc, request.target().as_slice())?;
-        let (status, length) = (sent.status.as_u16(), sent.length);
-        let _ = match request.peer() {
-            Some(peer) => eprintln!(self.rt; "{peer} {method} {target} {status} {length}"),
-            None => eprintln!(self.rt; "- {method} {target} {status} {length}"),
-        };
+        tell(self.rt, self.shared.lines(), request, sent?, begun)?;
         Ok(())
     }
 

@@ -1,6 +1,7 @@
 //! Serves the files of a folder over HTTP/1: `app_files PORT FOLDER`.
 #![tactic(auto)]
 
+mod access;
 mod asked;
 mod form;
 mod found;
@@ -152,7 +153,13 @@ fn share(alloc: Global, options: &Options<'_>) -> Option<Arc<Shared>> {
     };
     Arc::new(
         alloc,
-        Shared::new(folder, options.shows_dots, cache_control, options.requests),
+        Shared::new(
+            folder,
+            options.shows_dots,
+            cache_control,
+            options.lines,
+            options.requests,
+        ),
     )
     .ok()
 }

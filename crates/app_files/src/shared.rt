@@ -1,4 +1,5 @@
 //! What the connections of a server share: its folder and options, how many requests were answered, and whether it is to end.
+use crate::access::LineForm;
 use http_files::Folder;
 use std::sync::atomic::{AtomicU64, Ordering};
 
@@ -8,6 +9,7 @@ pub struct Shared {
     folder: Folder,
     shows_dots: bool,
     cache_control: Option<String>,
+    lines: LineForm,
     answered: AtomicU64,
     has_ended: AtomicU64,
     limit: Option<u64>,
@@ -19,12 +21,14 @@ impl Shared {
         folder: Folder,
         shows_dots: bool,
         cache_control: Option<String>,
+        lines: LineForm,
         limit: Option<u64>,
     ) -> Shared {
         Shared {
             folder,
             shows_dots,
             cache_control,
+            lines,
             answered: AtomicU64::new(0),
             has_ended: AtomicU64::new(0),
             limit,
@@ -44,6 +48,11 @@ impl Shared {
     /// The field `Cache-Control` of files and of pages of names.
     pub fn cache_control(&self) -> Option<&str> {
         self.cache_control.as_deref()
+    }
+
+    /// What the line of a request says.
+    pub fn lines(&self) -> LineForm {
+        self.lines
     }
 
     /// A further request is answered.

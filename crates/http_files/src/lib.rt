@@ -30,7 +30,7 @@ pub use conditions::{
 };
 pub use error::PathError;
 pub use listing::{Entry, folder_page, message_page, page_changed};
-pub use log_text::line_text;
+pub use log_text::{json_text, line_text, log_time};
 pub use paths::{FilePath, Folder};
 pub use places::place_of;
 pub use ranges::{Asked, asked_range};
