@@ -54,12 +54,13 @@ END
 value() { [ $# -gt 1 ] || wrong Bind; }
 
 launch_serve() {
-    flags="--dotfiles --lax --until-input-ends"
-    valued="--bind --requests"
+    flags="--dotfiles --lax --log --log=json --until-input-ends"
+    valued="--bind --cache-control --requests"
     option_mark=--
     value() {
         case $1 in
             --bind) [ $# -gt 1 ] || wrong Bind ;;
+            --cache-control) [ $# -gt 1 ] && [[ ${2//$'\t'/} != *[[:cntrl:]]* ]] || wrong CacheControl ;;
             --requests) [ $# -gt 1 ] && is_number "$2" "$most_64" || wrong Requests ;;
         esac
     }

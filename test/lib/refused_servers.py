@@ -17,6 +17,9 @@ def fill(folder):
     for name, data in ("a.txt", HELLO), ("long.bin", LONG), ("sub/index.html", HELLO):
         with open(f"{folder}/{name}", "wb") as file:
             file.write(data)
+    # So old that a page of them always has its date.
+    for name in "a.txt", "long.bin", "sub/index.html", "sub", "":
+        os.utime(f"{folder}/{name}", (1_000_000_000, 1_000_000_000))
 
 
 def answer(address, head, rest=CLOSES):

@@ -1,13 +1,11 @@
 //! A file that was found, and its length and date.
-use http_files::{Entry, FilePath, etag};
-use http_types::StatusCode;
+use crate::form::Form;
+use crate::lookup::{Unread, stamp};
+use http_files::{Coding, FilePath, Folder, etag};
+use http_types::RequestHead;
 use httpdate::HttpDate;
-use serve_blocking::HandleError;
-use std::alloc::Global;
-use std::fs;
+use std::alloc::{AllocError, Global};
 use std::fs::{File, Metadata};
-use std::io::{Error, ErrorKind};
-use std::time::UNIX_EPOCH;
 
 /// What is known of a file without its bytes.
 #[derive(Drop)]
@@ -20,135 +18,56 @@ pub struct Found {
 
     /// Its entity tag.
     pub tag: String,
+
+    /// How it is coded.
+    pub coding: Coding,
+
+    /// Whether other forms of it are there.
+    pub varies: bool,
 }
 
 impl Found {
-    pub fn new(alloc: Global, metadata: &Metadata) -> Result<Found, HandleError> {
+    fn new(alloc: Global, metadata: &Metadata, form: &Form) -> Result<Found, AllocError> {
+        let (coding, varies) = (form.coding, form.varies);
         let length = metadata.len();
         let (changed, nanoseconds) = stamp(metadata).unwrap_or((0, 0));
-        let tag = etag(alloc, length, changed, nanoseconds)?;
+        let tag = etag(alloc, length, changed, nanoseconds, coding)?;
         Ok(Found {
             length,
             changed,
             tag,
+            coding,
+            varies,
         })
     }
-
-    /// When it was changed, as `Last-Modified` has it, where a date can tell it.
-    pub fn date(&self) -> Option<[u8; 29]> {
-        let date = HttpDate::from_unix_secs(self.changed).ok()?;
-        Some(date.to_bytes())
-    }
 }
 
-// When a file was changed, in seconds and nanoseconds.
-fn stamp(metadata: &Metadata) -> Option<(u64, u32)> {
-    let changed = metadata.modified().ok()?;
-    let since = changed.duration_since(UNIX_EPOCH).ok()?;
-    Some((since.as_secs(), since.subsec_nanos()))
-}
-
-/// Whether a file lies at a path.
-pub fn is_file(rt: &HostRuntime, path: &FilePath) -> bool {
-    match fs::metadata(rt, path.as_str()) {
-        Ok(metadata) => metadata.is_file(),
-        Err(_) => false,
-    }
-}
-
-/// What is known of what lies at a path.
-pub fn look(rt: &HostRuntime, path: &FilePath) -> Result<Metadata, StatusCode> {
-    fs::metadata(rt, path.as_str()).map_err(|error| status_of(&error))
-}
-
-/// Opens a file that is to be read.
-pub fn open(rt: &HostRuntime, path: &FilePath) -> Result<File, StatusCode> {
-    File::open(rt, path.as_str()).map_err(|error| status_of(&error))
-}
-
-/// Why there is no page of a folder.
-#[derive(Clone, Copy)]
-pub enum Unlisted {
-    /// There is no such folder.
-    Missing,
-
-    /// It may not be read.
-    Forbidden,
-
-    /// It can't be read.
-    Unreadable,
-
-    /// Memory ran out.
-    NoMemory,
-}
-
-impl Unlisted {
-    // Why a folder can't be opened or read.
-    fn of(error: &Error) -> Unlisted {
-        match error.kind() {
-            ErrorKind::PermissionDenied => Unlisted::Forbidden,
-            ErrorKind::NotFound
-            | ErrorKind::NotADirectory
-            | ErrorKind::InvalidFilename
-            | ErrorKind::FilesystemLoop => Unlisted::Missing,
-            _ => Unlisted::Unreadable,
-        }
-    }
-
-    /// The status of the answer that says so.
-    pub fn status(self) -> StatusCode {
-        match self {
-            Unlisted::Missing => StatusCode::NOT_FOUND,
-            Unlisted::Forbidden => StatusCode::FORBIDDEN,
-            Unlisted::Unreadable | Unlisted::NoMemory => StatusCode::INTERNAL_SERVER_ERROR,
-        }
-    }
-}
-
-/// The names in a folder, in order, those with a dot in front only where they are to be shown. One that can't be looked at
-/// is left out.
-pub fn entries(
+/// Opens the file at a path, which is the one of the request's target, or the coded one beside it that the request gets.
+pub fn open(
     rt: &HostRuntime,
+    folder: &Folder,
+    request: &RequestHead,
     path: &FilePath,
-    shows_dots: bool,
-) -> Result<Vec<Entry>, Unlisted> {
-    let alloc = rt.alloc();
-    let mut entries = Vec::new(alloc);
-    let listing = match fs::read_dir(rt, path.as_str()) {
-        Ok(listing) => listing,
-        Err(error) => return Err(Unlisted::of(&error)),
+) -> Result<(File, Found), Unread> {
+    let Ok(form) = Form::of(rt, folder, request) else {
+        return Err(Unread::NoMemory);
     };
-    for item in listing {
-        let item = match item {
-            Ok(item) => item,
-            Err(error) => return Err(Unlisted::of(&error)),
-        };
-        if !shows_dots && item.file_name().starts_with('.') {
-            continue;
-        }
-        let Ok(metadata) = fs::metadata(rt, item.path()) else {
-            continue;
-        };
-        let Ok(name) = String::from_str(alloc, item.file_name()) else {
-            return Err(Unlisted::NoMemory);
-        };
-        let entry = Entry {
-            is_file: !metadata.is_dir(),
-            name,
-            size: metadata.len(),
-            changed: stamp(&metadata).map(|(seconds, _)| seconds),
-        };
-        if entries.push(entry).is_err() {
-            return Err(Unlisted::NoMemory);
-        }
+    let place = form.path.as_ref().unwrap_or(path);
+    let file = match File::open(rt, place.as_str()) {
+        Ok(file) => file,
+        Err(error) => return Err(Unread::of(&error)),
+    };
+    let Ok(metadata) = file.metadata() else {
+        return Err(Unread::Broken);
+    };
+    match Found::new(rt.alloc(), &metadata, &form) {
+        Ok(found) => Ok((file, found)),
+        Err(AllocError) => Err(Unread::NoMemory),
     }
-    if entries.sort().is_err() {
-        return Err(Unlisted::NoMemory);
-    }
-    Ok(entries)
 }
 
-/// The status that tells of a file or a folder that can't be opened.
-pub fn status_of(error: &Error) -> StatusCode {
-    Unlisted::of(error).status()
+/// A second after the start of 1970 as `Last-Modified` has it, where a date can tell it.
+pub fn date_text(seconds: u64) -> Option<[u8; 29]> {
+    let date = HttpDate::from_unix_secs(seconds).ok()?;
+    Some(date.to_bytes())
 }

@@ -2,16 +2,16 @@
 ghost use Rattle.std.specs.Prelude.{None};
 ghost use Rattle.serve_blocking.specs.Served.{Follows};
 
-use crate::found::{Found, Unlisted, entries, is_file, look, open};
-use crate::reply::{Sent, add, add_range, file_head, page_head};
+use crate::access::tell;
+use crate::asked::{NO_TAG, bytes_of, conditions_of};
+use crate::found::{Found, open};
+use crate::listed::Listed;
+use crate::lookup::{Unread, is_file, look};
+use crate::reply::{Sent, add, add_range, add_type, file_head, listed_head, page_head};
 use crate::shared::Shared;
-use http_files::{
-    Asked, FilePath, PathError, asked_range, content_type, folder_page, is_unchanged_since,
-    line_text, lists_etag, message_page, place_of,
-};
-use http_types::header::CONTENT_TYPE;
+use http_files::{Asked, FilePath, PathError, Verdict, content_type, message_page, place_of};
 use http_types::header::names::{ALLOW, LOCATION};
-use http_types::{HeaderMap, Method, NoMemory, RequestHead, ResponseHead, StatusCode};
+use http_types::{Method, NoMemory, RequestHead, ResponseHead, StatusCode};
 use net_sockets::{TimedSink, TimedSource};
 use serve_blocking::{Answer, Body, HandleError, Handler, Handlers, Incoming};
 use std::alloc::Global;
@@ -19,6 +19,7 @@ use std::fs::File;
 use std::io::{Read, Seek, SeekFrom};
 use std::net::SocketAddr;
 use std::sync::Arc;
+use std::time::Instant;
 
 /// How many bytes of a file are held at once.
 const PIECE: usize = 65_536;
@@ -76,16 +77,10 @@ impl Handler for FileHandler {
         body: &mut Body<S, K>,
         answer: Answer,
     ) -> Result<(), HandleError> {
-        let sent = self.answer(request.head(), body, answer);
+        let begun = Instant::now(&self.rt).ok();
+        let sent = self.answer(request, body, answer);
         self.shared.count();
-        let sent = sent?;
-        let method = request.head().method.as_str();
-        let target = line_text(self.alloc, request.target().as_slice())?;
-        let (status, length) = (sent.status.as_u16(), sent.length);
-        let _ = match request.peer() {
-            Some(peer) => eprintln!(self.rt; "{peer} {method} {target} {status} {length}"),
-            None => eprintln!(self.rt; "- {method} {target} {status} {length}"),
-        };
+        tell(self.rt, self.shared.lines(), request, sent?, begun)?;
         Ok(())
     }
 
@@ -98,12 +93,13 @@ impl FileHandler {
     #[tactic(auto, using(serve_blocking::proofs::Followed::follows_none, serve_blocking::proofs::Followed::follows_then))]
     fn answer<S: TimedSource, K: TimedSink>(
         &mut self,
-        head: &RequestHead,
+        request: &Incoming<'_>,
         body: &mut Body<S, K>,
         answer: Answer,
     ) -> Result<Sent, HandleError>
         ensures follows { Follows body.old body.new }
     {
+        let head = request.head();
         if head.method != Method::GET && head.method != Method::HEAD {
             return self.refuse(StatusCode::METHOD_NOT_ALLOWED, body, answer);
         }
@@ -119,14 +115,14 @@ impl FileHandler {
         };
         match look(&self.rt, &path) {
             Ok(metadata) if metadata.is_dir() && target.ends_with('/') => {
-                self.folder(head, &path, body, answer)
+                self.folder(request, &path, body, answer)
             }
             Ok(metadata) if metadata.is_dir() => self.redirect(head, body, answer),
             Ok(metadata) if metadata.is_file() && !target.ends_with('/') => {
                 self.file(head, &path, body, answer)
             }
             Ok(_) => self.refuse(StatusCode::NOT_FOUND, body, answer),
-            Err(status) => self.refuse(status, body, answer),
+            Err(unread) => self.refuse(unread.status(), body, answer),
         }
     }
 
@@ -175,7 +171,7 @@ impl FileHandler {
     #[tactic(auto, using(serve_blocking::proofs::Followed::follows_none, serve_blocking::proofs::Followed::follows_then))]
     fn folder<S: TimedSource, K: TimedSink>(
         &mut self,
-        request: &RequestHead,
+        request: &Incoming<'_>,
         path: &FilePath,
         body: &mut Body<S, K>,
         answer: Answer,
@@ -186,26 +182,45 @@ impl FileHandler {
             return Err(HandleError::NoMemory);
         };
         if is_file(&self.rt, &index) {
-            return self.file(request, &index, body, answer);
+            return self.file(request.head(), &index, body, answer);
         }
-        let entries = match entries(&self.rt, path, self.shared.shows_dots()) {
-            Ok(entries) => entries,
-            Err(Unlisted::NoMemory) => return Err(HandleError::NoMemory),
-            Err(unlisted) => return self.refuse(unlisted.status(), body, answer),
-        };
-        let alloc = self.alloc;
-        let place = path
-            .as_str()
-            .strip_prefix(self.shared.folder().as_str())
-            .unwrap_or("");
-        let mut title = String::from_str(alloc, place)?;
-        title.push_str("/")?;
-        let page = folder_page(alloc, title.as_str(), entries.as_slice())?;
-        let head = page_head(alloc, StatusCode::OK)?;
-        send_page(head, StatusCode::OK, page.as_str(), body, answer)
+        match Listed::new(&self.rt, &self.shared, path, request.moment()) {
+            Ok(listed) => self.listed(request.head(), &listed, body, answer),
+            Err(Unread::NoMemory) => Err(HandleError::NoMemory),
+            Err(unread) => self.refuse(unread.status(), body, answer),
+        }
     }
 
-    // Answers with a file, or a part of it, or that the client has it.
+    // Answers with a page of names, or as its conditions say. It has no tag.
+    #[tactic(auto, using(serve_blocking::proofs::Followed::follows_none, serve_blocking::proofs::Followed::follows_then))]
+    fn listed<S: TimedSource, K: TimedSink>(
+        &mut self,
+        request: &RequestHead,
+        listed: &Listed,
+        body: &mut Body<S, K>,
+        answer: Answer,
+    ) -> Result<Sent, HandleError>
+        ensures follows { Follows body.old body.new }
+    {
+        let status = match conditions_of(&request.headers, NO_TAG, listed.changed).verdict() {
+            Verdict::Served => StatusCode::OK,
+            Verdict::Unmodified => StatusCode::NOT_MODIFIED,
+            Verdict::Failed => return self.refuse(StatusCode::PRECONDITION_FAILED, body, answer),
+        };
+        let head = listed_head(
+            self.alloc,
+            status,
+            listed.changed,
+            self.shared.cache_control(),
+        )?;
+        if status == StatusCode::OK {
+            return send_page(head, status, listed.page.as_str(), body, answer);
+        }
+        answer.empty(body, head)?;
+        Ok(Sent { status, length: 0 })
+    }
+
+    // Answers with a file, or a part of it, or as its conditions say.
     #[tactic(auto, using(serve_blocking::proofs::Followed::follows_none, serve_blocking::proofs::Followed::follows_then))]
     fn file<S: TimedSource, K: TimedSink>(
         &mut self,
@@ -216,38 +231,70 @@ impl FileHandler {
     ) -> Result<Sent, HandleError>
         ensures follows { Follows body.old body.new }
     {
+        let (mut file, found) = match open(&self.rt, self.shared.folder(), request, path) {
+            Ok(opened) => opened,
+            Err(Unread::NoMemory) => return Err(HandleError::NoMemory),
+            Err(unread) => return self.refuse(unread.status(), body, answer),
+        };
+        let changed = Some(found.changed);
+        match conditions_of(&request.headers, &found.tag, changed).verdict() {
+            Verdict::Served => self.send_file(request, path, &mut file, &found, body, answer),
+            Verdict::Unmodified => {
+                let status = StatusCode::NOT_MODIFIED;
+                let cache = self.shared.cache_control();
+                answer.empty(body, file_head(self.alloc, status, &found, cache)?)?;
+                Ok(Sent { status, length: 0 })
+            }
+            Verdict::Failed => self.refuse(StatusCode::PRECONDITION_FAILED, body, answer),
+        }
+    }
+
+    // Answers with a file, or with a part of it.
+    #[tactic(auto, using(serve_blocking::proofs::Followed::follows_none, serve_blocking::proofs::Followed::follows_then))]
+    fn send_file<S: TimedSource, K: TimedSink>(
+        &mut self,
+        request: &RequestHead,
+        path: &FilePath,
+        file: &mut File,
+        found: &Found,
+        body: &mut Body<S, K>,
+        answer: Answer,
+    ) -> Result<Sent, HandleError>
+        ensures follows { Follows body.old body.new }
+    {
         let alloc = self.alloc;
-        let mut file = match open(&self.rt, path) {
-            Ok(file) => file,
-            Err(status) => return self.refuse(status, body, answer),
+        let (status, first, last) = match bytes_of(request, found) {
+            Asked::Whole => (StatusCode::OK, 0, found.length.saturating_sub(1)),
+            Asked::Part(first, last) => (StatusCode::PARTIAL_CONTENT, first, last),
+            Asked::Unsatisfiable => return self.unsatisfiable(found, body, answer),
         };
-        let Ok(metadata) = file.metadata() else {
-            return self.refuse(StatusCode::INTERNAL_SERVER_ERROR, body, answer);
-        };
-        let found = Found::new(alloc, &metadata)?;
-        if has_it(&request.headers, &found) {
-            let status = StatusCode::NOT_MODIFIED;
-            answer.empty(body, file_head(alloc, status, &found)?)?;
-            return Ok(Sent { status, length: 0 });
+        let mut head = file_head(alloc, status, found, self.shared.cache_control())?;
+        add_type(alloc, &mut head, content_type(path.as_str()), found)?;
+        let mut length = found.length;
+        if status == StatusCode::PARTIAL_CONTENT {
+            add_range(alloc, &mut head, Some((first, last)), found.length)?;
+            length = last.saturating_sub(first).saturating_add(1);
         }
-        let (status, part) = match asked_of(request, &found) {
-            Asked::Whole => (StatusCode::OK, None),
-            Asked::Part(first, last) => (StatusCode::PARTIAL_CONTENT, Some((first, last))),
-            Asked::Unsatisfiable => (StatusCode::RANGE_NOT_SATISFIABLE, None),
-        };
-        let mut head = file_head(alloc, status, &found)?;
-        add(alloc, &mut head, CONTENT_TYPE, content_type(path.as_str()))?;
-        if status != StatusCode::OK {
-            add_range(alloc, &mut head, part, found.length)?;
-        }
-        let (first, length) = match part {
-            Some((first, last)) => (first, last.saturating_sub(first).saturating_add(1)),
-            None if status == StatusCode::OK => (0, found.length),
-            None => (0, 0),
-        };
         let is_head = request.method == Method::HEAD;
-        self.send(&mut file, is_head, first, length, head, body, answer)?;
+        self.send(file, is_head, first, length, head, body, answer)?;
         Ok(Sent { status, length })
+    }
+
+    // Says that the bytes that are asked for aren't there, and how many there are.
+    #[tactic(auto, using(serve_blocking::proofs::Followed::follows_none, serve_blocking::proofs::Followed::follows_then))]
+    fn unsatisfiable<S: TimedSource, K: TimedSink>(
+        &mut self,
+        found: &Found,
+        body: &mut Body<S, K>,
+        answer: Answer,
+    ) -> Result<Sent, HandleError>
+        ensures follows { Follows body.old body.new }
+    {
+        let status = StatusCode::RANGE_NOT_SATISFIABLE;
+        let mut head = page_head(self.alloc, status)?;
+        add_range(self.alloc, &mut head, None, found.length)?;
+        let page = message_page(self.alloc, "Range Not Satisfiable")?;
+        send_page(head, status, page.as_str(), body, answer)
     }
 
     // Sends so many bytes of a file, piece by piece.
@@ -310,44 +357,4 @@ fn send_page<S: TimedSource, K: TimedSink>(
         status,
         length: page.len() as u64,
     })
-}
-
-// Whether the client has the file already (RFC 7232, section 6).
-fn has_it(headers: &HeaderMap, found: &Found) -> bool {
-    if let Some(tags) = headers.get("if-none-match") {
-        return lists_etag(tags.to_str().unwrap_or(""), &found.tag);
-    }
-    match headers.get("if-modified-since") {
-        Some(date) => is_unchanged_since(date.as_bytes(), found.changed),
-        None => false,
-    }
-}
-
-// Which bytes are asked for. Of a file that isn't the one that `If-Range` means, all of them (RFC 7233, section 3.2).
-fn asked_of(request: &RequestHead, found: &Found) -> Asked {
-    if request.method != Method::GET {
-        return Asked::Whole;
-    }
-    let Some(range) = request.headers.get("range") else {
-        return Asked::Whole;
-    };
-    let is_meant = match request.headers.get("if-range") {
-        Some(value) => is_same(value.as_bytes(), found),
-        None => true,
-    };
-    match range.to_str() {
-        Ok(range) if is_meant => asked_range(range, found.length),
-        _ => Asked::Whole,
-    }
-}
-
-// Whether it is the file's tag, or its date.
-fn is_same(value: &[u8], found: &Found) -> bool {
-    if value == found.tag.as_bytes() {
-        return true;
-    }
-    match found.date() {
-        Some(date) => value == date.as_slice(),
-        None => false,
-    }
 }

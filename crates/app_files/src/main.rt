@@ -1,8 +1,13 @@
 //! Serves the files of a folder over HTTP/1: `app_files PORT FOLDER`.
 #![tactic(auto)]
 
+mod access;
+mod asked;
+mod form;
 mod found;
 mod handler;
+mod listed;
+mod lookup;
 mod options;
 mod reply;
 mod shared;
@@ -142,9 +147,19 @@ where
 fn share(alloc: Global, options: &Options<'_>) -> Option<Arc<Shared>> {
     let path = String::from_str(alloc, options.folder).ok()?;
     let folder = Folder::new(path)?;
+    let cache_control = match options.cache_control {
+        Some(text) => Some(String::from_str(alloc, text).ok()?),
+        None => None,
+    };
     Arc::new(
         alloc,
-        Shared::new(folder, options.shows_dots, options.requests),
+        Shared::new(
+            folder,
+            options.shows_dots,
+            cache_control,
+            options.lines,
+            options.requests,
+        ),
     )
     .ok()
 }

@@ -1,4 +1,5 @@
 //! The words that the program is started with.
+use crate::access::LineForm;
 use thiserror::Error;
 
 pub const VERSION: &str = "app_files 0.1.0";
@@ -12,7 +13,11 @@ Serves the files of a folder over HTTP/1.
   --bind ADDRESS       the address to listen on, of IPv4 or IPv6: 127.0.0.1 by default, which only this machine
                        reaches; 0.0.0.0 and :: are all
   --dotfiles           serve and list names that begin with a dot, too
+  --cache-control TEXT send TEXT as the field Cache-Control of files and pages of names
   --lax                answer requests too whose head RFC 9110 or 9112 refuses
+  --log                write a longer line for each request: the time, the peer, the method, the target, the version,
+                       the status, the bytes of the body, and the milliseconds until it was handed over
+  --log=json           write the same in JSON
   --requests N         end after N requests
   --until-input-ends   end where the standard input ends
   --help               print this and end
@@ -39,8 +44,14 @@ pub struct Options<'a> {
     /// Names that begin with a dot are served and listed.
     pub shows_dots: bool,
 
+    /// The field `Cache-Control` of files and of pages of names.
+    pub cache_control: Option<&'a str>,
+
     /// Heads that RFC 9110 or RFC 9112 refuses are answered too.
     pub is_lax: bool,
+
+    /// What the line of a request says.
+    pub lines: LineForm,
 
     /// After how many requests the server ends.
     pub requests: Option<u64>,
@@ -62,6 +73,9 @@ pub enum UsageError {
     #[error("--bind wants an address")]
     Bind,
 
+    #[error("--cache-control wants a text without control bytes")]
+    CacheControl,
+
     #[error("--requests wants a number")]
     Requests,
 
@@ -69,46 +83,70 @@ pub enum UsageError {
     Option,
 }
 
+impl<'a> Options<'a> {
+    // Those of a program that is started without an option, and as yet without a port and a folder.
+    fn new() -> Options<'a> {
+        Options {
+            port: 0,
+            folder: "",
+            address: "127.0.0.1",
+            shows_dots: false,
+            cache_control: None,
+            is_lax: false,
+            lines: LineForm::Short,
+            requests: None,
+            until_input_ends: false,
+        }
+    }
+}
+
 /// Reads the words, without the program's name.
 pub fn read(words: &[String]) -> Result<Command<'_>, UsageError> {
-    let mut port = None;
-    let mut folder = None;
-    let mut address = None;
-    let mut requests = None;
-    let mut until_input_ends = false;
-    let mut shows_dots = false;
-    let mut is_lax = false;
+    let mut options = Options::new();
+    let mut operands = 0;
     let mut rest = words.iter();
     while let Some(word) = rest.next() {
         match word.as_str() {
             "--help" | "-h" => return Ok(Command::Help),
             "--version" => return Ok(Command::Version),
-            "--dotfiles" => shows_dots = true,
-            "--lax" => is_lax = true,
-            "--until-input-ends" => until_input_ends = true,
-            "--bind" => address = Some(rest.next().ok_or(UsageError::Bind)?.as_str()),
+            "--dotfiles" => options.shows_dots = true,
+            "--lax" => options.is_lax = true,
+            "--log" => options.lines = LineForm::Long,
+            "--log=json" => options.lines = LineForm::Json,
+            "--until-input-ends" => options.until_input_ends = true,
+            "--bind" => options.address = rest.next().ok_or(UsageError::Bind)?.as_str(),
+            "--cache-control" => options.cache_control = Some(field_value(rest.next())?),
             "--requests" => {
                 let count = rest.next().ok_or(UsageError::Requests)?;
-                requests = Some(count.parse::<u64>().map_err(|_| UsageError::Requests)?);
+                options.requests = Some(count.parse::<u64>().map_err(|_| UsageError::Requests)?);
             }
             option if option.starts_with("--") => return Err(UsageError::Option),
-            text if port.is_none() => {
-                port = Some(text.parse::<u16>().map_err(|_| UsageError::Port)?);
+            text if operands == 0 => {
+                options.port = text.parse::<u16>().map_err(|_| UsageError::Port)?;
+                operands = 1;
             }
-            text if folder.is_none() => folder = Some(text),
+            text if operands == 1 => {
+                options.folder = text;
+                operands = 2;
+            }
             _ => return Err(UsageError::TooMany),
         }
     }
-    let (Some(port), Some(folder)) = (port, folder) else {
+    if operands < 2 {
         return Err(UsageError::TooFew);
-    };
-    Ok(Command::Serve(Options {
-        port,
-        folder,
-        address: address.unwrap_or("127.0.0.1"),
-        shows_dots,
-        is_lax,
-        requests,
-        until_input_ends,
-    }))
+    }
+    Ok(Command::Serve(options))
+}
+
+// A word that a field can have as its value (RFC 9110, section 5.5).
+fn field_value(word: Option<&String>) -> Result<&str, UsageError> {
+    match word {
+        Some(text) if !text.as_bytes().iter().any(|byte| is_control(*byte)) => Ok(text.as_str()),
+        _ => Err(UsageError::CacheControl),
+    }
+}
+
+// Whether it is a control byte other than the tab.
+fn is_control(byte: u8) -> bool {
+    byte == 127 || (byte < 32 && byte != b'\t')
 }

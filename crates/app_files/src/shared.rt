@@ -1,4 +1,5 @@
-//! What the connections of a server share: its folder, how many requests were answered, and whether it is to end.
+//! What the connections of a server share: its folder and options, how many requests were answered, and whether it is to end.
+use crate::access::LineForm;
 use http_files::Folder;
 use std::sync::atomic::{AtomicU64, Ordering};
 
@@ -7,6 +8,8 @@ use std::sync::atomic::{AtomicU64, Ordering};
 pub struct Shared {
     folder: Folder,
     shows_dots: bool,
+    cache_control: Option<String>,
+    lines: LineForm,
     answered: AtomicU64,
     has_ended: AtomicU64,
     limit: Option<u64>,
@@ -14,10 +17,18 @@ pub struct Shared {
 
 impl Shared {
     /// No request is answered yet. After so many the server ends, where a limit is given.
-    pub fn new(folder: Folder, shows_dots: bool, limit: Option<u64>) -> Shared {
+    pub fn new(
+        folder: Folder,
+        shows_dots: bool,
+        cache_control: Option<String>,
+        lines: LineForm,
+        limit: Option<u64>,
+    ) -> Shared {
         Shared {
             folder,
             shows_dots,
+            cache_control,
+            lines,
             answered: AtomicU64::new(0),
             has_ended: AtomicU64::new(0),
             limit,
@@ -32,6 +43,16 @@ impl Shared {
     /// Whether names that begin with a dot are served and listed.
     pub fn shows_dots(&self) -> bool {
         self.shows_dots
+    }
+
+    /// The field `Cache-Control` of files and of pages of names.
+    pub fn cache_control(&self) -> Option<&str> {
+        self.cache_control.as_deref()
+    }
+
+    /// What the line of a request says.
+    pub fn lines(&self) -> LineForm {
+        self.lines
     }
 
     /// A further request is answered.

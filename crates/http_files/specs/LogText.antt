@@ -13,3 +13,13 @@ shown b = if is_shown b then b ∷ [] else 92 ∷ 120 ∷ digit_glyph false (b /
 
 abbrev pub line_text : List ℕ → List ℕ
 line_text bytes = flat_map shown bytes
+
+-- ---- the same in JSON
+
+-- it stands for itself, and another one and the quote are a backslash, `u00` and two digits
+abbrev pub shown_in_json : ℕ → List ℕ
+shown_in_json b =
+    if is_shown b && not (b == 34) then b ∷ [] else 92 ∷ 117 ∷ 48 ∷ 48 ∷ digit_glyph false (b / 16) ∷ digit_glyph false (b % 16) ∷ []
+
+abbrev pub json_text : List ℕ → List ℕ
+json_text bytes = flat_map shown_in_json bytes

@@ -1,5 +1,5 @@
 //! What a server of static files has to know, without a file and without a socket: where a target's file lies, which of
-//! its bytes are asked for, whether the client has it already, of which type it is, and how a folder's page looks.
+//! its bytes are asked for, on which conditions, of which type it is, and how a folder's page looks.
 //!
 //! # Example
 //!
@@ -14,6 +14,7 @@
 //! A path is the folder's, and then plain names: no `..`, no NUL. A range is one of bytes, as RFC 7233 has it.
 #![tactic(auto)]
 
+mod codings;
 mod conditions;
 mod error;
 mod listing;
@@ -23,10 +24,13 @@ mod places;
 mod ranges;
 mod types;
 
-pub use conditions::{etag, is_unchanged_since, lists_etag};
+pub use codings::{Accepted, Coding};
+pub use conditions::{
+    Conditions, Verdict, etag, is_unchanged_since, lists_etag, lists_strong_etag,
+};
 pub use error::PathError;
-pub use listing::{Entry, folder_page, message_page};
-pub use log_text::line_text;
+pub use listing::{Entry, folder_page, message_page, page_changed};
+pub use log_text::{json_text, line_text, log_time};
 pub use paths::{FilePath, Folder};
 pub use places::place_of;
 pub use ranges::{Asked, asked_range};

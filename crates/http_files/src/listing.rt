@@ -1,4 +1,7 @@
 //! The page of a folder, and of a message.
+ghost use Rattle.std.specs.Prelude.{◌≡◌};
+ghost use Rattle.http_files.specs.Pages.{latest, later, over, page_changed};
+
 use httpdate::HttpDate;
 use percent_encoding::{NON_ALPHANUMERIC, utf8_percent_encode};
 use std::alloc::{AllocError, Global};
@@ -37,6 +40,40 @@ pub fn folder_page(alloc: Global, place: &str, entries: &[Entry]) -> Result<Stri
     }
     page.push_str("</table></body></html>\n")?;
     Ok(page)
+}
+
+/// When a folder's page was last changed, in seconds after the start of 1970: with the folder or with one of its names,
+/// whichever was later. It isn't told where one of these times isn't known, nor where it isn't over at this moment, which is in
+/// milliseconds: within that second the page may change again (RFC 9110, section 8.8.2.2).
+#[tactic(auto, using(crate::proofs::PageLemmas::latest_on))]
+pub fn page_changed(folder: Option<u64>, entries: &[Entry], moment: Option<u64>) -> Option<u64>
+    ensures { result ≡ page_changed folder entries.now moment }
+{
+    let mut changed = folder;
+    for entry in entries {
+        changed = later(changed, entry.changed);
+    }
+    over(changed, moment)
+}
+
+// The later one of two times, where both are known.
+fn later(one: Option<u64>, other: Option<u64>) -> Option<u64>
+    ensures { result ≡ later one other }
+{
+    match (one, other) {
+        (Some(one), Some(other)) => Some(one.max(other)),
+        _ => None,
+    }
+}
+
+// A second that is over at this moment.
+fn over(second: Option<u64>, moment: Option<u64>) -> Option<u64>
+    ensures { result ≡ over second moment }
+{
+    match (second, moment) {
+        (Some(second), Some(moment)) if second < moment / 1000 => Some(second),
+        _ => None,
+    }
 }
 
 /// A page with one sentence, in HTML.
