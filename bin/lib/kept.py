@@ -26,7 +26,7 @@ def give(folder):
     every = rt.crates_of(folder)
     kept, have = rt.Kept(every), set()
     for crate in every:
-        if crate.is_program or any(it.name not in have for it in crate.below()):
+        if crate.is_program or crate.is_static or any(it.name not in have for it in crate.below()):
             continue
         if not crate.is_built():
             key = kept.key(crate)

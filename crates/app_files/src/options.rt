@@ -83,59 +83,55 @@ pub enum UsageError {
     Option,
 }
 
-impl<'a> Options<'a> {
-    // Those of a program that is started without an option, and as yet without a port and a folder.
-    fn new() -> Options<'a> {
-        Options {
-            port: 0,
-            folder: "",
-            address: "127.0.0.1",
-            shows_dots: false,
-            cache_control: None,
-            is_lax: false,
-            lines: LineForm::Short,
-            requests: None,
-            until_input_ends: false,
-        }
-    }
-}
-
 /// Reads the words, without the program's name.
 pub fn read(words: &[String]) -> Result<Command<'_>, UsageError> {
-    let mut options = Options::new();
-    let mut operands = 0;
+    let mut port = None;
+    let mut folder = None;
+    let mut address = None;
+    let mut cache_control = None;
+    let mut requests = None;
+    let mut lines = LineForm::Short;
+    let mut until_input_ends = false;
+    let mut shows_dots = false;
+    let mut is_lax = false;
     let mut rest = words.iter();
     while let Some(word) = rest.next() {
         match word.as_str() {
             "--help" | "-h" => return Ok(Command::Help),
             "--version" => return Ok(Command::Version),
-            "--dotfiles" => options.shows_dots = true,
-            "--lax" => options.is_lax = true,
-            "--log" => options.lines = LineForm::Long,
-            "--log=json" => options.lines = LineForm::Json,
-            "--until-input-ends" => options.until_input_ends = true,
-            "--bind" => options.address = rest.next().ok_or(UsageError::Bind)?.as_str(),
-            "--cache-control" => options.cache_control = Some(field_value(rest.next())?),
+            "--dotfiles" => shows_dots = true,
+            "--lax" => is_lax = true,
+            "--log" => lines = LineForm::Long,
+            "--log=json" => lines = LineForm::Json,
+            "--until-input-ends" => until_input_ends = true,
+            "--bind" => address = Some(rest.next().ok_or(UsageError::Bind)?.as_str()),
+            "--cache-control" => cache_control = Some(field_value(rest.next())?),
             "--requests" => {
                 let count = rest.next().ok_or(UsageError::Requests)?;
-                options.requests = Some(count.parse::<u64>().map_err(|_| UsageError::Requests)?);
+                requests = Some(count.parse::<u64>().map_err(|_| UsageError::Requests)?);
             }
             option if option.starts_with("--") => return Err(UsageError::Option),
-            text if operands == 0 => {
-                options.port = text.parse::<u16>().map_err(|_| UsageError::Port)?;
-                operands = 1;
+            text if port.is_none() => {
+                port = Some(text.parse::<u16>().map_err(|_| UsageError::Port)?);
             }
-            text if operands == 1 => {
-                options.folder = text;
-                operands = 2;
-            }
+            text if folder.is_none() => folder = Some(text),
             _ => return Err(UsageError::TooMany),
         }
     }
-    if operands < 2 {
+    let (Some(port), Some(folder)) = (port, folder) else {
         return Err(UsageError::TooFew);
-    }
-    Ok(Command::Serve(options))
+    };
+    Ok(Command::Serve(Options {
+        port,
+        folder,
+        address: address.unwrap_or("127.0.0.1"),
+        shows_dots,
+        cache_control,
+        is_lax,
+        lines,
+        requests,
+        until_input_ends,
+    }))
 }
 
 // A word that a field can have as its value (RFC 9110, section 5.5).
