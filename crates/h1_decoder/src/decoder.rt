@@ -64,6 +64,17 @@ impl HeadItem {
         }
     }
 
+    /// Lets go what it shares with the bytes that it was read from: its target and its headers. Its map keeps its memory.
+    pub fn let_go(&mut self)
+        ensures headers { self.new.head.headers ≡ [] }
+        ensures uri { HasParts self.new.head.uri None None (codes "/") }
+        ensures target { self.new.target ≡ codes "/" }
+    {
+        self.head.headers.clear();
+        self.head.uri = Uri::default();
+        self.target = Bytes::from_static(b"/");
+    }
+
     /// An equal head, as `clone` gives it too.
     pub fn copy(&self) -> Result<HeadItem, NoMemory>
         ensures { IfOk result (λ copy. copy ≡ self.now) }
