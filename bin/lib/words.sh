@@ -78,7 +78,7 @@ launch_serve() {
 }
 
 launch_get() {
-    flags="--head --chunked"
+    flags="--head -I --fail -f --chunked"
     valued="--wait"
     urls=0
     file=
@@ -95,7 +95,7 @@ launch_get() {
     read_words "$@"
     [ "$urls" -gt 0 ] || wrong NoUrl
     case " ${words[*]} " in
-        *" --head "*) [ -z "$file" ] || wrong HeadWithFile ;;
+        *" --head "* | *" -I "*) [ -z "$file" ] || wrong HeadWithFile ;;
     esac
     case " ${words[*]} " in
         *" --chunked "*) [ -n "$file" ] || wrong ChunkedAlone ;;

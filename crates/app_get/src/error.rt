@@ -81,6 +81,10 @@ pub enum GetError {
     #[error("the server goes on to another protocol, for which nobody asked")]
     Protocol,
 
+    /// The answer's status is 400 or above, where such an answer isn't wanted.
+    #[error("the server refuses what was asked for")]
+    Refusal,
+
     /// The request can't be sent.
     #[error("such a request can't be sent")]
     Request,
@@ -105,6 +109,7 @@ impl GetError {
             GetError::Unanswered | GetError::Lost | GetError::BadHead | GetError::LongHead => 6,
             GetError::BadChunks | GetError::Protocol | GetError::Request => 6,
             GetError::Late => 7,
+            GetError::Refusal => 22,
         }
     }
 

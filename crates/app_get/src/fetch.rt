@@ -1,6 +1,7 @@
 //! How a URL is fetched.
 ghost use Rattle.std.specs.Prelude.{None};
 
+use crate::answer::Wanted;
 use crate::each::{Fetches, fetch_each};
 use crate::error::GetError;
 use crate::exchange::Exchange;
@@ -15,6 +16,9 @@ use net_sockets::{SocketSink, SocketSource, moment};
 use std::fs::File;
 use std::io::ErrorKind;
 
+/// The status of the program where an answer says that it isn't what was asked for.
+const NO_SUCCESS: u8 = 8;
+
 /// Fetches all, and gives the status of the program.
 pub fn fetch_all(rt: HostRuntime, options: &Options<'_>) -> u8 {
     let mut fetcher = Fetcher {
@@ -22,7 +26,12 @@ pub fn fetch_all(rt: HostRuntime, options: &Options<'_>) -> u8 {
         options,
         kept: None,
     };
-    fetch_each(&mut fetcher, &options.urls)
+    let refused = if options.is_failing {
+        GetError::Refusal.status()
+    } else {
+        NO_SUCCESS
+    };
+    fetch_each(&mut fetcher, &options.urls, refused)
 }
 
 // What fetches URLs as the options say, over a connection that is kept where that may be.
@@ -37,7 +46,7 @@ impl<'a, 'w> Fetcher<'a, 'w> {
     // Over this connection, or over a new one, which is kept.
     fn over(&mut self, target: &Target, kept: Option<Link>) -> Result<u16, GetError> {
         let (status, link) = fetch_over(self.rt, self.options, target, kept)?;
-        self.kept = Some(link);
+        self.kept = link;
         Ok(status)
     }
 }
@@ -85,13 +94,13 @@ impl<'a, 'w> Tries for Fetcher<'a, 'w> {
     }
 }
 
-// Fetches one over this connection, or over a new one.
+// Fetches one over this connection, or over a new one. It gives the status, and the connection where it may be used again.
 fn fetch_over(
     rt: HostRuntime,
     options: &Options<'_>,
     target: &Target,
     kept: Option<Link>,
-) -> Result<(u16, Link), GetError> {
+) -> Result<(u16, Option<Link>), GetError> {
     let alloc = rt.alloc();
     let (file, size) = open(rt, options)?;
     let head = head_for(alloc, options, target)?;
@@ -111,18 +120,29 @@ fn fetch_over(
         SocketSink::new(&stream),
         file,
         StdSink::new(rt.stdout()),
-        options.is_head,
+        wanted_of(options),
     );
-    let status = exchange.run(options.wait)?;
-    let connection = exchange.into_connection();
-    Ok((
-        status,
-        Link {
-            stream,
-            connection,
-            place,
-        },
-    ))
+    match exchange.run(options.wait) {
+        Ok(status) => {
+            let connection = exchange.into_connection();
+            let link = Link {
+                stream,
+                connection,
+                place,
+            };
+            Ok((status, Some(link)))
+        }
+        // What is left of the answer isn't read.
+        Err(GetError::Refusal) => Ok((exchange.status.unwrap_or(0), None)),
+        Err(error) => Err(error),
+    }
+}
+
+fn wanted_of(options: &Options<'_>) -> Wanted {
+    Wanted {
+        head: options.is_head,
+        no_refusal: options.is_failing,
+    }
 }
 
 // What is sent, where something is, and how long it is, where that is to be said.

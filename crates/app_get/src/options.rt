@@ -12,7 +12,8 @@ Asks for each URL by HTTP/1.1, and writes the bodies of the answers to the stand
 
   URL              http://HOST[:PORT][/PATH][?QUERY]; HOST is a name, an IPv4 address, or an IPv6 address in brackets
   FILE             a word without ://; its bytes are sent with each request, by POST; without it the method is GET
-  --head           ask by HEAD, and write the head of each answer
+  --head, -I       ask by HEAD, and write the head of each answer
+  --fail, -f       don't write the body of an answer of a status of 400 or above
   --chunked        send FILE in chunks, as if nobody knew its length
   --wait SECONDS   for how long nothing may move before the server is given up, 1 to 86400; 30 by default
   --help           print this and end
@@ -23,7 +24,7 @@ URLs of one host and port share a connection as long as the server keeps it. Red
 It ends with status 0; 1 where the output takes no more; 2 for words out of form; 3 where FILE can't be read; 4 where
 no connection can be made; 5 where memory runs out; 6 where the connection or the answer breaks off or is none of
 HTTP/1; 7 where the server takes too long; 8 where an answer's status is 400 or above: its body is written all the
-same. What is wrong is said in one line on standard error, and the URLs after it aren't asked for; after a status of 400
+same; with --fail it isn't, and the status is 22. What is wrong is said in one line on standard error, and the URLs after it aren't asked for; after a status of 400
 or above they are.";
 
 /// For how long nothing may move, in seconds.
@@ -47,6 +48,9 @@ pub struct Options<'a> {
 
     /// Only heads are asked for.
     pub is_head: bool,
+
+    /// The body of an answer of a status of 400 or above isn't written.
+    pub is_failing: bool,
 
     /// The file is sent in chunks.
     pub is_chunked: bool,
@@ -98,6 +102,7 @@ pub fn read(alloc: Global, words: &[String]) -> Result<Command<'_>, UsageError> 
         urls: Vec::new(alloc),
         file: None,
         is_head: false,
+        is_failing: false,
         is_chunked: false,
         wait: USUAL_WAIT * 1000,
     };
@@ -106,7 +111,8 @@ pub fn read(alloc: Global, words: &[String]) -> Result<Command<'_>, UsageError> 
         match word.as_str() {
             "--help" | "-h" => return Ok(Command::Help),
             "--version" => return Ok(Command::Version),
-            "--head" => options.is_head = true,
+            "--head" | "-I" => options.is_head = true,
+            "--fail" | "-f" => options.is_failing = true,
             "--chunked" => options.is_chunked = true,
             "--wait" => options.wait = milliseconds(rest.next())?,
             option if option.starts_with('-') => return Err(UsageError::Option),
