@@ -140,9 +140,9 @@ read_words() {
             :
         elif [[ " $valued " == *" $1 "* ]]; then
             words+=("$1")
+            word=${2-}
             value "$@"
             shift
-            word=$1
         elif [[ $1 == "$option_mark"* ]]; then
             wrong Option
         else

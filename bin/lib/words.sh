@@ -79,10 +79,23 @@ launch_serve() {
 
 launch_get() {
     flags="--head -I --fail -f --chunked"
-    valued="--wait"
+    valued="--wait --data -d --output -o --request -X --header -H"
     urls=0
     file=
-    value() { [ $# -gt 1 ] && is_number "$2" 86400 && [ "${2#+}" -gt 0 ] || wrong Wait; }
+    value() {
+        [ $# -gt 1 ] || wrong NoValue
+        case $1 in
+            --wait) is_number "$2" 86400 && [ "${2#+}" -gt 0 ] || wrong Wait ;;
+            --output | -o) word=$(absolute "$2") ;;
+            --data | -d)
+                [ -z "$file" ] || wrong TwoFiles
+                file=$1
+                case $2 in
+                    @*) word=@$(absolute "${2#@}") ;;
+                esac
+                ;;
+        esac
+    }
     operand() {
         case $2 in
             *://*) urls=$((urls + 1)) ;;
@@ -94,12 +107,12 @@ launch_get() {
     }
     read_words "$@"
     [ "$urls" -gt 0 ] || wrong NoUrl
-    case " ${words[*]} " in
-        *" --head "* | *" -I "*) [ -z "$file" ] || wrong HeadWithFile ;;
-    esac
-    case " ${words[*]} " in
-        *" --chunked "*) [ -n "$file" ] || wrong ChunkedAlone ;;
-    esac
+    for word in "${words[@]}"; do
+        case $word in
+            --head | -I) [ -z "$file" ] || wrong HeadWithFile ;;
+            --chunked) [ -n "$file" ] || wrong ChunkedAlone ;;
+        esac
+    done
     answer "$@"
 }
 

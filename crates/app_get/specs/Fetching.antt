@@ -92,9 +92,9 @@ pub data Tried : Type 0 where
   new_gave : Result ℕ GetError → Tried
 
 -- A request is asked over a connection that was kept, or, where none may be used, over a new one. It is asked twice only where
--- the server didn't answer over the first, and where no file is sent: such a request does nothing more when it is repeated.
+-- the server didn't answer over the first, and where a request does nothing more when it is repeated.
 abbrev pub IsTried : Option (List Tried) → Bool → Option (List Tried) → Result ℕ GetError → Type 0
-IsTried old has_file new result =
+IsTried old is_once new result =
     Notes old (kept_gave (Some result) ∷ []) new
     ⊎ (Notes old (new_gave result ∷ kept_gave None ∷ []) new
-    ⊎ ((has_file ≡ false) × Notes old (new_gave result ∷ kept_gave (Some (Err get_error.Unanswered)) ∷ []) new))
+    ⊎ ((is_once ≡ false) × Notes old (new_gave result ∷ kept_gave (Some (Err get_error.Unanswered)) ∷ []) new))

@@ -104,9 +104,10 @@ impl<S: TimedSource + Drop, K: TimedSink + Drop, B: Source + Drop, O: Sink + Dro
         }
     }
 
-    /// The connection, which may be used again where it says so.
-    pub fn into_connection(self) -> ClientConnection
-        ensures { result ≡ self.state }
+    /// The connection, which may be used again where it says so, and the sink of the answer's body.
+    pub fn into_parts(self) -> (ClientConnection, O)
+        ensures connection { result.0 ≡ self.state }
+        ensures out { O.given result.1 ≡ self.out }
     {
         let Exchange {
             alloc: _,
@@ -114,12 +115,12 @@ impl<S: TimedSource + Drop, K: TimedSink + Drop, B: Source + Drop, O: Sink + Dro
             input: _,
             output: _,
             body: _,
-            out: _,
+            out,
             wanted: _,
             status: _,
             has_begun: _,
         } = self;
-        connection
+        (connection, out)
     }
 
     /// Sends the request and takes its answer, until the answer is whole, and gives its status. Nothing may move for at most

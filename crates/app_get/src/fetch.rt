@@ -7,11 +7,13 @@ use crate::error::GetError;
 use crate::exchange::Exchange;
 use crate::link::Link;
 use crate::options::Options;
-use crate::request::{ask, head_for};
+use crate::output::OutputFile;
+use crate::request::{ask, head_for, is_repeatable};
 use crate::target::Target;
 use crate::tries::{Tries, try_twice};
+use bytes::Bytes;
 use http_framing::BodySize;
-use http_types::{ReadSource, StdSink};
+use http_types::{ReadSource, Sink, Source, StdSink, SureSource};
 use net_sockets::{SocketSink, SocketSource, moment};
 use std::fs::File;
 use std::io::ErrorKind;
@@ -25,6 +27,7 @@ pub fn fetch_all(rt: HostRuntime, options: &Options<'_>) -> u8 {
         rt,
         options,
         kept: None,
+        has_written: false,
     };
     let refused = if options.is_failing {
         GetError::Refusal.status()
@@ -40,14 +43,58 @@ struct Fetcher<'a, 'w> {
     rt: HostRuntime,
     options: &'a Options<'w>,
     kept: Option<Link>,
+
+    // A body was written to the file for bodies.
+    has_written: bool,
 }
 
 impl<'a, 'w> Fetcher<'a, 'w> {
     // Over this connection, or over a new one, which is kept.
     fn over(&mut self, target: &Target, kept: Option<Link>) -> Result<u16, GetError> {
-        let (status, link) = fetch_over(self.rt, self.options, target, kept)?;
-        self.kept = link;
+        if let Some(text) = self.options.text {
+            let Ok(bytes) = Bytes::copy_from_slice(self.rt.alloc(), text.as_bytes()) else {
+                return Err(GetError::NoMemory);
+            };
+            let size = if self.options.is_chunked {
+                BodySize::Stream
+            } else {
+                BodySize::Sized(text.len() as u64)
+            };
+            return self.send(target, kept, Some(SureSource::new(bytes)), size);
+        }
+        let (file, size) = open(self.rt, self.options)?;
+        self.send(target, kept, file, size)
+    }
+
+    // The same, where this is what is sent.
+    fn send<B: Source + Drop>(
+        &mut self,
+        target: &Target,
+        kept: Option<Link>,
+        body: Option<B>,
+        size: BodySize,
+    ) -> Result<u16, GetError> {
+        let Some(path) = self.options.output else {
+            let out = StdSink::new(self.rt.stdout());
+            let (status, ended) = fetch_over(self.rt, self.options, target, kept, body, size, out)?;
+            self.kept = link_of(ended);
+            return Ok(status);
+        };
+        let out = OutputFile::new(self.rt, path, self.has_written);
+        let (status, ended) = fetch_over(self.rt, self.options, target, kept, body, size, out)?;
+        if let Some((link, out)) = ended {
+            self.kept = Some(link);
+            self.has_written = true;
+            out.finish()?;
+        }
         Ok(status)
+    }
+}
+
+fn link_of<O: Drop>(ended: Option<(Link, O)>) -> Option<Link> {
+    match ended {
+        Some((link, _)) => Some(link),
+        None => None,
     }
 }
 
@@ -57,8 +104,8 @@ impl<'a, 'w> Fetches for Fetcher<'a, 'w> {
 
     fn fetch(&mut self, url: &str) -> Result<u16, GetError> {
         let target = Target::read(self.rt.alloc(), url)?;
-        let has_file = self.options.file.is_some();
-        try_twice(self, &target, has_file)
+        let is_once = !is_repeatable(self.options);
+        try_twice(self, &target, is_once)
     }
 
     fn tell_status(&mut self, url: &str, status: u16) {
@@ -68,11 +115,19 @@ impl<'a, 'w> Fetches for Fetcher<'a, 'w> {
 
     fn tell_error(&mut self, url: &str, error: GetError) {
         let rt = self.rt;
-        let about = match self.options.file {
-            Some(file) if error.is_of_file() => file,
-            _ => url,
-        };
+        let about = about_of(self.options, error).unwrap_or(url);
         let _ = eprintln!(rt; "app_get: {about}: {error}");
+    }
+}
+
+// The file that an error is about.
+fn about_of<'w>(options: &Options<'w>, error: GetError) -> Option<&'w str> {
+    if error.is_of_file() {
+        return options.file;
+    }
+    match error {
+        GetError::Output => options.output,
+        _ => None,
     }
 }
 
@@ -94,48 +149,64 @@ impl<'a, 'w> Tries for Fetcher<'a, 'w> {
     }
 }
 
-// Fetches one over this connection, or over a new one. It gives the status, and the connection where it may be used again.
-fn fetch_over(
+// Fetches one over this connection, or over a new one. It gives the status, and where the answer was taken to its end the
+// connection and the output.
+fn fetch_over<B: Source + Drop, O: Sink + Drop>(
     rt: HostRuntime,
     options: &Options<'_>,
     target: &Target,
     kept: Option<Link>,
-) -> Result<(u16, Option<Link>), GetError> {
+    body: Option<B>,
+    size: BodySize,
+    out: O,
+) -> Result<(u16, Option<(Link, O)>), GetError> {
     let alloc = rt.alloc();
-    let (file, size) = open(rt, options)?;
-    let head = head_for(alloc, options, target)?;
     let Link {
         stream,
-        mut connection,
+        connection,
         place,
-    } = match kept {
-        Some(link) => link,
-        None => Link::open(&rt, alloc, target, options.wait)?,
-    };
-    ask(&mut connection, moment(&rt).unwrap_or(0), &head, size)?;
+    } = ask_over(rt, options, target, kept, size)?;
     let mut exchange = Exchange::new(
         alloc,
         connection,
         SocketSource::new(&rt, &stream),
         SocketSink::new(&stream),
-        file,
-        StdSink::new(rt.stdout()),
+        body,
+        out,
         wanted_of(options),
     );
     match exchange.run(options.wait) {
         Ok(status) => {
-            let connection = exchange.into_connection();
+            let (connection, out) = exchange.into_parts();
             let link = Link {
                 stream,
                 connection,
                 place,
             };
-            Ok((status, Some(link)))
+            Ok((status, Some((link, out))))
         }
         // What is left of the answer isn't read.
         Err(GetError::Refusal) => Ok((exchange.status.unwrap_or(0), None)),
         Err(error) => Err(error),
     }
+}
+
+// Asks over this connection, or over a new one.
+fn ask_over(
+    rt: HostRuntime,
+    options: &Options<'_>,
+    target: &Target,
+    kept: Option<Link>,
+    size: BodySize,
+) -> Result<Link, GetError> {
+    let alloc = rt.alloc();
+    let head = head_for(alloc, options, target)?;
+    let mut link = match kept {
+        Some(link) => link,
+        None => Link::open(&rt, alloc, target, options.wait)?,
+    };
+    ask(&mut link.connection, moment(&rt).unwrap_or(0), &head, size)?;
+    Ok(link)
 }
 
 fn wanted_of(options: &Options<'_>) -> Wanted {
