@@ -57,6 +57,10 @@ def get_clients(program, files, hello, folder):
     check("app_get of three files, one after another", get(0, small + big + small, f"{url}/a.txt", f"{url}/big.bin", f"{url}/a.txt"))
     check("app_get by a host's name", get(0, small, url.replace("127.0.0.1", "localhost") + "/a.txt"))
     check("app_get of a file that isn't there, and of one that is", get_missing(program, url, small))
+    check("app_get --fail of a file that isn't there", get(22, b"", "--fail", f"{url}/nothing"))
+    check("app_get -f of a file that isn't there, and of one that is", get(22, small, "-f", f"{url}/nothing", f"{url}/a.txt"))
+    check("app_get -f of a file", get(0, small, "-f", f"{url}/a.txt"))
+    check("app_get -f POST to a file, which isn't wanted", get(22, b"", "-f", f"{url}/a.txt", f"{folder}/big.bin"))
     check("app_get POST by length", get(0, big, echo, f"{folder}/big.bin"))
     check("app_get POST in chunks", get(0, big, "--chunked", echo, f"{folder}/big.bin"))
     check("app_get POST of a file for which the system says 0 bytes",
@@ -105,6 +109,13 @@ def parrot_clients(program, folder, get):
          b"HTTP/1.1 204 No Content\r\n\r\n", ok]], "URL/", "URL/", "URL/", count=1)
     said("no body after HEAD", 0, b"HTTP/1.1 200 OK\ncontent-length: 2\n\n" * 2,
          [[b"HTTP/1.1 200 OK\r\ncontent-length: 2\r\n\r\n"] * 2], "--head", "URL/", "URL/", count=1)
+    gone = b"HTTP/1.1 410 Gone\r\ncontent-length: 4\r\n\r\ngone"
+    said("a refusal", 8, b"gonehi", [[gone, ok]], "URL/", "URL/", count=1)
+    said("--fail and a refusal", 22, b"hi", [[gone], [ok]], "--fail", "URL/", "URL/", count=2)
+    said("--fail and a refusal of which only the head came", 22, b"", [[gone[:-4], None]], "-f", "--wait", "5", "URL/")
+    said("--fail and an answer of 399", 0, b"hi", [[b"HTTP/1.1 399 X" + ok[15:]]], "-f", "URL/")
+    said("--fail, and an answer that is cut off", 6, b"h", [[ok[:-1]]], "-f", "URL/")
+    said("--fail and HEAD", 22, b"HTTP/1.1 410 Gone\ncontent-length: 4\n\n", [[gone[:-4]]], "-f", "-I", "URL/")
     said("chunks and trailers", 0, b"hihi", [[b"HTTP/1.1 200 OK\r\ntransfer-encoding: chunked\r\n\r\n2;x\r\nhi\r\n0\r\na: b\r\n\r\n", ok]],
          "URL/", "URL/", count=1)
     said("a body to the connection's end", 0, b"allhi", [[b"HTTP/1.0 200 OK\r\n\r\nall"], [ok]], "URL/", "URL/", count=2)
@@ -138,6 +149,7 @@ def python_server(program, folder, get, small, big):
         wait_for(("127.0.0.1", port))
         url = "http://127.0.0.1:%d" % port
         check("app_get of http.server, two files", get(0, small + big, f"{url}/a.txt", f"{url}/big.bin"))
+        check("app_get --fail of http.server, no such file", get(22, b"", "-f", f"{url}/nothing"))
         check("app_get of http.server, no such file", lambda: differs(b"status 404" in run(program, f"{url}/nothing").stderr, True))
     finally:
         server.terminate()
@@ -171,6 +183,7 @@ def nginx_server(program, folder, get, small, big):
                   lambda: differs(len(set(open(f"{place}/access.log").read().split())), 1))
             check("app_get POST to nginx by length", get(0, b"taken", f"{url}/post", f"{folder}/big.bin"))
             check("app_get POST to nginx in chunks", get(0, b"taken", "--chunked", f"{url}/post", f"{folder}/big.bin"))
+            check("app_get --fail of nginx, no such file", get(22, b"", "-f", f"{url}/nothing"))
             check("app_get of nginx, no such file", lambda: differs(b"status 404" in run(program, f"{url}/nothing").stderr, True))
         finally:
             server.terminate()
