@@ -78,7 +78,7 @@ launch_serve() {
 }
 
 launch_get() {
-    flags="--head -I --fail -f --chunked"
+    flags="--head -I --fail -f --location -L --chunked"
     valued="--wait --data -d --output -o --request -X --header -H"
     urls=0
     file=

@@ -20,8 +20,8 @@ use Rattle.model_client.specs.ClientEvent.{ClientOutcome}
 use Rattle.model_client.specs.ClientKept.{client_closing}
 use Rattle.app_get.specs.declared.error.GetError.{GetError}
 use Rattle.app_get.specs.declared.error.GetError.TheVariants as get_error
-use Rattle.app_get.specs.Exchange.{Ends, Goes, Acts, noted_by, is_refused_by, is_failure, IsWaiting}
-use Rattle.app_get.specs.Failure.{Hears, Heard, Draws, IsStuck, BreaksOff, IsRefused, IsCause, IsPart, IsUnshown, WritesOut, Fails, Stops, IsEndless, is_heard, error_by}
+use Rattle.app_get.specs.Exchange.{Ends, Goes, Acts, noted_by, is_unwanted, is_failure, IsWaiting}
+use Rattle.app_get.specs.Failure.{Hears, Heard, Draws, IsStuck, BreaksOff, IsUnwanted, IsCause, IsPart, IsUnshown, WritesOut, Fails, Stops, IsEndless, is_heard, error_by}
 use Rattle.app_get.specs.Patience.{left_of}
 use Rattle.app_get.proofs.Going.{goes_none, goes_then}
 
@@ -203,8 +203,8 @@ pub protocol_stops : (was old new : Ends) → old ≡ was → old.status ≡ Som
 protocol_stops was old new seen is out = stops_here was old new get_error.Protocol seen is out
 
 -- the answer isn't wanted
-pub refusal_stops : (was old new : Ends) (status : ℕ) → old ≡ was → was.status ≡ Some status → is_refused_by old.wanted.no_refusal status ≡ true
-    → Keeps old.out new.out → Stops was new get_error.Refusal
-refusal_stops was old new status seen noted refused out =
-    stops_here was old new get_error.Refusal seen
+pub unwanted_stops : (was old new : Ends) (status : ℕ) → old ≡ was → was.status ≡ Some status → is_unwanted old.wanted status ≡ true
+    → Keeps old.out new.out → Stops was new get_error.Unwanted
+unwanted_stops was old new status seen noted refused out =
+    stops_here was old new get_error.Unwanted seen
     (record { status = status; noted = ap (λ (e : Ends). e.status) seen ∙ noted; refused = refused }) out

@@ -12,6 +12,7 @@ use Rattle.model_client.specs.AnswerParse.{is_interim}
 use Rattle.app_get.specs.declared.transport.Sent.{Sent}
 use Rattle.app_get.specs.declared.transport.Sent.TheVariants as sending
 use Rattle.app_get.specs.declared.answer.Wanted.{Wanted}
+use Rattle.app_get.specs.Redirects.{is_redirect}
 use Rattle.app_get.specs.declared.answer.Taken.{Taken}
 use Rattle.app_get.specs.declared.answer.Taken.TheVariants as taking
 
@@ -100,17 +101,17 @@ Empties (Some bytes) new = new ≡ Some []
 
 -- ---- an answer that isn't wanted
 
--- its status is 400 or above, where such a one isn't wanted
-abbrev pub is_refused_by : Bool → ℕ → Bool
-is_refused_by no_refusal status = no_refusal && nat_le 400 status
+-- its status is 400 or above, or that of a redirect, where such a one isn't wanted
+abbrev pub is_unwanted : Wanted → ℕ → Bool
+is_unwanted wanted status = (wanted.no_refusal && nat_le 400 status) || (wanted.no_redirect && is_redirect status)
 
 -- there is no answer of which a body is wanted
-abbrev pub has_none_wanted : Bool → Option ℕ → Bool
-has_none_wanted no_refusal None = true
-has_none_wanted no_refusal (Some status) = is_refused_by no_refusal status
+abbrev pub has_none_wanted : Wanted → Option ℕ → Bool
+has_none_wanted wanted None = true
+has_none_wanted wanted (Some status) = is_unwanted wanted status
 
 abbrev pub is_unread : Ends → Bool
-is_unread ends = has_none_wanted ends.wanted.no_refusal ends.status
+is_unread ends = has_none_wanted ends.wanted ends.status
 
 -- ---- what moves
 
@@ -204,6 +205,6 @@ pub record IsWaiting (ends : Ends) : Type 0 where
 -- What was taken of an answer. Where it is the rest, the answer is whole, and has this status, which isn't that of another
 -- protocol or of an answer that isn't wanted. A part is taken by an event at least. Where it is nothing, nothing more has come.
 abbrev pub IsTaken : Taken → Ends → Ends → Type 0
-IsTaken (taking.Whole status) old new = Goes old new × IsWhole new.state × (new.status ≡ Some status) × (status ≢ 101) × (is_refused_by new.wanted.no_refusal status ≡ false)
+IsTaken (taking.Whole status) old new = Goes old new × IsWhole new.state × (new.status ≡ Some status) × (status ≢ 101) × (is_unwanted new.wanted status ≡ false)
 IsTaken taking.Part old new = Acts old new
 IsTaken taking.Nothing old new = Acts old new × IsPending new

@@ -17,7 +17,7 @@ use Rattle.h1_client.specs.declared.heads.AnswerFault.TheVariants.{Malformed, To
 use Rattle.model_client.specs.ClientEvent as on
 use Rattle.model_client.specs.ClientEvent.{ClientOutcome}
 use Rattle.model_client.specs.ClientKept.{client_allows, client_closing}
-use Rattle.app_get.specs.Exchange.{Ends, Goes, Acts, noted_by, is_refused_by, is_failure, IsPending, IsWaiting, HasNoneToSend}
+use Rattle.app_get.specs.Exchange.{Ends, Goes, Acts, noted_by, is_unwanted, is_failure, IsPending, IsWaiting, HasNoneToSend}
 use Rattle.app_get.specs.declared.error.GetError.{GetError}
 use Rattle.app_get.specs.declared.error.GetError.TheVariants as get_error
 
@@ -69,10 +69,10 @@ IsCut last new =
     BreaksOff last new ⊎ (Draws last (pulled.Broken Incomplete) new ⊎ (IsStuck last ⊎ LosesBytes last new))
 
 -- the answer isn't wanted, by its status
-pub record IsRefused (ends : Ends) : Type 0 where
+pub record IsUnwanted (ends : Ends) : Type 0 where
   pub status : ℕ
   pub noted : ends.status ≡ Some status
-  pub refused : is_refused_by ends.wanted.no_refusal status ≡ true
+  pub refused : is_unwanted ends.wanted status ≡ true
 
 -- Why it fails, by what happened last. Memory may run out at any time.
 abbrev pub IsCause : GetError → Ends → Ends → Type 0
@@ -84,7 +84,7 @@ IsCause get_error.BadHead last new = Hears last (next.Fault Malformed) new ⊎ H
 IsCause get_error.LongHead last new = Hears last (next.Fault TooLarge) new ⊎ Hears last (next.Closed end.LargeAnswer) new
 IsCause get_error.BadChunks last new = Draws last (pulled.Broken Corrupted) new
 IsCause get_error.Protocol last new = last.status ≡ Some 101
-IsCause get_error.Refusal last new = IsRefused last
+IsCause get_error.Unwanted last new = IsUnwanted last
 IsCause get_error.Unanswered last new = (last.begun ≡ false) × (last.status ≡ None) × BreaksOff last new
 IsCause get_error.Lost last new = IsCut last new
 IsCause get_error.Late last new = IsPending last × HasNoneToSend last new

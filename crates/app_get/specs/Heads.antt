@@ -12,6 +12,8 @@ use Rattle.http_map.specs.HeaderMap.{Pair, Entries, append, append_all, contains
 use Rattle.http_types.specs.declared.requests.head.RequestHead.{RequestHead}
 use Rattle.http_uri.specs.Uri.{HasParts, uri_scheme, uri_authority, uri_data}
 use Rattle.h1_decoder.specs.declared.response.ResponseItem.{ResponseItem}
+use Rattle.app_get.specs.Redirects.{hop_method, hop_has_body, hop_fields}
+use Rattle.app_get.specs.declared.redirect.Hop.{Hop}
 use Rattle.app_get.specs.declared.target.Target.{Target}
 
 -- ---- what is asked
@@ -55,12 +57,13 @@ with_fields fields headers = append_all (remove_all headers (keys fields)) (pair
 abbrev pub asked_headers : List ℕ → Bool → Bool → Entries → Entries
 asked_headers authority has_body is_form fields = with_fields fields (typed has_body is_form (general_headers authority))
 
--- It asks for the target by this method of the user's own, or by HEAD, by POST where something is sent, or by GET.
-pub record AsksFor (target : Target) (method : Option (List ℕ)) (is_head has_body is_form : Bool) (fields : Entries) (head : RequestHead) : Type 0 where
-  pub method : head.method ≡ asked_method method is_head has_body
+-- It asks for the target by this method of the user's own, or by HEAD, by POST where something is sent, or by GET, as redirects
+-- have changed it.
+pub record AsksFor (target : Target) (hop : Hop) (method : Option (List ℕ)) (is_head has_body is_form : Bool) (fields : Entries) (head : RequestHead) : Type 0 where
+  pub method : head.method ≡ hop_method hop (asked_method method is_head has_body)
   pub uri : HasParts head.uri (uri_scheme target.uri) (uri_authority target.uri) (uri_data target.uri)
   pub version : head.version ≡ HTTP_11
-  pub headers : head.headers ≡ asked_headers (target_authority target) has_body is_form fields
+  pub headers : head.headers ≡ asked_headers (target_authority target) (hop_has_body hop has_body) is_form (hop_fields hop fields)
 
 -- ---- a field of the user's own
 

@@ -81,9 +81,17 @@ pub enum GetError {
     #[error("the server goes on to another protocol, for which nobody asked")]
     Protocol,
 
-    /// The answer's status is 400 or above, where such an answer isn't wanted.
-    #[error("the server refuses what was asked for")]
-    Refusal,
+    /// An answer of this status isn't wanted.
+    #[error("an answer of this status isn't wanted")]
+    Unwanted,
+
+    /// A redirect that names no URL.
+    #[error("the server redirects to what is no URL")]
+    Location,
+
+    /// More redirects than are followed.
+    #[error("the server redirects more than ten times")]
+    Redirects,
 
     /// The request can't be sent.
     #[error("such a request can't be sent")]
@@ -108,8 +116,9 @@ impl GetError {
             GetError::NoMemory => 5,
             GetError::Unanswered | GetError::Lost | GetError::BadHead | GetError::LongHead => 6,
             GetError::BadChunks | GetError::Protocol | GetError::Request => 6,
+            GetError::Location | GetError::Redirects => 6,
             GetError::Late => 7,
-            GetError::Refusal => 22,
+            GetError::Unwanted => 22,
         }
     }
 

@@ -1,6 +1,6 @@
 //! One request and its answer over a connection: a client's whole loop.
 ghost use Rattle.std.specs.Prelude.{◌≡◌, ◌≢◌, ◌⊎◌, false, None, Some, OnOk, IfOk, IfErr};
-ghost use Rattle.app_get.specs.Exchange.{Ends, file_left, faults_of_file, is_refused_by, Goes, IsWhole, IsPending, IsWaiting};
+ghost use Rattle.app_get.specs.Exchange.{Ends, file_left, faults_of_file, is_unwanted, Goes, IsWhole, IsPending, IsWaiting};
 ghost use Rattle.app_get.specs.Failure.{Stops, IsEndless};
 
 use crate::answer::{Taken, Wanted};
@@ -8,7 +8,7 @@ use crate::error::GetError;
 use crate::patience::Patience;
 use crate::transport::Sent;
 use h1_client::ClientConnection;
-use http_types::{Sink, Source};
+use http_types::{HeaderValue, Sink, Source};
 use net_sockets::{TimedSink, TimedSource};
 use std::alloc::Global;
 use std::marker::Model;
@@ -37,6 +37,9 @@ pub struct Exchange<S: TimedSource, K: TimedSink, B: Source, O: Sink> {
 
     // A byte of the answer came.
     pub(crate) has_begun: bool,
+
+    // Where the last head says that the answer is.
+    pub(crate) location: Option<HeaderValue>,
 }
 
 impl<S: TimedSource, K: TimedSink, B: Source, O: Sink> Model for Exchange<S, K, B, O> {
@@ -101,6 +104,7 @@ impl<S: TimedSource + Drop, K: TimedSink + Drop, B: Source + Drop, O: Sink + Dro
             wanted,
             status: None,
             has_begun: false,
+            location: None,
         }
     }
 
@@ -119,6 +123,7 @@ impl<S: TimedSource + Drop, K: TimedSink + Drop, B: Source + Drop, O: Sink + Dro
             wanted: _,
             status: _,
             has_begun: _,
+            location: _,
         } = self;
         (connection, out)
     }
@@ -133,7 +138,7 @@ impl<S: TimedSource + Drop, K: TimedSink + Drop, B: Source + Drop, O: Sink + Dro
         ensures whole { OnOk result (IsWhole self.new.state) }
         ensures status { IfOk result (λ status. self.new.status ≡ Some status) }
         ensures protocol { IfOk result (λ status. status ≢ 101) }
-        ensures wanted { IfOk result (λ status. is_refused_by self.new.wanted.no_refusal status ≡ false) }
+        ensures wanted { IfOk result (λ status. is_unwanted self.new.wanted status ≡ false) }
         ensures stops { IfErr result (λ error. Stops self.old self.new error ⊎ IsEndless self.old self.new error) }
     {
         let mut patience = Patience::begin(&self.input, wait);

@@ -11,6 +11,7 @@ mod link;
 mod options;
 mod output;
 mod patience;
+mod redirect;
 mod request;
 mod show;
 mod target;

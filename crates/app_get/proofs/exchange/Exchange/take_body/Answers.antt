@@ -1,7 +1,7 @@
 use Rattle.std.proofs.Common.{ℕ, Some, refl, sym, ap, ◌∙◌}
 use Rattle.std.proofs.KnownBytes.{Keeps-refl}
 use Rattle.app_get.specs.Exchange.{has_none_wanted}
-use Rattle.app_get.proofs.Stopping.{protocol_stops, refusal_stops}
+use Rattle.app_get.proofs.Stopping.{protocol_stops, unwanted_stops}
 use Rattle.app_get.proofs.exchange.Exchange.take_body.Goals as goal
 
 pub returns-then-status-eq101-clause-stops : goal.returns-then-status-eq101-clause-stops
