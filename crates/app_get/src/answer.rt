@@ -14,7 +14,7 @@ use crate::exchange::Exchange;
 use crate::redirect::is_redirect;
 use crate::show::{write_all, write_head};
 use h1_client::{AnswerFault, BodyFault, ClientEnd, NextAnswer, Pulled, ResponseItem};
-use http_types::header::LOCATION;
+use http_header::LOCATION;
 use http_types::{NoMemory, Sink, Source};
 use net_sockets::{TimedSink, TimedSource};
 
@@ -139,7 +139,8 @@ impl<S: TimedSource + Drop, K: TimedSink + Drop, B: Source + Drop, O: Sink + Dro
     fn is_unwanted(&self, status: u16) -> bool
         ensures { result ≡ is_unwanted self.now.wanted status }
     {
-        (self.wanted.no_refusal && 400 <= status) || (self.wanted.no_redirect && is_redirect(status))
+        (self.wanted.no_refusal && 400 <= status)
+            || (self.wanted.no_redirect && is_redirect(status))
     }
 
     // Writes out what comes next of the body.

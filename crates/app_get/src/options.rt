@@ -244,15 +244,7 @@ impl<'a> Options<'a> {
 fn takes_value(word: &str) -> bool {
     matches!(
         word,
-        "--wait"
-            | "--data"
-            | "-d"
-            | "--output"
-            | "-o"
-            | "--request"
-            | "-X"
-            | "--header"
-            | "-H"
+        "--wait" | "--data" | "-d" | "--output" | "-o" | "--request" | "-X" | "--header" | "-H"
     )
 }
 

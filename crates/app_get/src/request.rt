@@ -15,9 +15,10 @@ use crate::redirect::Hop;
 use crate::target::Target;
 use h1_client::ClientConnection;
 use http_framing::BodySize;
-use http_header::USER_AGENT;
+use http_header::{AUTHORIZATION, USER_AGENT};
 use http_types::header::{
-    ACCEPT, AUTHORIZATION, CONTENT_TYPE, COOKIE, HOST, HeaderMap, HeaderValue, value_of_str};
+    ACCEPT, CONTENT_TYPE, COOKIE, HOST, HeaderMap, HeaderValue, value_of_str,
+};
 use http_types::{Method, NoMemory, RequestHead, Version};
 use std::alloc::Global;
 
@@ -94,11 +95,7 @@ fn usual_method(is_head: bool, has_body: bool) -> Method
     if is_head {
         return Method::HEAD;
     }
-    if has_body {
-        Method::POST
-    } else {
-        Method::GET
-    }
+    if has_body { Method::POST } else { Method::GET }
 }
 
 fn headers_for(
