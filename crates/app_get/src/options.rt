@@ -238,15 +238,7 @@ impl<'a> Options<'a> {
 fn takes_value(word: &str) -> bool {
     matches!(
         word,
-        "--wait"
-            | "--data"
-            | "-d"
-            | "--output"
-            | "-o"
-            | "--request"
-            | "-X"
-            | "--header"
-            | "-H"
+        "--wait" | "--data" | "-d" | "--output" | "-o" | "--request" | "-X" | "--header" | "-H"
     )
 }
 

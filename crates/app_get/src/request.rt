@@ -85,11 +85,7 @@ fn usual_method(is_head: bool, has_body: bool) -> Method
     if is_head {
         return Method::HEAD;
     }
-    if has_body {
-        Method::POST
-    } else {
-        Method::GET
-    }
+    if has_body { Method::POST } else { Method::GET }
 }
 
 fn headers_for(alloc: Global, options: &Options<'_>, target: &Target) -> Result<HeaderMap, GetError>

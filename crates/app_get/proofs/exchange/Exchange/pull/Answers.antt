@@ -39,7 +39,7 @@ returns-clause-taken g c = (
       (λ o says. none_moves on.pending _ refl refl refl o (subst (λ x. SaysPulled x o) c.in-Pending.is says))
       (Consumes-nil _) (Appends-nil _) (Consumes-nil _) (λ _. Appends-nil _) (ends_none on.pull _ _ refl refl refl)
       (quiet_wanted _ _ _ refl (subst (λ (e : Ends). is_some e.status ≡ true) (sym c.self.view_is) c.requires.noted)
-    (subst (λ (e : Ends). is_unread e ≡ false) (sym c.self.view_is) c.requires.wanted)) refl,
+      (subst (λ (e : Ends). is_unread e ≡ false) (sym c.self.view_is) c.requires.wanted)) refl,
   pending_body _ _ _ c.in_ok-bytes.ensures.stands (λ o says. subst (λ x. SaysPulled x o) c.in-Pending.is says),
 )
 
