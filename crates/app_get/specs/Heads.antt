@@ -56,8 +56,8 @@ abbrev pub asked_headers : List ℕ → Bool → Bool → Entries → Entries
 asked_headers authority has_body is_form fields = with_fields fields (typed has_body is_form (general_headers authority))
 
 -- It asks for the target by this method of the user's own, or by HEAD, by POST where something is sent, or by GET.
-pub record AsksFor (target : Target) (method : Option (List ℕ)) (is_head has_body is_form : Bool) (fields : Entries) (head : RequestHead) : Type 0 where
-  pub method : head.method ≡ asked_method method is_head has_body
+pub record AsksFor (target : Target) (own : Option (List ℕ)) (is_head has_body is_form : Bool) (fields : Entries) (head : RequestHead) : Type 0 where
+  pub method : head.method ≡ asked_method own is_head has_body
   pub uri : HasParts head.uri (uri_scheme target.uri) (uri_authority target.uri) (uri_data target.uri)
   pub version : head.version ≡ HTTP_11
   pub headers : head.headers ≡ asked_headers (target_authority target) has_body is_form fields
