@@ -59,8 +59,8 @@ asked_headers authority has_body is_form fields = with_fields fields (typed has_
 
 -- It asks for the target by this method of the user's own, or by HEAD, by POST where something is sent, or by GET, as redirects
 -- have changed it.
-pub record AsksFor (target : Target) (hop : Hop) (method : Option (List ℕ)) (is_head has_body is_form : Bool) (fields : Entries) (head : RequestHead) : Type 0 where
-  pub method : head.method ≡ hop_method hop (asked_method method is_head has_body)
+pub record AsksFor (target : Target) (hop : Hop) (own : Option (List ℕ)) (is_head has_body is_form : Bool) (fields : Entries) (head : RequestHead) : Type 0 where
+  pub method : head.method ≡ hop_method hop (asked_method own is_head has_body)
   pub uri : HasParts head.uri (uri_scheme target.uri) (uri_authority target.uri) (uri_data target.uri)
   pub version : head.version ≡ HTTP_11
   pub headers : head.headers ≡ asked_headers (target_authority target) (hop_has_body hop has_body) is_form (hop_fields hop fields)

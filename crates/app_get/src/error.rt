@@ -10,7 +10,7 @@ use thiserror::Error;
 #[derive(Clone, Copy, Debug, PartialEq, Eq, Error)]
 pub enum GetError {
     /// The standard output takes no more.
-    #[error("the standard output takes no more")]
+    #[error("the output takes no more")]
     Output,
 
     /// The text is no URL.

@@ -2,7 +2,7 @@
 ghost use Rattle.std.specs.Prelude.{◌≡◌, ◌<◌, ◌≤◌, ◌||◌, true, false, is_some, vec_len, IfOk, OnOk};
 
 use crate::fields::add_field;
-use http::MethodError;
+use http::method::MethodError;
 use http_types::{HeaderMap, Method};
 use std::alloc::Global;
 use thiserror::Error;
