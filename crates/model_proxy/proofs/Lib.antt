@@ -4,7 +4,13 @@ pub mod Paths
 pub mod Targets
 pub mod OwnLines
 pub mod SentRequests
+pub mod ToldFirst
+pub mod SoFar
 pub mod GivenRequests
+pub mod Places
+pub mod StepByStep
+pub mod FaultyRequests
+pub mod WrongForwarders
 pub mod ReplyLines
 pub mod FoundAnswers
 pub mod ExampleLemmas

@@ -42,7 +42,7 @@ pulled [] = []
 pulled (s ∷ before) = with_head (head_of s.outcome) (newest_pulled s.outcome (pulled before))
 
 -- A request, and what became of it: the number of the server connection that it was sent on, if it was; how many steps came, up to
--- the one by which it was; and whether a server connection was refused for it.
+-- the one by which it was; and whether a server connection was refused for it. `Forwarding` ties these to the steps.
 pub record Exchange : Type 0 where
   pub pulled : Pulled
   pub server : Option ℕ

@@ -23,6 +23,11 @@ pub record ProxyStep : Type 0 where
   pub event : ProxyEvent
   pub outcome : ProxyOutcome
 
+-- a step says that the client's connection is closed
+abbrev pub is_closed : ProxyOutcome → Bool
+is_closed (closed end) = true
+is_closed _ = false
+
 -- ---- the client's side
 
 abbrev pub client_bytes : ProxyEvent → ProxyOutcome → List ℕ
@@ -47,15 +52,21 @@ abbrev pub is_client_end : ProxyEvent → Bool
 is_client_end client_eof = true
 is_client_end _ = false
 
--- it sends no more bytes
+-- whether its input has ended
 abbrev pub client_ended : List ProxyStep → Bool
 client_ended history = list_any (λ s. is_client_end s.event) history
 
 -- ---- servers
 
+-- a step says that no server connection can be had
 abbrev pub is_refusal : ProxyEvent → Bool
 is_refusal refused = true
 is_refusal _ = false
+
+-- a step connects one
+abbrev pub is_connection : ProxyEvent → Bool
+is_connection connected = true
+is_connection _ = false
 
 -- one more, where this is so
 abbrev pub counted_if : Bool → ℕ → ℕ
