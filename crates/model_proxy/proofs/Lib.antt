@@ -6,6 +6,10 @@ pub mod OwnLines
 pub mod SentRequests
 pub mod ToldFirst
 pub mod SoFar
+pub mod LaterTurns
+pub mod Given
+pub mod SentPlaces
+pub mod PlacesKept
 pub mod GivenRequests
 pub mod Places
 pub mod StepByStep
@@ -20,7 +24,6 @@ pub mod Quiet
 pub mod Turns
 pub mod Sends
 pub mod Events
-pub mod Given
 pub mod Pulls
 pub mod Pending
 pub mod Client
