@@ -10,6 +10,9 @@ pub mod LaterTurns
 pub mod Given
 pub mod SentPlaces
 pub mod PlacesKept
+pub mod Halves
+pub mod SilentSteps
+pub mod LaterSteps
 pub mod GivenRequests
 pub mod Places
 pub mod StepByStep

@@ -24,7 +24,6 @@ so_far edge setting _ _ _ _ at_first = record {
   moment = refl;
   ended = refl;
   undrained = refl;
-  closed = λ e. absurd (false≢true e);
   requests = refl;
   rightly = tt;
   towards = none_towards edge;

@@ -1,13 +1,12 @@
 -- What holds of all that a forwarder does: the theorem that is to be proved of one.
 use Rattle.std.specs.Prelude.{◌≡◌, ◌⊎◌, ℕ, ◌+◌, ◌<◌, ◌≤◌, Bool, true, false, not, ◌&&◌, ◌||◌, ◌==◌, List, [], ◌∷◌, ◌++◌, length, map, filter, reverse, take, flat_map, codes, bytes_eq, Option, Some, None, is_some, is_none, unwrap_or, ⊤}
-use Rattle.std.specs.List.{list_any, AllByRecursion}
+use Rattle.std.specs.List.{AllByRecursion}
 use Rattle.model_h1.specs.Setting.{Setting}
 use Rattle.model_h1.specs.Answer.{size_of}
 use Rattle.model_h1.specs.Event as on
 use Rattle.model_h1.specs.Handed.{Begins}
 use Rattle.model_h1.specs.Sums.{Step}
 use Rattle.model_h1.specs.Sums as sums
-use Rattle.model_h1.specs.Allowed.{is_over}
 use Rattle.model_h1.specs.Trace.{IsTrace}
 use Rattle.model_h1.specs.Laws.Exchanges.{AnswerGiven, Reply, no_reply, answer_given, session, is_whole, exchanges}
 use Rattle.model_h1.specs.Laws.Exchanges as replies
@@ -17,7 +16,7 @@ use Rattle.model_proxy.specs.Edge.{Edge}
 use Rattle.model_proxy.specs.Judged.{is_refused}
 use Rattle.model_proxy.specs.Forward.{is_forwardable, Sent, forward}
 use Rattle.model_proxy.specs.Answers.{Fate, bad, whole_at, Found, IsAnswer, reply_head, reply_size, own_head, refusal_head, says_close}
-use Rattle.model_proxy.specs.Past.{ProxyEvent, connected, ProxyOutcome, ProxyStep, client_taken, client_given, client_ended, is_refusal, is_closed, Server, servers, server_at, now, first_of}
+use Rattle.model_proxy.specs.Past.{ProxyEvent, connected, ProxyOutcome, ProxyStep, client_taken, client_given, client_ended, is_refusal, Server, servers, server_at, now, first_of}
 use Rattle.model_proxy.specs.Past as past
 use Rattle.model_proxy.specs.Exchange.{Exchange, pulled, is_on, sent_on, until, answer_input}
 
@@ -163,7 +162,6 @@ pub record IsForwardedSoFar (e : Edge) (setting : Setting) (history : List Proxy
   pub moment : sums.now trace ≡ now history
   pub ended : sums.has_ended trace ≡ client_ended history
   pub undrained : sums.is_draining trace ≡ false
-  pub closed : list_any (λ s. is_closed s.outcome) history ≡ true → is_over trace ≡ true
   pub requests : map (λ x. x.pulled) xs ≡ pulled trace
   pub rightly : AllByRecursion (IsSentRightly e history) xs
   pub towards : (k : ℕ) → k < length (servers history) → IsGivenTo e history waiting xs k
@@ -195,7 +193,6 @@ abbrev pub IsTold : ProxyEvent → ProxyOutcome → List Step → Type 0
 IsTold (past.client bytes) (past.took n) did = (n ≡ 0) ⊎ BeginsWith (IsStepOf (on.read bytes) (on.took n)) did
 IsTold past.client_eof past.done did = BeginsWith (λ s. s.event ≡ on.eof) did
 IsTold (past.to_client n) (past.gave bytes) did = BeginsWith (IsStepOf (on.write n) (on.gave bytes)) did
-IsTold (past.to_client n) (past.closed end) did = ⊤
 IsTold (past.tick ms) past.done did = BeginsWith (λ s. s.event ≡ on.tick ms) did
 IsTold (past.server bytes) (past.took n) did = n ≤ length bytes
 IsTold past.server_eof past.done did = ⊤

@@ -1,6 +1,5 @@
 -- Which events a forwarder takes, and when nothing is left for it to do.
 use Rattle.std.specs.Prelude.{◌≡◌, ◌⊎◌, ℕ, ◌+◌, ◌<◌, Bool, true, false, not, ◌&&◌, ◌||◌, List, [], ◌∷◌, length, filter, Option, Some, None, is_some, is_none, unwrap_or, ⊤}
-use Rattle.std.specs.List.{list_any}
 use Rattle.model_h1.specs.Setting.{Setting}
 use Rattle.model_h1.specs.Event as on
 use Rattle.model_h1.specs.Sums.{Step, has_ended, is_answering, was_dropped}
@@ -15,7 +14,7 @@ use Rattle.model_client.specs.RequestText.{joined}
 use Rattle.model_proxy.specs.Edge.{Edge}
 use Rattle.model_proxy.specs.Forward.{is_forwardable}
 use Rattle.model_proxy.specs.Answers.{unfinished, Found, IsAnswer}
-use Rattle.model_proxy.specs.Past.{ProxyEvent, client, server, client_eof, server_eof, connected, refused, to_client, to_server, tick, is_closed, ProxyStep, Server, servers, server_at}
+use Rattle.model_proxy.specs.Past.{ProxyEvent, client, server, client_eof, server_eof, connected, refused, to_client, to_server, tick, ProxyStep, Server, servers, server_at}
 use Rattle.model_proxy.specs.Exchange.{Exchange, is_on, answer_input}
 use Rattle.model_proxy.specs.Forwarding.{IsAlone}
 
@@ -59,7 +58,7 @@ is_taken e setting past history waiting xs (tick ms) = is_moment (steps past) ms
 -- the event is allowed; nothing is once the client's connection is over
 abbrev pub is_event_allowed : Edge → Setting → List ParsedStep → List ProxyStep → Option (List ℕ) → List Exchange → ProxyEvent → Bool
 is_event_allowed e setting past history waiting xs event =
-    not (list_any (λ s. is_closed s.outcome) history) && (not (is_over (steps past)) && is_taken e setting past history waiting xs event)
+    not (is_over (steps past)) && is_taken e setting past history waiting xs event
 
 -- ---- what rests
 

@@ -5,7 +5,6 @@ ghost use Rattle.model_h1.specs.Request.{Head, close, no_body, fixed_body, chunk
 ghost use Rattle.model_h1.specs.LengthTable.{values_of};
 ghost use Rattle.model_h1.specs.Answer.{size_none, size_of, size_stream};
 ghost use Rattle.model_h1.specs.Parse.{no_content, content, still_open, broken, cut};
-ghost use Rattle.model_h1.specs.End.{End};
 ghost use Rattle.model_h1.specs.Sums.{Step};
 ghost use Rattle.model_h1.specs.Past.{steps};
 ghost use Rattle.model_h1.specs.Laws.ExampleTraces.{usual};
@@ -17,7 +16,7 @@ ghost use Rattle.model_proxy.specs.Targets.{target_sent};
 ghost use Rattle.model_proxy.specs.Judged.{is_refused};
 ghost use Rattle.model_proxy.specs.Forward.{is_forwardable, named_host, forwarded_lines, forward};
 ghost use Rattle.model_proxy.specs.Answers.{unfinished, bad, whole_at, Found, found_bad, found_by, found_body, found_nothing, IsAnswer, says_close, reply_lines, reply_reason, reply_head, reply_size};
-ghost use Rattle.model_proxy.specs.Past.{ProxyStep, client, server, client_eof, server_eof, connected, refused as no_server, to_client, to_server, tick, closed};
+ghost use Rattle.model_proxy.specs.Past.{ProxyStep, client, server, client_eof, server_eof, connected, refused as no_server, to_client, to_server, tick};
 ghost use Rattle.model_proxy.specs.Exchange.{Exchange, answer_input};
 ghost use Rattle.model_proxy.specs.Forwarding.{IsAlone, IsForwarding};
 ghost use Rattle.model_proxy.specs.Rests.{is_event_allowed, RestsWhereItMay};
@@ -288,12 +287,6 @@ pub fn an_unused_connection_that_is_closed_is_refused()
 pub fn a_request_on_a_dead_connection_is_refused()
     ensures { (waiting : Option (List ℕ)) (trace : List Step)
         → IsForwarding usual_edge usual dead_history waiting trace (get_exchange (Some 0) 5 false ∷ []) → ⊥ }
-{}
-
-/// A forwarder that says that its client's connection is closed, while that goes on.
-pub fn an_untrue_close_is_refused()
-    ensures { (end : End) (waiting : Option (List ℕ)) (xs : List Exchange)
-        → IsForwarding usual_edge usual (step (to_client 5) (closed end) ∷ ticked) waiting (steps ticked_past) xs → ⊥ }
 {}
 
 /// A forwarder that keeps a server connection whose input has ended, while nothing is asked.

@@ -17,4 +17,3 @@ pub mod Replies
 pub mod Carried
 pub mod Still
 pub mod Sending
-pub mod Forwarding

@@ -7,4 +7,3 @@ pub mod Rests
 pub mod Served
 pub mod Fresh
 pub mod Replies
-pub mod Runs
