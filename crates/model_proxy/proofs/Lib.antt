@@ -13,13 +13,16 @@ pub mod PlacesKept
 pub mod Halves
 pub mod SilentSteps
 pub mod LaterSteps
+pub mod Came
+pub mod FoundAnswers
+pub mod FoundGrows
+pub mod MovedSteps
 pub mod GivenRequests
 pub mod Places
 pub mod StepByStep
 pub mod FaultyRequests
 pub mod WrongForwarders
 pub mod ReplyLines
-pub mod FoundAnswers
 pub mod ExampleLemmas
 pub mod Histories
 pub mod TextLemmas
