@@ -17,6 +17,9 @@ pub mod Came
 pub mod FoundAnswers
 pub mod FoundGrows
 pub mod MovedSteps
+pub mod TurnMoves
+pub mod SentMoves
+pub mod EventsForward
 pub mod GivenRequests
 pub mod Places
 pub mod StepByStep

@@ -42,7 +42,7 @@ unchanged before (on.write n) outcome is e = refl
 unchanged before (on.tick ms) outcome is e = refl
 unchanged before event outcome is e = absurd (false≢true is)
 
-none_changed : (f : Exchange → Exchange) → ((e : Exchange) → f e ≡ e) → (es : List Exchange) → newest_changed f es ≡ es
+pub none_changed : (f : Exchange → Exchange) → ((e : Exchange) → f e ≡ e) → (es : List Exchange) → newest_changed f es ≡ es
 none_changed f same [] = refl
 none_changed f same (e ∷ es) = ap (λ (e : Exchange). e ∷ es) (same e)
 
