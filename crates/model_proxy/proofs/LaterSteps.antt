@@ -92,6 +92,43 @@ module _ (setting : Setting) (s : ProxyStep) (history : List ProxyStep) where
   input_until k from [] low all u = now_input k from low u
   input_until k from (y ∷ later) low all u = earlier_input k from y.sent_at low all.0
 
+  -- ---- one answer a request
+
+  alone_before : (x : Exchange) (k : ℕ) (later : List Exchange) → x.sent_at ≤ length history → AllByRecursion (λ y. y.sent_at ≤ length history) later
+      → IsAloneBefore setting history x k later → IsAloneBefore setting (s ∷ history) x k later
+  alone_before x k [] by all y = tt
+  alone_before x k (next ∷ more) by all y = (
+    y.0,
+    subst (λ (r : Received). IsAnswer r x.pulled.head.method y.0) (sym (earlier_input k x.sent_at next.sent_at by all.0)) y.1,
+    y.2 ∙ ap (λ (r : Received). whole_at (length r.bytes)) (sym (earlier_input k x.sent_at next.sent_at by all.0)),
+    ap (λ (r : Received). r.ended) (earlier_input k x.sent_at next.sent_at by all.0) ∙ y.3,
+    y.4,
+  )
+
+  alone_on : (x : Exchange) (later : List Exchange) (o : Option ℕ) → IsSentBy (length history) x → x.server ≡ o
+      → AllByRecursion (IsSentBy (length history)) later → IsAloneOn setting history later x o → IsAloneOn setting (s ∷ history) later x o
+  alone_on x later None by at all y = y
+  alone_on x later (Some k) by at all y = alone_before x k (filter (is_on k) later) (by k at) (all_by (length history) k later all) y
+
+  pub alone_later : (later xs : List Exchange) → AllByRecursion (IsSentBy (length history)) later → AllByRecursion (IsSentBy (length history)) xs
+      → AreAlone setting history later xs → AreAlone setting (s ∷ history) later xs
+  alone_later later [] before all y = tt
+  alone_later later (x ∷ xs) before all y =
+      (alone_on x later x.server all.0 refl before y.0, alone_later (x ∷ later) xs (all.0, before) all.1 y.1)
+
+  clean_first : (k : ℕ) (xs : List Exchange) → AllByRecursion (λ y. y.sent_at ≤ length history) xs → IsCleanAtFirst history k xs
+      → IsCleanAtFirst (s ∷ history) k xs
+  clean_first k [] all y = tt
+  clean_first k (x ∷ xs) all y =
+      let same : server_at k (first_of x.sent_at (s ∷ history)) ≡ server_at k (first_of x.sent_at history) =
+      ap (server_at k) (first_before x.sent_at s history all.0) in
+      (ap (λ (v : Server). v.came) same ∙ y.0, ap (λ (v : Server). v.ended) same ∙ y.1)
+
+  pub clean_later : (k : ℕ) (xs : List Exchange) → AllByRecursion (IsSentBy (length history)) xs → IsCleanAtFirst history k (reverse (filter (is_on k) xs))
+      → IsCleanAtFirst (s ∷ history) k (reverse (filter (is_on k) xs))
+  clean_later k xs all y =
+      clean_first k (reverse (filter (is_on k) xs)) (all_back (λ y. y.sent_at ≤ length history) (filter (is_on k) xs) (all_by (length history) k xs all)) y
+
   module _ (edge : Edge) (still : (k : ℕ) → Unmoved k) where
     -- ---- replies
 
@@ -124,39 +161,7 @@ module _ (setting : Setting) (s : ProxyStep) (history : List ProxyStep) where
     replies_later later (x ∷ xs) (f ∷ fs) before all y =
         (y.0, reply_later x later f.reply all.0 before y.1, replies_later (x ∷ later) xs fs (all.0, before) all.1 y.2)
 
-    -- ---- one answer a request
-
-    alone_before : (x : Exchange) (k : ℕ) (later : List Exchange) → x.sent_at ≤ length history → AllByRecursion (λ y. y.sent_at ≤ length history) later
-        → IsAloneBefore setting history x k later → IsAloneBefore setting (s ∷ history) x k later
-    alone_before x k [] by all y = tt
-    alone_before x k (next ∷ more) by all y = (
-      y.0,
-      subst (λ (r : Received). IsAnswer r x.pulled.head.method y.0) (sym (earlier_input k x.sent_at next.sent_at by all.0)) y.1,
-      y.2 ∙ ap (λ (r : Received). whole_at (length r.bytes)) (sym (earlier_input k x.sent_at next.sent_at by all.0)),
-      ap (λ (r : Received). r.ended) (earlier_input k x.sent_at next.sent_at by all.0) ∙ y.3,
-      y.4,
-    )
-
-    alone_on : (x : Exchange) (later : List Exchange) (o : Option ℕ) → IsSentBy (length history) x → x.server ≡ o
-        → AllByRecursion (IsSentBy (length history)) later → IsAloneOn setting history later x o → IsAloneOn setting (s ∷ history) later x o
-    alone_on x later None by at all y = y
-    alone_on x later (Some k) by at all y = alone_before x k (filter (is_on k) later) (by k at) (all_by (length history) k later all) y
-
-    alone_later : (later xs : List Exchange) → AllByRecursion (IsSentBy (length history)) later → AllByRecursion (IsSentBy (length history)) xs
-        → AreAlone setting history later xs → AreAlone setting (s ∷ history) later xs
-    alone_later later [] before all y = tt
-    alone_later later (x ∷ xs) before all y =
-        (alone_on x later x.server all.0 refl before y.0, alone_later (x ∷ later) xs (all.0, before) all.1 y.1)
-
     -- ---- the rest
-
-    clean_first : (k : ℕ) (xs : List Exchange) → AllByRecursion (λ y. y.sent_at ≤ length history) xs → IsCleanAtFirst history k xs
-        → IsCleanAtFirst (s ∷ history) k xs
-    clean_first k [] all y = tt
-    clean_first k (x ∷ xs) all y =
-        let same : server_at k (first_of x.sent_at (s ∷ history)) ≡ server_at k (first_of x.sent_at history) =
-        ap (server_at k) (first_before x.sent_at s history all.0) in
-        (ap (λ (v : Server). v.came) same ∙ y.0, ap (λ (v : Server). v.ended) same ∙ y.1)
 
     used_still : (k : ℕ) (xs : List Exchange) → IsUsed xs (server_at k history) → IsUsed xs (server_at k (s ∷ history))
     used_still k [] (inl ended) = inl ((still k).ended ∙ ended)
@@ -183,8 +188,25 @@ module _ (setting : Setting) (s : ProxyStep) (history : List ProxyStep) where
       used = λ none k newest. used_still k (filter (is_on k) xs) (x.used (closes none) k (newest ∙ many));
       told = x.told;
       replied = replies_later [] xs (exchanges trace) tt all x.replied;
-      clean = λ k low. clean_first k (reverse (filter (is_on k) xs)) (all_back (λ y. y.sent_at ≤ length history) (filter (is_on k) xs) (all_by (length history) k xs all))
-          (x.clean k (subst (λ (n : ℕ). k < n) many low));
+      clean = λ k low. clean_later k xs all (x.clean k (subst (λ (n : ℕ). k < n) many low));
       alone = alone_later [] xs tt all x.alone;
       failed = λ is. failed_still xs all (x.failed is);
     }
+
+    -- where one is new, on which no request was sent
+    pub judged_opened : (waiting after : Option (List ℕ)) (trace : List Step) (xs : List Exchange) → AllByRecursion (IsSentBy (length history)) xs
+        → (after ≡ None → ⊥) → ((k : ℕ) → k < length (servers (s ∷ history)) → (k < length (servers history)) ⊎ (filter (is_on k) xs ≡ []))
+        → IsJudged edge setting history waiting trace xs → IsJudged edge setting (s ∷ history) after trace xs
+    judged_opened waiting after trace xs all opens which x = record {
+      undrained = x.undrained;
+      used = λ none k newest. absurd (opens none);
+      told = x.told;
+      replied = replies_later [] xs (exchanges trace) tt all x.replied;
+      clean = λ k low. clean_by k (which k low);
+      alone = alone_later [] xs tt all x.alone;
+      failed = λ is. failed_still xs all (x.failed is);
+    }
+      where
+        clean_by : (k : ℕ) → (k < length (servers history)) ⊎ (filter (is_on k) xs ≡ []) → IsCleanAtFirst (s ∷ history) k (reverse (filter (is_on k) xs))
+        clean_by k (inl low) = clean_later k xs all (x.clean k low)
+        clean_by k (inr none) = subst (λ (ys : List Exchange). IsCleanAtFirst (s ∷ history) k (reverse ys)) (sym none) tt

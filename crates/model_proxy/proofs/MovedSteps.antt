@@ -1,12 +1,13 @@
 -- What holds of replies holds behind a step by which more came of one server connection, or the end of its input.
-use Rattle.std.proofs.Common.{◌≡◌, ◌⊎◌, ℕ, ◌≤◌, Bool, true, false, eqb, suc, List, [], ◌∷◌, ◌++◌, length, filter, drop, refl, sym, ap, ap₂, ◌∙◌, subst, append_assoc, inl, inr, Option, Some, None}
+use Rattle.std.proofs.Common.{◌≡◌, ℕ, ◌<◌, ◌≤◌, Bool, true, false, eqb, suc, List, [], ◌∷◌, ◌++◌, length, filter, drop, refl, sym, ap, ap₂, ◌∙◌, subst, append_assoc, inl, inr, Option, Some, None}
 use Rattle.std.specs.Prelude.{⊤, is_some}
 use Rattle.std.specs.List.{AllByRecursion}
 use Rattle.std.proofs.lemmas.Bool.{false≢true, eqb-true, eqb-false}
 use Rattle.std.proofs.lemmas.List.{drop-append-le}
 use Rattle.model_h1.specs.Setting.{Setting}
 use Rattle.model_h1.specs.Handed.{Begins}
-use Rattle.model_h1.specs.Laws.Exchanges.{AnswerGiven, Reply, no_reply, answer_given, session, is_whole}
+use Rattle.model_h1.specs.Sums.{Step}
+use Rattle.model_h1.specs.Laws.Exchanges.{AnswerGiven, Reply, no_reply, answer_given, session, exchanges}
 use Rattle.model_h1.specs.Laws.Exchanges as replies
 use Rattle.model_client.specs.RequestText.{joined}
 use Rattle.model_client.specs.AnswerReading.{Answer}
@@ -15,11 +16,12 @@ use Rattle.model_proxy.specs.Edge.{Edge}
 use Rattle.model_proxy.specs.Judged.{is_refused}
 use Rattle.model_proxy.specs.Forward.{is_forwardable}
 use Rattle.model_proxy.specs.Answers.{Fate, unfinished, bad, whole_at, Found, IsAnswer}
-use Rattle.model_proxy.specs.Past.{ProxyStep, server_at, first_of}
+use Rattle.model_proxy.specs.Past.{ProxyStep, servers, server_at, first_of}
 use Rattle.model_proxy.specs.Exchange.{Exchange, is_on, first_sent, answer_input}
 use Rattle.model_proxy.specs.Forwarding.{IsWhole, IsPassedOn, IsReplyFrom, IsReplyBy, IsReply, AreReplies, HasFailed}
 use Rattle.model_proxy.proofs.PlacesKept.{first_before, first_all, IsSentBy}
-use Rattle.model_proxy.proofs.LaterSteps.{all_by, Unmoved, earlier_input, now_input}
+use Rattle.model_proxy.proofs.Halves.{IsJudged}
+use Rattle.model_proxy.proofs.LaterSteps.{all_by, Unmoved, earlier_input, now_input, alone_later, clean_later}
 use Rattle.model_proxy.proofs.Came.{came_shorter}
 use Rattle.model_proxy.proofs.FoundAnswers.{answer_found}
 use Rattle.model_proxy.proofs.FoundGrows.{FoundGrows, answer_grows}
@@ -205,3 +207,17 @@ module _ (setting : Setting) (s : ProxyStep) (history : List ProxyStep) where
     failed_moved (x ∷ xs) all y =
         let z = failed_by x y.0 y.2 (eqb y.0 n) refl (all.0 y.0 y.1) y.3 (y.4, y.5) in
         (y.0, y.1, z.0, z.1, z.2, z.3)
+
+    -- while it is open
+    pub judged_moved : (waiting after : Option (List ℕ)) (trace : List Step) (xs : List Exchange) → AllByRecursion (IsSentBy (length history)) xs
+        → length (servers (s ∷ history)) ≡ length (servers history) → (after ≡ None → ⊥) → NewestIsPassed setting history n [] xs (exchanges trace)
+        → IsJudged edge setting history waiting trace xs → IsJudged edge setting (s ∷ history) after trace xs
+    judged_moved waiting after trace xs all many open passing x = record {
+      undrained = x.undrained;
+      used = λ none k newest. absurd (open none);
+      told = x.told;
+      replied = replies_moved [] xs (exchanges trace) tt all passing x.replied;
+      clean = λ k low. clean_later setting s history k xs all (x.clean k (subst (λ (n : ℕ). k < n) many low));
+      alone = alone_later setting s history [] xs tt all x.alone;
+      failed = λ is. failed_moved xs all (x.failed is);
+    }
