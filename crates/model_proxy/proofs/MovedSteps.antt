@@ -212,9 +212,9 @@ module _ (setting : Setting) (s : ProxyStep) (history : List ProxyStep) where
     pub judged_moved : (waiting after : Option (List ℕ)) (trace : List Step) (xs : List Exchange) → AllByRecursion (IsSentBy (length history)) xs
         → length (servers (s ∷ history)) ≡ length (servers history) → (after ≡ None → ⊥) → NewestIsPassed setting history n [] xs (exchanges trace)
         → IsJudged edge setting history waiting trace xs → IsJudged edge setting (s ∷ history) after trace xs
-    judged_moved waiting after trace xs all many open passing x = record {
+    judged_moved waiting after trace xs all many opens passing x = record {
       undrained = x.undrained;
-      used = λ none k newest. absurd (open none);
+      used = λ none k newest. absurd (opens none);
       told = x.told;
       replied = replies_moved [] xs (exchanges trace) tt all passing x.replied;
       clean = λ k low. clean_later setting s history k xs all (x.clean k (subst (λ (n : ℕ). k < n) many low));

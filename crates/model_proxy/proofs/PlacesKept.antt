@@ -239,7 +239,7 @@ on_taken edge history moment r x xs p l links new before at pulled dated sent on
         let same = eqb-true k (length links) is in
         let here : is_on k x ≡ true = on_number k (length links) x at ∙ eq-eqb (length links) k (sym same) in
         let earlier : map (sent_of edge history) (reverse (filter (is_on k) xs)) ++ happened.sent_of edge r.pulled moment ∷ []
-            ≡ reverse before ++ happened.sent_of edge r.pulled moment ∷ [] =
+        ≡ reverse before ++ happened.sent_of edge r.pulled moment ∷ [] =
         ap (λ (s : Sent). map (sent_of edge history) (reverse (filter (is_on k) xs)) ++ s ∷ []) (sym was_it)
         ∙ sym (in_order edge history x (filter (is_on k) xs))
         ∙ sym (ap (λ (ys : List Exchange). map (sent_of edge history) (reverse ys)) (takes k x xs here))

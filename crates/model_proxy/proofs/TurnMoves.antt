@@ -61,22 +61,22 @@ module _ (edge : Edge) (setting : Setting) (history : List ProxyStep) where
   AloneAs later others = (y : Exchange) (k : ℕ) → IsAloneBefore setting history y k (filter (is_on k) later) → IsAloneBefore setting history y k (filter (is_on k) others)
 
   as_more : (x : Exchange) (later others : List Exchange) → AloneAs later others → AloneAs (x ∷ later) (x ∷ others)
-  as_more x later others as y k = by_test (is_on k x)
+  as_more x later others so y k = by_test (is_on k x)
     where
       by_test : (t : Bool) → IsAloneBefore setting history y k (cond t (x ∷ filter (is_on k) later) (filter (is_on k) later))
           → IsAloneBefore setting history y k (cond t (x ∷ filter (is_on k) others) (filter (is_on k) others))
       by_test true z = z
-      by_test false z = as y k z
+      by_test false z = so y k z
 
   alone_on_as : (x : Exchange) (later others : List Exchange) (o : Option ℕ) → AloneAs later others → IsAloneOn setting history later x o
       → IsAloneOn setting history others x o
-  alone_on_as x later others None as y = tt
-  alone_on_as x later others (Some k) as y = as x k y
+  alone_on_as x later others None so y = tt
+  alone_on_as x later others (Some k) so y = so x k y
 
   pub alone_as : (later others xs : List Exchange) → AloneAs later others → AreAlone setting history later xs → AreAlone setting history others xs
-  alone_as later others [] as y = tt
-  alone_as later others (x ∷ xs) as y =
-      (alone_on_as x later others x.server as y.0, alone_as (x ∷ later) (x ∷ others) xs (as_more x later others as) y.1)
+  alone_as later others [] so y = tt
+  alone_as later others (x ∷ xs) so y =
+      (alone_on_as x later others x.server so y.0, alone_as (x ∷ later) (x ∷ others) xs (as_more x later others so) y.1)
 
   -- none is later
   pub alone_first : (x : Exchange) (o : Option ℕ) → IsAloneOn setting history [] x o
