@@ -69,7 +69,7 @@ pub all_same : (event : ProxyEvent) (waiting : Option (List ℕ)) (history : Lis
 all_same event waiting history xs is = record { newer = []; older = xs; are = refl; begun = tt; go_on = same_go_on event waiting history xs is }
 
 -- a server connection that is open was there before the step
-there_still : (event : ProxyEvent) (waiting : Option (List ℕ)) → is_some waiting ≡ true → is_there event waiting ≡ true
+pub there_still : (event : ProxyEvent) (waiting : Option (List ℕ)) → is_some waiting ≡ true → is_there event waiting ≡ true
 there_still past.connected waiting is = refl
 there_still (past.client bytes) waiting is = is
 there_still (past.server bytes) waiting is = is
@@ -81,11 +81,11 @@ there_still (past.to_server n) waiting is = is
 there_still (past.tick ms) waiting is = is
 
 module _ (edge : Edge) (theirs ours : Setting) where
-  sent_so_far : (kept : ForwarderKept) (history : List ProxyStep) (all : Happenings) (xs : List Exchange) → Tells edge theirs ours kept history all xs
+  pub sent_so_far : (kept : ForwarderKept) (history : List ProxyStep) (all : Happenings) (xs : List Exchange) → Tells edge theirs ours kept history all xs
       → AllByRecursion (IsSentBy (length history)) xs
   sent_so_far kept history all xs x = sent_by_then history (length all.links) all.requests xs x.same
 
-  judged_now : (kept : ForwarderKept) (history : List ProxyStep) (all : Happenings) (xs : List Exchange) → Tells edge theirs ours kept history all xs
+  pub judged_now : (kept : ForwarderKept) (history : List ProxyStep) (all : Happenings) (xs : List Exchange) → Tells edge theirs ours kept history all xs
       → IsJudged edge theirs history (waiting_in kept.server) all.client xs
   judged_now kept history all xs x =
       judged_of edge theirs history (waiting_in kept.server) all.client xs (so_far edge theirs history (waiting_in kept.server) all.client xs x.is)

@@ -20,6 +20,7 @@ pub mod MovedSteps
 pub mod TurnMoves
 pub mod SentMoves
 pub mod EventsForward
+pub mod ServersForward
 pub mod GivenRequests
 pub mod Places
 pub mod StepByStep
