@@ -65,7 +65,6 @@ module _ (setting : Setting) (history : List ProxyStep) where
   opened_still k = by_test (eqb k (length (servers history))) refl
     where
       by_test : (t : Bool) → eqb k (length (servers history)) ≡ t → Unmoved setting (record { event = past.connected; outcome = past.done }) history k
-      unfolding servers
       by_test true is =
           let high = eqb-true k (length (servers history)) is in
           let none : numbered k (servers history) ≡ new_server = behind_all k (servers history) (omega (arith, high)) in
