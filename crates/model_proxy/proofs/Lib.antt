@@ -21,6 +21,7 @@ pub mod TurnMoves
 pub mod SentMoves
 pub mod EventsForward
 pub mod ServersForward
+pub mod TurnsForward
 pub mod GivenRequests
 pub mod Places
 pub mod StepByStep
