@@ -22,6 +22,7 @@ pub mod SentMoves
 pub mod EventsForward
 pub mod ServersForward
 pub mod TurnsForward
+pub mod BodiesForward
 pub mod GivenRequests
 pub mod Places
 pub mod StepByStep

@@ -50,13 +50,13 @@ all_same : (waiting : Option (List ℕ)) (history : List ProxyStep) (xs : List E
 all_same waiting history xs = record { newer = []; older = xs; are = refl; begun = tt; go_on = same_turn waiting history xs }
 
 -- the newest stays where it was sent
-newest_stays : (waiting : Option (List ℕ)) (history : List ProxyStep) (x y : Exchange) (xs : List Exchange) → y.server ≡ x.server → y.sent_at ≡ x.sent_at
+pub newest_stays : (waiting : Option (List ℕ)) (history : List ProxyStep) (x y : Exchange) (xs : List Exchange) → y.server ≡ x.server → y.sent_at ≡ x.sent_at
     → y.was_refused ≡ x.was_refused → AllTurnOn waiting history (x ∷ xs) (y ∷ xs)
 newest_stays waiting history x y xs server at refused =
     record { newer = []; older = y ∷ xs; are = refl; begun = tt; go_on = (record { sent = inl (server, at); refused = refused }, refl) }
 
 -- a server connection that is open goes on, whatever waits to be given to it
-still_open : (edge : Edge) (setting : Setting) (history : List ProxyStep) (waiting : Option (List ℕ)) (bytes : List ℕ) (trace : List Step) (xs : List Exchange)
+pub still_open : (edge : Edge) (setting : Setting) (history : List ProxyStep) (waiting : Option (List ℕ)) (bytes : List ℕ) (trace : List Step) (xs : List Exchange)
     → IsJudged edge setting history waiting trace xs → IsJudged edge setting history (Some bytes) trace xs
 still_open edge setting history waiting bytes trace xs x = record {
   undrained = x.undrained;
