@@ -23,6 +23,7 @@ pub mod EventsForward
 pub mod ServersForward
 pub mod TurnsForward
 pub mod BodiesForward
+pub mod RepliesForward
 pub mod GivenRequests
 pub mod Places
 pub mod StepByStep

@@ -46,7 +46,7 @@ same_turn : (waiting : Option (List ℕ)) (history : List ProxyStep) (xs : List 
 same_turn waiting history [] = tt
 same_turn waiting history (x ∷ xs) = (record { sent = inl (refl, refl); refused = refl }, refl)
 
-all_same : (waiting : Option (List ℕ)) (history : List ProxyStep) (xs : List Exchange) → AllTurnOn waiting history xs xs
+pub all_same : (waiting : Option (List ℕ)) (history : List ProxyStep) (xs : List Exchange) → AllTurnOn waiting history xs xs
 all_same waiting history xs = record { newer = []; older = xs; are = refl; begun = tt; go_on = same_turn waiting history xs }
 
 -- the newest stays where it was sent
