@@ -63,13 +63,13 @@ module _ (edge : Edge) (theirs ours : Setting) (s : ProxyStep) (history : List P
       (subst (λ (qs : List Request). AreSame (s ∷ history) (length all.links) qs (x ∷ xs)) rs_are t.same) in
       let m : Link = record { happened = new; sent = happened.sent_of edge (change r.pulled) moment ∷ before } in
       let dated = dated_by (suc (length links)) moment r x sent_at same.0.placed in
-      let on = on_taken edge (s ∷ history) moment r x xs (change r.pulled) l links new before at same.0.pulled dated sent
-      (subst (AreOn edge (s ∷ history) (x ∷ xs)) links_are t.on) in
+      let places = on_taken edge (s ∷ history) moment r x xs (change r.pulled) l links new before at same.0.pulled dated sent
+      (subst (AreOn edge (s ∷ history) (x ∷ xs)) links_are t.places) in
       tells_turn edge theirs ours s history old (record { client = b; server = Some d; under_way = v }) all more (r' ∷ rs) (m ∷ links) (x ∷ xs)
       (record x { pulled = change x.pulled } ∷ xs) t carries
       (subst (λ (p : Pulled). AreSame (s ∷ history) (suc (length links)) (r' ∷ rs) (record x { pulled = change p } ∷ xs)) (sym same.0.pulled)
       (same_taken (s ∷ history) (suc (length links)) r rs x xs (change r.pulled) same))
-      (subst (λ (p : Pulled). AreOn edge (s ∷ history) (record x { pulled = change p } ∷ xs) (m ∷ links)) (sym same.0.pulled) on)
+      (subst (λ (p : Pulled). AreOn edge (s ∷ history) (record x { pulled = change p } ∷ xs) (m ∷ links)) (sym same.0.pulled) places)
       (λ is. refl)
       (newest_stays (Some c.buffered) (s ∷ history) x (record x { pulled = change x.pulled }) xs refl refl refl)
       (still_open edge theirs (s ∷ history) (Some c.buffered) d.buffered (more ++ all.client) (record x { pulled = change x.pulled } ∷ xs)

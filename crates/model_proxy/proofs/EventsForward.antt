@@ -34,7 +34,7 @@ use Rattle.model_proxy.proofs.LaterSteps.{Unmoved, judged_later}
 pub record Tells (edge : Edge) (theirs ours : Setting) (kept : ForwarderKept) (history : List ProxyStep) (all : Happenings) (xs : List Exchange) : Type 0 where
   pub carries : Carries edge theirs ours kept history all
   pub same : AreSame history (length all.links) all.requests xs
-  pub on : AreOn edge history xs all.links
+  pub places : AreOn edge history xs all.links
   pub is : IsForwarding edge theirs history (waiting_in kept.server) all.client xs
 
 pub judged_of : (edge : Edge) (setting : Setting) (history : List ProxyStep) (waiting : Option (List ℕ)) (trace : List Step) (xs : List Exchange)
@@ -126,16 +126,16 @@ module _ (edge : Edge) (theirs ours : Setting) where
       let after : Happenings = record all { client = step ∷ all.client } in
       let carries = client_event_at edge theirs ours e o event outcome kept b none takes gives moment ends not_refused leaves does history all x.carries in
       let same = same_later s history (length all.links) (length all.links) all.requests xs (omega arith) x.same in
-      let on = on_later edge s history xs all.links (sent_so_far kept history all xs x) x.on in
+      let places = on_later edge s history xs all.links (sent_so_far kept history all xs x) x.places in
       let judged = judged_silent edge theirs (s ∷ history) w (step ∷ []) all.client xs (silent, tt) (later_now event outcome kept history all xs leaves x) in
       record {
         carries = carries;
         same = same;
-        on = on;
+        places = places;
         is = behind s history w all.client xs w (step ∷ []) xs x.is
             (record { told = told; gave = first; opened = there_still event w })
             (all_same event w (s ∷ history) xs not_refused)
-            (both_halves edge theirs ours (record kept { client = b }) (s ∷ history) after xs carries same on judged);
+            (both_halves edge theirs ours (record kept { client = b }) (s ∷ history) after xs carries same places judged);
       }
 
   -- nothing happens by it
@@ -148,13 +148,13 @@ module _ (edge : Edge) (theirs ours : Setting) where
       let w = waiting_in kept.server in
       let carries = nothing_at edge theirs ours event outcome kept says not_refused leaves history all x.carries in
       let same = same_later s history (length all.links) (length all.links) all.requests xs (omega arith) x.same in
-      let on = on_later edge s history xs all.links (sent_so_far kept history all xs x) x.on in
+      let places = on_later edge s history xs all.links (sent_so_far kept history all xs x) x.places in
       record {
         carries = carries;
         same = same;
-        on = on;
+        places = places;
         is = behind s history w all.client xs w [] xs x.is
             (record { told = told; gave = first; opened = there_still event w })
             (all_same event w (s ∷ history) xs not_refused)
-            (both_halves edge theirs ours kept (s ∷ history) all xs carries same on (later_now event outcome kept history all xs leaves x));
+            (both_halves edge theirs ours kept (s ∷ history) all xs carries same places (later_now event outcome kept history all xs leaves x));
       }

@@ -13,7 +13,7 @@ use Rattle.model_client.specs.AnswerReading.{Answer, AnswerReading, answer_is, r
 use Rattle.model_client.specs.AnswerParse.{Received, AnswerMessage, is_interim, IsAnswerBody, left_waiting, AreAnswersFrom, AreAnswersIn}
 use Rattle.model_client.specs.Laws.Growth.{AnswersGrow}
 use Rattle.model_client.proofs.AnswerGrowth.{answers_stay}
-use Rattle.model_proxy.specs.Answers.{Fate, unfinished, bad, whole_at, Found, found_bad, found_nothing, fate_of, found_body, found_by, found_from, IsAnswer}
+use Rattle.model_proxy.specs.Answers.{Fate, unfinished, bad, whole_at, Found, is_given_up, found_bad, fate_of, found_body, found_by, found_from, IsAnswer}
 
 -- ---- what stays
 
@@ -151,7 +151,7 @@ by_grows r s (answer_is h) m n a b c x later =
 
 from_grows : (r s : Received) (place at : ℕ) (ms ns : List AnswerMessage) → AllByRecursion IsOfContent ns → AnswersGrow r.bytes s.bytes ms ns
     → FoundGrows (found_from r place ms) (found_from s at ns)
-from_grows r s place at [] ns all x = headless _ (found_from s at ns)
+from_grows r s place at [] ns all x = headless (is_given_up r place r.hold_size) (found_from s at ns)
 from_grows r s place at (m ∷ ms) [] all x = absurd x
 from_grows r s place at (m ∷ ms) (n ∷ ns) all x =
     let later = from_grows r s (unwrap_or (next_start m.body) place) (unwrap_or (next_start n.body) at) ms ns all.1 x.1 in

@@ -92,7 +92,7 @@ module _ (edge : Edge) (theirs ours : Setting) (s : ProxyStep) (history : List P
   tells_put event kept client all x xs f fs no_drain no_error are head told reply stands did t =
       tells_turn edge theirs ours s history kept (record kept { client = client }) all (record { event = event; outcome = on.done } ∷ []) all.requests all.links (x ∷ xs) (x ∷ xs) t
       (client_at edge theirs ours on.done kept client done_brings_nothing (s ∷ history) all (record { event = event; outcome = on.done } ∷ all.client) stands did t.carries)
-      t.same t.on (λ is. is) (all_same (waiting_in kept.server) (s ∷ history) (x ∷ xs))
+      t.same t.places (λ is. is) (all_same (waiting_in kept.server) (s ∷ history) (x ∷ xs))
       (judged_put edge theirs (s ∷ history) event (waiting_in kept.server) all.client x xs f fs no_drain no_error are head told reply
       (judged_now edge theirs ours kept (s ∷ history) all (x ∷ xs) t))
 
@@ -104,5 +104,5 @@ module _ (edge : Edge) (theirs ours : Setting) (s : ProxyStep) (history : List P
   tells_cut kept client all xs failed stands did t =
       tells_turn edge theirs ours s history kept (record kept { client = client }) all (record { event = on.body_error; outcome = on.done } ∷ []) all.requests all.links xs xs t
       (client_at edge theirs ours on.done kept client done_brings_nothing (s ∷ history) all (record { event = on.body_error; outcome = on.done } ∷ all.client) stands did t.carries)
-      t.same t.on (λ is. is) (all_same (waiting_in kept.server) (s ∷ history) xs)
+      t.same t.places (λ is. is) (all_same (waiting_in kept.server) (s ∷ history) xs)
       (judged_cut edge theirs (s ∷ history) (waiting_in kept.server) all.client xs failed (judged_now edge theirs ours kept (s ∷ history) all xs t))

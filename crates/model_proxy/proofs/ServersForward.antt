@@ -141,7 +141,7 @@ module _ (edge : Edge) (theirs ours : Setting) where
       let sent = sent_so_far edge theirs ours old history all xs x in
       let carries = connected_at edge theirs ours q size whole broken kept history all x.carries in
       let same = same_later s history (length all.links) (suc (length all.links)) all.requests xs (omega arith) x.same in
-      let on = on_later edge s history xs (record { happened = []; sent = [] } ∷ all.links) sent (on_new edge history xs all.links x.on) in
+      let places = on_later edge s history xs (record { happened = []; sent = [] } ∷ all.links) sent (on_new edge history xs all.links x.places) in
       let many = counted edge theirs ours history all x.carries.forwarded.sums.servers in
       let judged = judged_opened theirs s history edge (opened_still theirs history) None (Some []) all.client xs sent (some_not [])
       (λ k low. which k many (subst (λ (n : ℕ). k < n) (opened_many theirs history) low) (none_there history (length all.links) k all.requests xs))
@@ -149,10 +149,10 @@ module _ (edge : Edge) (theirs ours : Setting) where
       record {
         carries = carries;
         same = same;
-        on = on;
+        places = places;
         is = behind s history None all.client xs (Some []) [] xs x.is (record { told = tt; gave = tt; opened = λ is. refl })
             (all_same past.connected None (s ∷ history) xs refl)
-            (both_halves edge theirs ours new (s ∷ history) after xs carries same on judged);
+            (both_halves edge theirs ours new (s ∷ history) after xs carries same places judged);
       }
     where
       which : (k : ℕ) → length all.links ≡ length (servers history) → k < suc (length (servers history))
@@ -182,18 +182,18 @@ module _ (edge : Edge) (theirs ours : Setting) where
       let carries = server_event_at edge theirs ours (asked.write n) (asked.gave bytes) (past.to_server n) (past.gave bytes) kept a b adds says refl changes does history all l links are x.carries in
       let count : length all.links ≡ suc (length links) = ap (λ (ls : List Link). length ls) are in
       let same = same_later s history (length all.links) (suc (length links)) all.requests xs (omega (arith, count)) x.same in
-      let on = on_later edge s history xs (record { happened = record { event = asked.write n; outcome = asked.gave bytes } ∷ l.happened; sent = l.sent } ∷ links) sent
+      let places = on_later edge s history xs (record { happened = record { event = asked.write n; outcome = asked.gave bytes } ∷ l.happened; sent = l.sent } ∷ links) sent
       (on_still edge history xs l links (record { event = asked.write n; outcome = asked.gave bytes } ∷ l.happened)
-      (subst (AreOn edge history xs) are x.on)) in
+      (subst (AreOn edge history xs) are x.places)) in
       let judged = judged_later theirs s history edge (written_still theirs history n bytes) (Some a.buffered) (Some b.buffered) all.client xs sent
       (written_many theirs history n bytes) (λ none. absurd (some_not b.buffered none)) (judged_now edge theirs ours (record kept { server = Some a }) history all xs x) in
       record {
         carries = carries;
         same = same;
-        on = on;
+        places = places;
         is = behind s history (Some a.buffered) all.client xs (Some b.buffered) [] xs x.is (record { told = tt; gave = first; opened = λ is. refl })
             (all_same (past.to_server n) (Some a.buffered) (s ∷ history) xs refl)
-            (both_halves edge theirs ours (record kept { server = Some b }) (s ∷ history) after xs carries same on judged);
+            (both_halves edge theirs ours (record kept { server = Some b }) (s ∷ history) after xs carries same places judged);
       }
 
   -- ---- bytes come of it, or the end of its input
@@ -214,8 +214,8 @@ module _ (edge : Edge) (theirs ours : Setting) where
       let carries = server_event_at edge theirs ours e o event outcome kept a b adds says not_refused changes does history all l links are x.carries in
       let count : length all.links ≡ suc (length links) = ap (λ (ls : List Link). length ls) are in
       let same = same_later s history (length all.links) (suc (length links)) all.requests xs (omega (arith, count)) x.same in
-      let on = on_later edge s history xs (record { happened = record { event = e; outcome = o } ∷ l.happened; sent = l.sent } ∷ links) sent
-      (on_still edge history xs l links (record { event = e; outcome = o } ∷ l.happened) (subst (AreOn edge history xs) are x.on)) in
+      let places = on_later edge s history xs (record { happened = record { event = e; outcome = o } ∷ l.happened; sent = l.sent } ∷ links) sent
+      (on_still edge history xs l links (record { event = e; outcome = o } ∷ l.happened) (subst (AreOn edge history xs) are x.places)) in
       let older : List Server = map server_of links in
       let these : servers history ≡ server_of l ∷ older = sym x.carries.forwarded.sums.servers ∙ ap (map server_of) are in
       let number : length older ≡ length links = length-map links server_of in
@@ -227,9 +227,9 @@ module _ (edge : Edge) (theirs ours : Setting) where
       record {
         carries = carries;
         same = same;
-        on = on;
+        places = places;
         is = behind s history (Some a.buffered) all.client xs (Some b.buffered) [] xs x.is
             (record { told = told; gave = first; opened = λ is. there_still event (Some a.buffered) refl })
             (all_same event (Some a.buffered) (s ∷ history) xs not_refused)
-            (both_halves edge theirs ours (record kept { server = Some b }) (s ∷ history) after xs carries same on judged);
+            (both_halves edge theirs ours (record kept { server = Some b }) (s ∷ history) after xs carries same places judged);
       }

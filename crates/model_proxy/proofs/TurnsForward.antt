@@ -92,12 +92,12 @@ module _ (edge : Edge) (theirs ours : Setting) (s : ProxyStep) (history : List P
       → AllTurnOn (waiting_in kept.server) (s ∷ history) xs zs
       → IsJudged edge theirs (s ∷ history) (waiting_in after.server) (more ++ all.client) zs
       → Tells edge theirs ours after (s ∷ history) (record { client = more ++ all.client; requests = rs; links = links }) zs
-  tells_turn kept after all more rs links xs zs x carries same on stays turns judged = record {
+  tells_turn kept after all more rs links xs zs x carries same places stays turns judged = record {
     carries = carries;
     same = same;
-    on = on;
+    places = places;
     is = turned edge theirs s history (waiting_in kept.server) all.client xs x.is (waiting_in after.server) more zs stays turns
-        (both_halves edge theirs ours after (s ∷ history) (record { client = more ++ all.client; requests = rs; links = links }) zs carries same on judged);
+        (both_halves edge theirs ours after (s ∷ history) (record { client = more ++ all.client; requests = rs; links = links }) zs carries same places judged);
   }
 
   -- ---- the client's connection does something that puts nothing of a reply
@@ -108,7 +108,7 @@ module _ (edge : Edge) (theirs ours : Setting) (s : ProxyStep) (history : List P
       → Tells edge theirs ours (record kept { client = client }) (s ∷ history) (record all { client = more ++ all.client }) xs
   tells_silent o kept client all more xs none silent stands did x =
       tells_turn kept (record kept { client = client }) all more all.requests all.links xs xs x
-      (client_at edge theirs ours o kept client none (s ∷ history) all (more ++ all.client) stands did x.carries) x.same x.on (λ is. is)
+      (client_at edge theirs ours o kept client none (s ∷ history) all (more ++ all.client) stands did x.carries) x.same x.places (λ is. is)
       (all_same (waiting_in kept.server) (s ∷ history) xs)
       (judged_silent edge theirs (s ∷ history) (waiting_in kept.server) more all.client xs silent (judged_now edge theirs ours kept (s ∷ history) all xs x))
 
@@ -122,7 +122,7 @@ module _ (edge : Edge) (theirs ours : Setting) (s : ProxyStep) (history : List P
       tells_turn (record kept { server = Some a }) (record kept { server = Some b }) all [] all.requests (record { happened = new; sent = l.sent } ∷ links) xs xs x
       (link_at_server edge theirs ours kept a b (s ∷ history) all l links new are driven quiet x.carries)
       (subst (λ (n : ℕ). AreSame (s ∷ history) n all.requests xs) count x.same)
-      (on_still edge (s ∷ history) xs l links new (subst (AreOn edge (s ∷ history) xs) are x.on)) (λ is. refl)
+      (on_still edge (s ∷ history) xs l links new (subst (AreOn edge (s ∷ history) xs) are x.places)) (λ is. refl)
       (all_same (Some a.buffered) (s ∷ history) xs)
       (still_open edge theirs (s ∷ history) (Some a.buffered) b.buffered all.client xs (judged_now edge theirs ours (record kept { server = Some a }) (s ∷ history) all xs x))
 
@@ -131,7 +131,7 @@ module _ (edge : Edge) (theirs ours : Setting) (s : ProxyStep) (history : List P
       → Tells edge theirs ours kept (s ∷ history) all xs → Tells edge theirs ours (record kept { server = None }) (s ∷ history) all xs
   tells_closed kept all xs used x =
       tells_turn kept (record kept { server = None }) all [] all.requests all.links xs xs x
-      (closed_at edge theirs ours kept (s ∷ history) all x.carries) x.same x.on (λ is. absurd (false≢true is))
+      (closed_at edge theirs ours kept (s ∷ history) all x.carries) x.same x.places (λ is. absurd (false≢true is))
       (all_same (waiting_in kept.server) (s ∷ history) xs)
       (now_closed edge theirs (s ∷ history) (waiting_in kept.server) all.client xs used (judged_now edge theirs ours kept (s ∷ history) all xs x))
 
@@ -152,7 +152,7 @@ module _ (edge : Edge) (theirs ours : Setting) (s : ProxyStep) (history : List P
       tells_turn kept (record { client = b; server = server; under_way = nothing }) all (record { event = on.next; outcome = on.head h } ∷ [])
       (record { pulled = unpulled h; sent_at = None; was_refused = false } ∷ all.requests) all.links xs (new ∷ xs) x
       (head_at edge theirs ours h server a b (s ∷ history) all (record { event = on.next; outcome = on.head h } ∷ all.client) stands did x.carries)
-      (same_begun (s ∷ history) (length all.links) all.requests xs (unpulled h) x.same) x.on (λ is. is)
+      (same_begun (s ∷ history) (length all.links) all.requests xs (unpulled h) x.same) x.places (λ is. is)
       (record {
         newer = new ∷ [];
         older = xs;
@@ -199,7 +199,7 @@ module _ (edge : Edge) (theirs ours : Setting) (s : ProxyStep) (history : List P
       (asked_at edge theirs ours q size whole broken client a b allowed step (s ∷ history) all r rs l links rs_are links_are t.carries driven idle w)
       (same_sent (s ∷ history) (suc (length links)) (length links) moment r rs x xs (omega arith) dated same)
       (on_sent edge (s ∷ history) moment r x xs l links (record { event = asked.ask q size; outcome = asked.done } ∷ l.happened) unsent same.0.pulled dated
-      (subst (AreOn edge (s ∷ history) (x ∷ xs)) links_are t.on)) (λ is. refl)
+      (subst (AreOn edge (s ∷ history) (x ∷ xs)) links_are t.places)) (λ is. refl)
       (record {
         newer = [];
         older = sent_now (length links) (s ∷ history) x ∷ xs;
