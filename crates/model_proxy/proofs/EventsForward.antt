@@ -92,12 +92,12 @@ module _ (edge : Edge) (theirs ours : Setting) where
 
   -- ---- an event that leaves the servers
 
-  same_servers : (event : ProxyEvent) (outcome : ProxyOutcome) (history : List ProxyStep) → LeavesServers event outcome
+  pub same_servers : (event : ProxyEvent) (outcome : ProxyOutcome) (history : List ProxyStep) → LeavesServers event outcome
       → servers (record { event = event; outcome = outcome } ∷ history) ≡ servers history
   unfolding servers
   same_servers event outcome history leaves = leaves (servers history)
 
-  unmoved_by : (s : ProxyStep) (history : List ProxyStep) → servers (s ∷ history) ≡ servers history → (k : ℕ) → Unmoved theirs s history k
+  pub unmoved_by : (s : ProxyStep) (history : List ProxyStep) → servers (s ∷ history) ≡ servers history → (k : ℕ) → Unmoved theirs s history k
   unmoved_by s history same k =
       record { came = ap (λ (vs : List Server). (numbered k vs).came) same; ended = ap (λ (vs : List Server). (numbered k vs).ended) same }
 

@@ -24,6 +24,7 @@ pub mod ServersForward
 pub mod TurnsForward
 pub mod BodiesForward
 pub mod RepliesForward
+pub mod RefusedForward
 pub mod GivenRequests
 pub mod Places
 pub mod StepByStep
