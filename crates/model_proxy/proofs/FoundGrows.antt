@@ -77,7 +77,7 @@ body_content bytes ended hold chunked_body place b x = record { runs = _; stop =
 body_content bytes ended hold raw_body place b x = record { runs = _; stop = _; are = x }
 
 -- behind the head of an answer
-abbrev IsOfContent : AnswerMessage → Type 0
+abbrev pub IsOfContent : AnswerMessage → Type 0
 IsOfContent n = (a : Answer) → n.reading ≡ answer_is a → HasContent n.body
 
 one_content : (s : Received) (method : List ℕ) (reading : AnswerReading) (place : ℕ) (b : Body) (a : Answer) → reading ≡ answer_is a
@@ -85,7 +85,7 @@ one_content : (s : Received) (method : List ℕ) (reading : AnswerReading) (plac
 one_content s method (refused fault) place b a e x = let no : refused fault ≡ answer_is a = e in absurd (cc no)
 one_content s method (answer_is h) place b a e x = body_content s.bytes s.ended 0 (body_to method h.body) place b x
 
-all_content : (s : Received) (place : ℕ) (methods : List (List ℕ)) (ns : List AnswerMessage) → AreAnswersFrom is_interim s place methods ns
+pub all_content : (s : Received) (place : ℕ) (methods : List (List ℕ)) (ns : List AnswerMessage) → AreAnswersFrom is_interim s place methods ns
     → AllByRecursion IsOfContent ns
 all_content s place methods [] x = tt
 all_content s place [] (n ∷ ns) x = let no : n ∷ ns ≡ [] = x in absurd (cc no)

@@ -25,6 +25,7 @@ pub mod TurnsForward
 pub mod BodiesForward
 pub mod RepliesForward
 pub mod RefusedForward
+pub mod FoundHanded
 pub mod GivenRequests
 pub mod Places
 pub mod StepByStep

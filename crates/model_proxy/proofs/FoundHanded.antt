@@ -1,0 +1,204 @@
+-- What a server's connection handed out since a request was sent is the answer that its bytes since then hold.
+use Rattle.std.proofs.Common.{◌≡◌, ℕ, ◌+◌, ◌<◌, ◌≤◌, Bool, true, false, cond, List, [], ◌∷◌, ◌++◌, length, map, drop, reverse, flat_map, Option, Some, None, MatchOption, unwrap_or, refl, sym, ap, ◌∙◌, subst, append_assoc}
+use Rattle.std.specs.Prelude.{◌||◌, ◌==◌, if◌then◌else◌, ⊤}
+use Rattle.std.specs.List.{AllByRecursion}
+use Rattle.std.proofs.lemmas.Bool.{false≢true}
+use Rattle.std.proofs.lemmas.Grind.{reverse_onto}
+use Rattle.std.proofs.lemmas.List.{reverse-append}
+use Rattle.model_h1.specs.Runs.{Run}
+use Rattle.model_h1.specs.Setting.{Setting}
+use Rattle.model_h1.specs.Request.{too_large}
+use Rattle.model_h1.specs.Parse.{Body, no_content, content, frames, Stop, ended_at, still_open, broken, cut, next_start}
+use Rattle.model_h1.specs.Handed.{Item, item_bytes, AreItemsOf, body_bytes, last_items, Begins}
+use Rattle.model_h1.specs.Laws.Moved.{moved_body}
+use Rattle.model_h1.proofs.RunLemmas.{run_bytes_shifted}
+use Rattle.model_client.specs.AnswerReading.{Answer, AnswerReading, answer_is, refused}
+use Rattle.model_client.specs.AnswerParse.{Received, AnswerMessage, is_interim, left_waiting, AreAnswersFrom, AreAnswersIn}
+use Rattle.model_client.specs.ClientKept.{ClientKept}
+use Rattle.model_client.specs.ClientTrace.{Happened, IsClientTrace, taken}
+use Rattle.model_client.specs.Laws.Moved.{moved_answer}
+use Rattle.model_client.specs.Parsed.{has_ended, received_of, methods_of, IsPrefixFrom}
+use Rattle.model_client.specs.ReadOut.{ReadAnswer, newly_read, read_out}
+use Rattle.model_client.proofs.AllHappened.{all_is_parsed}
+use Rattle.model_client.proofs.AnswerExistence.{answers_exist_from}
+use Rattle.model_client.proofs.AnswerMoved.{answers_are_of_rest}
+use Rattle.model_client.proofs.Chain.{Leads, first_is}
+use Rattle.model_proxy.specs.Answers.{Found, found_bad, found_body, found_by, found_from, IsAnswer}
+use Rattle.model_proxy.proofs.FoundAnswers.{answer_unique}
+use Rattle.model_proxy.proofs.FoundGrows.{HasContent, IsOfContent, all_content}
+
+-- ---- behind all that was handed out earlier
+
+turned_about : (before : List ReadAnswer) (h : ReadAnswer) (tail : List ReadAnswer) → reverse (h ∷ before) ++ tail ≡ reverse before ++ (h ∷ tail)
+turned_about before h tail = ap (λ (l : List ReadAnswer). l ++ tail) (reverse_onto before h []) ∙ append_assoc (reverse before) (h ∷ []) tail
+
+-- The answers from the place to which those lead that were handed out: what was handed out behind them is the beginning of these.
+pub record Behind (r : Received) (size place : ℕ) (left : List (List ℕ)) (outs : List ReadAnswer) (ms : List AnswerMessage) : Type 0 where
+  pub rest : List AnswerMessage
+  pub are : AreAnswersFrom is_interim r place left rest
+  pub begins : (tail : List ReadAnswer) → IsPrefixFrom size r.bytes 0 (reverse outs ++ tail) ms → IsPrefixFrom size r.bytes place tail rest
+
+pub split_at : (r : Received) (size : ℕ) (methods : List (List ℕ)) (outs : List ReadAnswer) (place : ℕ) (left : List (List ℕ)) (ms : List AnswerMessage)
+    → Leads r methods outs place left → AreAnswersIn is_interim r methods ms → Behind r size place left outs ms
+split_at r size methods [] place left ms (zero_is, left_is) are = record {
+  rest = ms;
+  are = subst (λ (p : ℕ). AreAnswersFrom is_interim r p left ms) (sym zero_is) (subst (λ (l : List (List ℕ)). AreAnswersFrom is_interim r 0 l ms) (sym left_is) are);
+  begins = λ tail x. subst (λ (p : ℕ). IsPrefixFrom size r.bytes p tail ms) (sym zero_is) x;
+}
+split_at r size methods (h ∷ before) place left ms (start, method, others, leads, x) are =
+    let earlier = split_at r size methods before start (method ∷ others) ms leads are in
+    let first = first_is r start method others x.message earlier.rest x.at earlier.are in
+    record {
+      rest = first.rest;
+      are = subst (λ (l : List (List ℕ)). AreAnswersFrom is_interim r place l first.rest) (sym x.left_is)
+          (subst (λ (o : Option ℕ). MatchOption o (first.rest ≡ []) (λ next. AreAnswersFrom is_interim r next (left_waiting is_interim x.message.reading method others) first.rest))
+          x.next first.follow);
+      begins = λ tail y.
+          let here = subst (IsPrefixFrom size r.bytes start (h ∷ tail)) first.are
+          (earlier.begins (h ∷ tail) (subst (λ (l : List ReadAnswer). IsPrefixFrom size r.bytes 0 l ms) (turned_about before h tail) y)) in
+          subst (λ (o : Option ℕ). IsPrefixFrom size r.bytes (unwrap_or o start) tail first.rest) x.next here.2;
+    }
+
+-- ---- a body counted from the place
+
+pub moved_bytes : (bytes : List ℕ) (place : ℕ) (b : Body) → body_bytes bytes (moved_body place b) ≡ body_bytes (drop place bytes) b
+moved_bytes bytes place no_content = refl
+moved_bytes bytes place (content runs stop) = run_bytes_shifted bytes place runs
+moved_bytes bytes place (frames placed fail) = refl
+
+moved_last : (place : ℕ) (runs : List Run) (stop : Stop) → last_items (moved_body place (content runs stop)) ≡ last_items (content runs stop)
+moved_last place runs (ended_at end trailers) = refl
+moved_last place runs still_open = refl
+moved_last place runs broken = refl
+moved_last place runs cut = refl
+
+-- ---- interim answers are passed over
+
+abbrev is_out : Answer → Bool
+is_out a = a.is_lax || (a.status == 101)
+
+pub record IsPassedOver (h : ReadAnswer) : Type 0 where
+  pub answer : Answer
+  pub reading : h.reading ≡ answer_is answer
+  pub good : is_out answer ≡ false
+  pub interim : is_interim answer.status ≡ true
+
+not_full : (a : Answer) (h : ReadAnswer) → h.reading ≡ answer_is a → h ≡ newly_read (refused too_large) → ⊥
+not_full a h reading is =
+    let no : answer_is a ≡ refused too_large = sym reading ∙ ap (λ (x : ReadAnswer). x.reading) is in cc no
+
+chosen_later : (t u : Bool) (later here : Found) → t ≡ false → u ≡ true → (if t then found_bad else (if u then later else here)) ≡ later
+chosen_later true u later here a b = absurd (false≢true (sym a))
+chosen_later false false later here a b = absurd (false≢true b)
+chosen_later false true later here a b = refl
+
+chosen_here : (t u : Bool) (later here : Found) → t ≡ false → u ≡ false → (if t then found_bad else (if u then later else here)) ≡ here
+chosen_here true u later here a b = absurd (false≢true (sym a))
+chosen_here false true later here a b = absurd (false≢true (sym b))
+chosen_here false false later here a b = refl
+
+-- the answers behind those that were passed over
+record Left (s : Received) (size : ℕ) (bytes : List ℕ) (place : ℕ) (tail : List ReadAnswer) (found : Found) : Type 0 where
+  at : ℕ
+  start : ℕ
+  rest : List AnswerMessage
+  content : AllByRecursion IsOfContent rest
+  begins : IsPrefixFrom size bytes start tail (map (moved_answer place) rest)
+  is : found ≡ found_from s at rest
+
+passes : (s : Received) (size : ℕ) (bytes : List ℕ) (place start at : ℕ) (news tail : List ReadAnswer) (h : ReadAnswer) (rest : List AnswerMessage)
+    → AllByRecursion IsPassedOver news → AllByRecursion IsOfContent rest → IsPrefixFrom size bytes start (news ++ h ∷ tail) (map (moved_answer place) rest)
+    → Left s size bytes place (h ∷ tail) (found_from s at rest)
+passes s size bytes place start at [] tail h rest all contents x = record { at = at; start = start; rest = rest; content = contents; begins = x; is = refl }
+passes s size bytes place start at (n ∷ []) tail h [] all contents x = absurd x
+passes s size bytes place start at (n ∷ m ∷ news) tail h [] all contents x = absurd x
+passes s size bytes place start at (n ∷ news) tail h (m ∷ rest) all contents x =
+    let next = unwrap_or (next_start m.body) at in
+    let further = passes s size bytes place (unwrap_or (next_start (moved_body place m.body)) start) next news tail h rest all.1 contents.1 x.2 in
+    let reading : m.reading ≡ answer_is all.0.answer = sym x.0.reading ∙ all.0.reading in
+    record {
+      at = further.at;
+      start = further.start;
+      rest = further.rest;
+      content = further.content;
+      begins = further.begins;
+      is =
+          ap (λ (reading : AnswerReading). found_by s reading m.body (found_from s next rest)) reading
+          ∙ chosen_later (is_out all.0.answer) (is_interim all.0.answer.status) (found_from s next rest) (found_body s all.0.answer m.body) all.0.good all.0.interim
+          ∙ further.is;
+    }
+
+-- ---- the answer that was handed out last
+
+-- its head and items of its body are those of the answer that is found
+pub record IsFoundSo (s : Received) (h : ReadAnswer) (a : Answer) (found : Found) : Type 0 where
+  pub body : Body
+  pub has : HasContent body
+  pub is : found ≡ found_body s a body
+  pub pieces : List (List ℕ)
+  pub last : List Item
+  pub are : h.items ≡ map item_bytes pieces ++ last
+  pub begins : Begins (flat_map (λ piece. piece) pieces) (body_bytes s.bytes body)
+  pub behind : 0 < length last → flat_map (λ piece. piece) pieces ≡ body_bytes s.bytes body
+  pub follow : Begins last (last_items body)
+
+first_found : (s : Received) (size : ℕ) (bytes : List ℕ) (place start at : ℕ) (h : ReadAnswer) (a : Answer) (rest : List AnswerMessage) → s.bytes ≡ drop place bytes
+    → h.reading ≡ answer_is a → is_out a ≡ false → is_interim a.status ≡ false → AllByRecursion IsOfContent rest
+    → IsPrefixFrom size bytes start (h ∷ []) (map (moved_answer place) rest) → IsFoundSo s h a (found_from s at rest)
+first_found s size bytes place start at h a [] same reading good final contents x = absurd (not_full a h reading x.0)
+first_found s size bytes place start at h a (m ∷ rest) same reading good final contents x =
+    let is_read : m.reading ≡ answer_is a = sym x.0.reading ∙ reading in
+    let has = contents.0 a is_read in
+    let items = x.0.items in
+    let text : body_bytes bytes (moved_body place m.body) ≡ body_bytes s.bytes m.body =
+    moved_bytes bytes place m.body ∙ ap (λ (b : List ℕ). body_bytes b m.body) (sym same) in
+    let behind_it : last_items (moved_body place m.body) ≡ last_items m.body =
+    ap (λ (b : Body). last_items (moved_body place b)) has.are ∙ moved_last place has.runs has.stop ∙ ap last_items (sym has.are) in
+    record {
+      body = m.body;
+      has = has;
+      is =
+          ap (λ (reading : AnswerReading). found_by s reading m.body (found_from s (unwrap_or (next_start m.body) at) rest)) is_read
+          ∙ chosen_here (is_out a) (is_interim a.status) (found_from s (unwrap_or (next_start m.body) at) rest) (found_body s a m.body) good final;
+      pieces = items.pieces;
+      last = items.last;
+      are = items.are;
+      begins = subst (Begins (flat_map (λ piece. piece) items.pieces)) text items.begins;
+      behind = λ some. items.behind some ∙ text;
+      follow = subst (Begins items.last) behind_it items.follow;
+    }
+
+all_turned : (P : ReadAnswer → Type 0) (xs : List ReadAnswer) → AllByRecursion P xs → AllByRecursion P (reverse xs)
+all_turned P [] all = tt
+all_turned P (x ∷ xs) all = subst (AllByRecursion P) (sym (reverse-append (x ∷ []) xs)) (one_more (reverse xs) (all_turned P xs all.1))
+  where
+    one_more : (ys : List ReadAnswer) → AllByRecursion P ys → AllByRecursion P (ys ++ x ∷ [])
+    one_more [] y = (all.0, tt)
+    one_more (z ∷ ys) y = (y.0, one_more ys y.1)
+
+in_turn : (h : ReadAnswer) (news outs : List ReadAnswer) → reverse ((h ∷ news) ++ outs) ≡ reverse outs ++ (reverse news ++ h ∷ [])
+in_turn h news outs =
+    reverse-append (h ∷ news) outs ∙ ap (λ (l : List ReadAnswer). reverse outs ++ l) (reverse-append (h ∷ []) news)
+
+-- What was handed out behind what came earlier: answers that are passed over, and then this one. It is what is found in the bytes from there.
+pub handed_is_found : (setting : Setting) (trace : List Happened) (k : ClientKept) (outs news : List ReadAnswer) (h : ReadAnswer) (place : ℕ) (method : List ℕ) (a : Answer)
+    (found : Found) → IsClientTrace setting trace k → Leads (received_of setting trace) (methods_of trace) outs place (method ∷ []) → place ≤ length (taken trace)
+    → (read_out trace).answers ≡ (h ∷ news) ++ outs → AllByRecursion IsPassedOver news → h.reading ≡ answer_is a → is_out a ≡ false
+    → is_interim a.status ≡ false
+    → IsAnswer (record { bytes = drop place (taken trace); ended = has_ended trace; hold_size = Some setting.hold_size }) method found
+    → IsFoundSo (record { bytes = drop place (taken trace); ended = has_ended trace; hold_size = Some setting.hold_size }) h a found
+handed_is_found setting trace k outs news h place method a found ran leads within answers passed reading good final x =
+    let r = received_of setting trace in
+    let s : Received = record { bytes = drop place (taken trace); ended = has_ended trace; hold_size = Some setting.hold_size } in
+    let parse = answers_exist_from is_interim r 0 (methods_of trace) in
+    let split = split_at r setting.hold_size (methods_of trace) outs place (method ∷ []) parse.0 leads parse.1 in
+    let local = answers_are_of_rest is_interim r place (method ∷ []) split.rest within split.are in
+    let handed = (all_is_parsed setting trace k parse.0 ran parse.1).1 in
+    let turned : reverse (read_out trace).answers ≡ reverse outs ++ (reverse news ++ h ∷ []) = ap reverse answers ∙ in_turn h news outs in
+    let here = split.begins (reverse news ++ h ∷ []) (subst (λ (l : List ReadAnswer). IsPrefixFrom setting.hold_size (taken trace) 0 l parse.0) turned handed) in
+    let there = subst (IsPrefixFrom setting.hold_size (taken trace) place (reverse news ++ h ∷ [])) local.2 here in
+    let left = passes s setting.hold_size (taken trace) place place 0 (reverse news) [] h local.0 (all_turned IsPassedOver news passed)
+    (all_content s 0 (method ∷ []) local.0 local.1) there in
+    let same : found ≡ found_from s 0 local.0 = answer_unique s method found (found_from s 0 local.0) x (local.0, local.1, refl) in
+    let it = first_found s setting.hold_size (taken trace) place left.start left.at h a left.rest refl reading good final left.content left.begins in
+    subst (IsFoundSo s h a) (sym (same ∙ left.is)) it
