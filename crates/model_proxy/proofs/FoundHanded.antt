@@ -14,15 +14,18 @@ use Rattle.model_h1.specs.Laws.Moved.{moved_body}
 use Rattle.model_h1.proofs.RunLemmas.{run_bytes_shifted}
 use Rattle.model_client.specs.AnswerReading.{Answer, AnswerReading, answer_is, refused}
 use Rattle.model_client.specs.AnswerParse.{Received, AnswerMessage, is_interim, left_waiting, AreAnswersFrom, AreAnswersIn}
-use Rattle.model_client.specs.ClientKept.{ClientKept}
+use Rattle.model_client.specs.ClientKept.{ClientKept, Waiting, is_free}
 use Rattle.model_client.specs.ClientTrace.{Happened, IsClientTrace, taken}
 use Rattle.model_client.specs.Laws.Moved.{moved_answer}
 use Rattle.model_client.specs.Parsed.{has_ended, received_of, methods_of, IsPrefixFrom}
 use Rattle.model_client.specs.ReadOut.{ReadAnswer, newly_read, read_out}
-use Rattle.model_client.proofs.AllHappened.{all_is_parsed}
+use Rattle.model_client.proofs.AllHappened.{all_for, all_is_parsed}
 use Rattle.model_client.proofs.AnswerExistence.{answers_exist_from}
 use Rattle.model_client.proofs.AnswerMoved.{answers_are_of_rest}
 use Rattle.model_client.proofs.Chain.{Leads, first_is}
+use Rattle.model_client.proofs.Holds.{waiting_methods, IsBetween}
+use Rattle.model_client.proofs.NextAnswers.{between_of}
+use Rattle.model_client.proofs.Told.{IsMore}
 use Rattle.model_proxy.specs.Answers.{Found, found_bad, found_body, found_by, found_from, IsAnswer}
 use Rattle.model_proxy.proofs.FoundAnswers.{answer_unique}
 use Rattle.model_proxy.proofs.FoundGrows.{HasContent, IsOfContent, all_content}
@@ -102,14 +105,14 @@ record Left (s : Received) (size : ℕ) (bytes : List ℕ) (place : ℕ) (tail :
   at : ℕ
   start : ℕ
   rest : List AnswerMessage
-  content : AllByRecursion IsOfContent rest
+  contents : AllByRecursion IsOfContent rest
   begins : IsPrefixFrom size bytes start tail (map (moved_answer place) rest)
   is : found ≡ found_from s at rest
 
 passes : (s : Received) (size : ℕ) (bytes : List ℕ) (place start at : ℕ) (news tail : List ReadAnswer) (h : ReadAnswer) (rest : List AnswerMessage)
     → AllByRecursion IsPassedOver news → AllByRecursion IsOfContent rest → IsPrefixFrom size bytes start (news ++ h ∷ tail) (map (moved_answer place) rest)
     → Left s size bytes place (h ∷ tail) (found_from s at rest)
-passes s size bytes place start at [] tail h rest all contents x = record { at = at; start = start; rest = rest; content = contents; begins = x; is = refl }
+passes s size bytes place start at [] tail h rest all contents x = record { at = at; start = start; rest = rest; contents = contents; begins = x; is = refl }
 passes s size bytes place start at (n ∷ []) tail h [] all contents x = absurd x
 passes s size bytes place start at (n ∷ m ∷ news) tail h [] all contents x = absurd x
 passes s size bytes place start at (n ∷ news) tail h (m ∷ rest) all contents x =
@@ -120,7 +123,7 @@ passes s size bytes place start at (n ∷ news) tail h (m ∷ rest) all contents
       at = further.at;
       start = further.start;
       rest = further.rest;
-      content = further.content;
+      contents = further.contents;
       begins = further.begins;
       is =
           ap (λ (reading : AnswerReading). found_by s reading m.body (found_from s next rest)) reading
@@ -200,5 +203,18 @@ handed_is_found setting trace k outs news h place method a found ran leads withi
     let left = passes s setting.hold_size (taken trace) place place 0 (reverse news) [] h local.0 (all_turned IsPassedOver news passed)
     (all_content s 0 (method ∷ []) local.0 local.1) there in
     let same : found ≡ found_from s 0 local.0 = answer_unique s method found (found_from s 0 local.0) x (local.0, local.1, refl) in
-    let it = first_found s setting.hold_size (taken trace) place left.start left.at h a left.rest refl reading good final left.content left.begins in
+    let it = first_found s setting.hold_size (taken trace) place left.start left.at h a left.rest refl reading good final left.contents left.begins in
     subst (IsFoundSo s h a) (sym (same ∙ left.is)) it
+
+-- ---- where a request was asked while nothing of an earlier answer was left
+
+-- What was handed out by then leads to the place where the bytes begin that came later, and the request alone waits there.
+pub asked_leads : (setting : Setting) (before : List Happened) (k : ClientKept) (bytes more : List ℕ) (e : Bool) (methods : List (List ℕ)) (method : List ℕ)
+    → IsClientTrace setting before k → k.failed ≡ None → is_free k ≡ true → k.unread ≡ [] → k.waiting ≡ [] → k.has_ended ≡ false
+    → bytes ≡ taken before ++ more → methods ≡ methods_of before ++ method ∷ []
+    → IsBetween bytes e setting.hold_size methods (read_out before).answers more (method ∷ [])
+asked_leads setting before k bytes more e methods method ran fine free unread waiting going bytes_are methods_are =
+    let now = all_for setting bytes e methods before k more (method ∷ []) ran bytes_are methods_are (subst (λ (t : Bool). IsMore t more e) (sym going) tt) in
+    let between = between_of bytes e setting.hold_size methods (read_out before) k more (method ∷ []) fine free now.1 in
+    subst (λ (ws : List Waiting). IsBetween bytes e setting.hold_size methods (read_out before).answers more (waiting_methods ws ++ method ∷ [])) waiting
+    (subst (λ (text : List ℕ). IsBetween bytes e setting.hold_size methods (read_out before).answers (text ++ more) (waiting_methods k.waiting ++ method ∷ [])) unread between)
