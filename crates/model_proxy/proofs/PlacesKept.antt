@@ -15,7 +15,7 @@ use Rattle.model_proxy.proofs.SentPlaces.{IsPlaced, IsSame, AreSame, no_link, li
 
 -- ---- moments
 
-first_before : (n : ℕ) (s : ProxyStep) (history : List ProxyStep) → n ≤ length history → first_of n (s ∷ history) ≡ first_of n history
+pub first_before : (n : ℕ) (s : ProxyStep) (history : List ProxyStep) → n ≤ length history → first_of n (s ∷ history) ≡ first_of n history
 first_before n s history low =
     let more : length (s ∷ history) - n ≡ suc (length history - n) = omega (arith, low) in
     ap (λ (m : ℕ). drop m (s ∷ history)) more
