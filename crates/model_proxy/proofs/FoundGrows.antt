@@ -68,7 +68,7 @@ by_choice : (t : Bool) (runs more : List Run) (stop other : Stop) → HasContent
 by_choice true runs more stop other = record { runs = runs; stop = stop; are = refl }
 by_choice false runs more stop other = record { runs = more; stop = other; are = refl }
 
-body_content : (bytes : List ℕ) (ended : Bool) (hold : ℕ) (kind : BodyKind) (place : ℕ) (b : Body)
+pub body_content : (bytes : List ℕ) (ended : Bool) (hold : ℕ) (kind : BodyKind) (place : ℕ) (b : Body)
     → IsBodyOf (record { bytes = bytes; upgraded = None; ended = ended; hold_size = hold }) kind place b → HasContent b
 body_content bytes ended hold no_body place b x = record { runs = []; stop = ended_at place []; are = x }
 body_content bytes ended hold (fixed_body n) place b x =

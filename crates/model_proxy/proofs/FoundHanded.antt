@@ -1,5 +1,5 @@
 -- What a server's connection handed out since a request was sent is the answer that its bytes since then hold.
-use Rattle.std.proofs.Common.{◌≡◌, ℕ, ◌+◌, ◌<◌, ◌≤◌, Bool, true, false, cond, List, [], ◌∷◌, ◌++◌, length, map, drop, reverse, flat_map, Option, Some, None, MatchOption, unwrap_or, refl, sym, ap, ◌∙◌, subst, append_assoc}
+use Rattle.std.proofs.Common.{◌≡◌, ℕ, ◌+◌, ◌<◌, ◌≤◌, Bool, true, false, cond, List, [], ◌∷◌, ◌++◌, length, map, drop, reverse, flat_map, Option, Some, None, MatchOption, unwrap_or, refl, sym, ap, ◌∙◌, subst, append_assoc, arith, length-drop}
 use Rattle.std.specs.Prelude.{◌||◌, ◌==◌, if◌then◌else◌, ⊤}
 use Rattle.std.specs.List.{AllByRecursion}
 use Rattle.std.proofs.lemmas.Bool.{false≢true}
@@ -8,12 +8,14 @@ use Rattle.std.proofs.lemmas.List.{reverse-append}
 use Rattle.model_h1.specs.Runs.{Run}
 use Rattle.model_h1.specs.Setting.{Setting}
 use Rattle.model_h1.specs.Request.{too_large}
-use Rattle.model_h1.specs.Parse.{Body, no_content, content, frames, Stop, ended_at, still_open, broken, cut, next_start}
+use Rattle.model_h1.specs.Parse.{Body, no_content, content, frames, Stop, ended_at, still_open, broken, cut, next_start, IsBodyOf}
 use Rattle.model_h1.specs.Handed.{Item, item_bytes, AreItemsOf, body_bytes, last_items, Begins}
 use Rattle.model_h1.specs.Laws.Moved.{moved_body}
 use Rattle.model_h1.proofs.RunLemmas.{run_bytes_shifted}
+use Rattle.model_h1.proofs.MessageGrowth.{piece_long}
+use Rattle.model_client.specs.AnswerTable.{body_to}
 use Rattle.model_client.specs.AnswerReading.{Answer, AnswerReading, answer_is, refused}
-use Rattle.model_client.specs.AnswerParse.{Received, AnswerMessage, is_interim, left_waiting, AreAnswersFrom, AreAnswersIn}
+use Rattle.model_client.specs.AnswerParse.{Received, AnswerMessage, body_input, IsAnswerBody, IsAnswerAt, is_interim, left_waiting, AreAnswersFrom, AreAnswersIn}
 use Rattle.model_client.specs.ClientKept.{ClientKept, Waiting, is_free}
 use Rattle.model_client.specs.ClientTrace.{Happened, IsClientTrace, taken}
 use Rattle.model_client.specs.Laws.Moved.{moved_answer}
@@ -28,7 +30,7 @@ use Rattle.model_client.proofs.NextAnswers.{between_of}
 use Rattle.model_client.proofs.Told.{IsMore}
 use Rattle.model_proxy.specs.Answers.{Found, found_bad, found_body, found_by, found_from, IsAnswer}
 use Rattle.model_proxy.proofs.FoundAnswers.{answer_unique}
-use Rattle.model_proxy.proofs.FoundGrows.{HasContent, IsOfContent, all_content}
+use Rattle.model_proxy.proofs.FoundGrows.{HasContent, body_content}
 
 -- ---- behind all that was handed out earlier
 
@@ -75,6 +77,53 @@ moved_last place runs still_open = refl
 moved_last place runs broken = refl
 moved_last place runs cut = refl
 
+-- ---- what each answer to this request has behind its head
+
+pub record IsOf (r : Received) (method : List ℕ) (a : Answer) (n : AnswerMessage) : Type 0 where
+  pub has : HasContent n.body
+  pub within : n.body_start ≤ length r.bytes
+  pub is : IsBodyOf (body_input r) (body_to method a.body) n.body_start n.body
+
+abbrev pub IsToIt : Received → List ℕ → AnswerMessage → Type 0
+IsToIt r method n = (a : Answer) → n.reading ≡ answer_is a → IsOf r method a n
+
+behind_head : (r : Received) (method : List ℕ) (reading : AnswerReading) (place : ℕ) (b : Body) (a : Answer) → reading ≡ answer_is a
+    → IsAnswerBody r method reading place b → IsBodyOf (body_input r) (body_to method a.body) place b
+behind_head r method (refused fault) place b a e x = let no : refused fault ≡ answer_is a = e in absurd (cc no)
+behind_head r method (answer_is h) place b a e x =
+    let same : h ≡ a = cc in
+    subst (λ (a : Answer). IsBodyOf (body_input r) (body_to method a.body) place b) same x
+
+one_of : (r : Received) (place : ℕ) (method : List ℕ) (n : AnswerMessage) → IsAnswerAt r place method n → IsToIt r method n
+one_of r place method n x = λ a e.
+    let long = piece_long r.bytes place x.start x.end x.piece in
+    let start = x.body_start in
+    let fits = x.piece.in_range in
+    let left = length-drop place r.bytes in
+    let is = behind_head r method n.reading n.body_start n.body a e x.body in
+    record {
+      has = body_content r.bytes r.ended 0 (body_to method a.body) n.body_start n.body is;
+      within = omega (arith, long, start, fits, left);
+      is = is;
+    }
+
+pub all_of : (r : Received) (place : ℕ) (method : List ℕ) (ns : List AnswerMessage) → AreAnswersFrom is_interim r place (method ∷ []) ns
+    → AllByRecursion (IsToIt r method) ns
+all_of r place method [] x = tt
+all_of r place method (n ∷ ns) x =
+    (one_of r place method n x.0, by_next (λ next. all_of r next method ns) (next_start n.body) n.reading x.1)
+  where
+    by_left : ((next : ℕ) → AreAnswersFrom is_interim r next (method ∷ []) ns → AllByRecursion (IsToIt r method) ns) → (next : ℕ) (t : Bool)
+        → AreAnswersFrom is_interim r next (cond t (method ∷ []) []) ns → AllByRecursion (IsToIt r method) ns
+    by_left further next true y = further next y
+    by_left further next false none = subst (AllByRecursion (IsToIt r method)) (sym none) tt
+
+    by_next : ((next : ℕ) → AreAnswersFrom is_interim r next (method ∷ []) ns → AllByRecursion (IsToIt r method) ns) → (o : Option ℕ) (reading : AnswerReading)
+        → MatchOption o (ns ≡ []) (λ next. AreAnswersFrom is_interim r next (left_waiting is_interim reading method []) ns) → AllByRecursion (IsToIt r method) ns
+    by_next further None reading none = subst (AllByRecursion (IsToIt r method)) (sym none) tt
+    by_next further (Some next) (refused fault) none = subst (AllByRecursion (IsToIt r method)) (sym none) tt
+    by_next further (Some next) (answer_is h) y = by_left further next (is_interim h.status) y
+
 -- ---- interim answers are passed over
 
 abbrev is_out : Answer → Bool
@@ -101,23 +150,23 @@ chosen_here false true later here a b = absurd (false≢true (sym b))
 chosen_here false false later here a b = refl
 
 -- the answers behind those that were passed over
-record Left (s : Received) (size : ℕ) (bytes : List ℕ) (place : ℕ) (tail : List ReadAnswer) (found : Found) : Type 0 where
+record Left (s : Received) (method : List ℕ) (size : ℕ) (bytes : List ℕ) (place : ℕ) (tail : List ReadAnswer) (found : Found) : Type 0 where
   at : ℕ
   start : ℕ
   rest : List AnswerMessage
-  contents : AllByRecursion IsOfContent rest
+  contents : AllByRecursion (IsToIt s method) rest
   begins : IsPrefixFrom size bytes start tail (map (moved_answer place) rest)
   is : found ≡ found_from s at rest
 
-passes : (s : Received) (size : ℕ) (bytes : List ℕ) (place start at : ℕ) (news tail : List ReadAnswer) (h : ReadAnswer) (rest : List AnswerMessage)
-    → AllByRecursion IsPassedOver news → AllByRecursion IsOfContent rest → IsPrefixFrom size bytes start (news ++ h ∷ tail) (map (moved_answer place) rest)
-    → Left s size bytes place (h ∷ tail) (found_from s at rest)
-passes s size bytes place start at [] tail h rest all contents x = record { at = at; start = start; rest = rest; contents = contents; begins = x; is = refl }
-passes s size bytes place start at (n ∷ []) tail h [] all contents x = absurd x
-passes s size bytes place start at (n ∷ m ∷ news) tail h [] all contents x = absurd x
-passes s size bytes place start at (n ∷ news) tail h (m ∷ rest) all contents x =
+passes : (s : Received) (method : List ℕ) (size : ℕ) (bytes : List ℕ) (place start at : ℕ) (news tail : List ReadAnswer) (h : ReadAnswer) (rest : List AnswerMessage)
+    → AllByRecursion IsPassedOver news → AllByRecursion (IsToIt s method) rest → IsPrefixFrom size bytes start (news ++ h ∷ tail) (map (moved_answer place) rest)
+    → Left s method size bytes place (h ∷ tail) (found_from s at rest)
+passes s method size bytes place start at [] tail h rest all contents x = record { at = at; start = start; rest = rest; contents = contents; begins = x; is = refl }
+passes s method size bytes place start at (n ∷ []) tail h [] all contents x = absurd x
+passes s method size bytes place start at (n ∷ m ∷ news) tail h [] all contents x = absurd x
+passes s method size bytes place start at (n ∷ news) tail h (m ∷ rest) all contents x =
     let next = unwrap_or (next_start m.body) at in
-    let further = passes s size bytes place (unwrap_or (next_start (moved_body place m.body)) start) next news tail h rest all.1 contents.1 x.2 in
+    let further = passes s method size bytes place (unwrap_or (next_start (moved_body place m.body)) start) next news tail h rest all.1 contents.1 x.2 in
     let reading : m.reading ≡ answer_is all.0.answer = sym x.0.reading ∙ all.0.reading in
     record {
       at = further.at;
@@ -134,32 +183,33 @@ passes s size bytes place start at (n ∷ news) tail h (m ∷ rest) all contents
 -- ---- the answer that was handed out last
 
 -- its head and items of its body are those of the answer that is found
-pub record IsFoundSo (s : Received) (h : ReadAnswer) (a : Answer) (found : Found) : Type 0 where
-  pub body : Body
-  pub has : HasContent body
-  pub is : found ≡ found_body s a body
+pub record IsFoundSo (s : Received) (method : List ℕ) (h : ReadAnswer) (a : Answer) (found : Found) : Type 0 where
+  pub message : AnswerMessage
+  pub of : IsOf s method a message
+  pub is : found ≡ found_body s a message.body
   pub pieces : List (List ℕ)
   pub last : List Item
   pub are : h.items ≡ map item_bytes pieces ++ last
-  pub begins : Begins (flat_map (λ piece. piece) pieces) (body_bytes s.bytes body)
-  pub behind : 0 < length last → flat_map (λ piece. piece) pieces ≡ body_bytes s.bytes body
-  pub follow : Begins last (last_items body)
+  pub begins : Begins (flat_map (λ piece. piece) pieces) (body_bytes s.bytes message.body)
+  pub behind : 0 < length last → flat_map (λ piece. piece) pieces ≡ body_bytes s.bytes message.body
+  pub follow : Begins last (last_items message.body)
 
-first_found : (s : Received) (size : ℕ) (bytes : List ℕ) (place start at : ℕ) (h : ReadAnswer) (a : Answer) (rest : List AnswerMessage) → s.bytes ≡ drop place bytes
-    → h.reading ≡ answer_is a → is_out a ≡ false → is_interim a.status ≡ false → AllByRecursion IsOfContent rest
-    → IsPrefixFrom size bytes start (h ∷ []) (map (moved_answer place) rest) → IsFoundSo s h a (found_from s at rest)
-first_found s size bytes place start at h a [] same reading good final contents x = absurd (not_full a h reading x.0)
-first_found s size bytes place start at h a (m ∷ rest) same reading good final contents x =
+first_found : (s : Received) (method : List ℕ) (size : ℕ) (bytes : List ℕ) (place start at : ℕ) (h : ReadAnswer) (a : Answer) (rest : List AnswerMessage) → s.bytes ≡ drop place bytes
+    → h.reading ≡ answer_is a → is_out a ≡ false → is_interim a.status ≡ false → AllByRecursion (IsToIt s method) rest
+    → IsPrefixFrom size bytes start (h ∷ []) (map (moved_answer place) rest) → IsFoundSo s method h a (found_from s at rest)
+first_found s method size bytes place start at h a [] same reading good final contents x = absurd (not_full a h reading x.0)
+first_found s method size bytes place start at h a (m ∷ rest) same reading good final contents x =
     let is_read : m.reading ≡ answer_is a = sym x.0.reading ∙ reading in
-    let has = contents.0 a is_read in
+    let of = contents.0 a is_read in
+    let has = of.has in
     let items = x.0.items in
     let text : body_bytes bytes (moved_body place m.body) ≡ body_bytes s.bytes m.body =
     moved_bytes bytes place m.body ∙ ap (λ (b : List ℕ). body_bytes b m.body) (sym same) in
     let behind_it : last_items (moved_body place m.body) ≡ last_items m.body =
     ap (λ (b : Body). last_items (moved_body place b)) has.are ∙ moved_last place has.runs has.stop ∙ ap last_items (sym has.are) in
     record {
-      body = m.body;
-      has = has;
+      message = m;
+      of = of;
       is =
           ap (λ (reading : AnswerReading). found_by s reading m.body (found_from s (unwrap_or (next_start m.body) at) rest)) is_read
           ∙ chosen_here (is_out a) (is_interim a.status) (found_from s (unwrap_or (next_start m.body) at) rest) (found_body s a m.body) good final;
@@ -189,7 +239,7 @@ pub handed_is_found : (setting : Setting) (trace : List Happened) (k : ClientKep
     → (read_out trace).answers ≡ (h ∷ news) ++ outs → AllByRecursion IsPassedOver news → h.reading ≡ answer_is a → is_out a ≡ false
     → is_interim a.status ≡ false
     → IsAnswer (record { bytes = drop place (taken trace); ended = has_ended trace; hold_size = Some setting.hold_size }) method found
-    → IsFoundSo (record { bytes = drop place (taken trace); ended = has_ended trace; hold_size = Some setting.hold_size }) h a found
+    → IsFoundSo (record { bytes = drop place (taken trace); ended = has_ended trace; hold_size = Some setting.hold_size }) method h a found
 handed_is_found setting trace k outs news h place method a found ran leads within answers passed reading good final x =
     let r = received_of setting trace in
     let s : Received = record { bytes = drop place (taken trace); ended = has_ended trace; hold_size = Some setting.hold_size } in
@@ -200,11 +250,11 @@ handed_is_found setting trace k outs news h place method a found ran leads withi
     let turned : reverse (read_out trace).answers ≡ reverse outs ++ (reverse news ++ h ∷ []) = ap reverse answers ∙ in_turn h news outs in
     let here = split.begins (reverse news ++ h ∷ []) (subst (λ (l : List ReadAnswer). IsPrefixFrom setting.hold_size (taken trace) 0 l parse.0) turned handed) in
     let there = subst (IsPrefixFrom setting.hold_size (taken trace) place (reverse news ++ h ∷ [])) local.2 here in
-    let left = passes s setting.hold_size (taken trace) place place 0 (reverse news) [] h local.0 (all_turned IsPassedOver news passed)
-    (all_content s 0 (method ∷ []) local.0 local.1) there in
+    let left = passes s method setting.hold_size (taken trace) place place 0 (reverse news) [] h local.0 (all_turned IsPassedOver news passed)
+    (all_of s 0 method local.0 local.1) there in
     let same : found ≡ found_from s 0 local.0 = answer_unique s method found (found_from s 0 local.0) x (local.0, local.1, refl) in
-    let it = first_found s setting.hold_size (taken trace) place left.start left.at h a left.rest refl reading good final left.contents left.begins in
-    subst (IsFoundSo s h a) (sym (same ∙ left.is)) it
+    let it = first_found s method setting.hold_size (taken trace) place left.start left.at h a left.rest refl reading good final left.contents left.begins in
+    subst (IsFoundSo s method h a) (sym (same ∙ left.is)) it
 
 -- ---- where a request was asked while nothing of an earlier answer was left
 

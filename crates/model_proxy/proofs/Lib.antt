@@ -26,6 +26,7 @@ pub mod BodiesForward
 pub mod RepliesForward
 pub mod RefusedForward
 pub mod FoundHanded
+pub mod FirstPassed
 pub mod GivenRequests
 pub mod Places
 pub mod StepByStep
