@@ -27,6 +27,7 @@ pub mod RepliesForward
 pub mod RefusedForward
 pub mod FoundHanded
 pub mod FirstPassed
+pub mod FreshLinks
 pub mod GivenRequests
 pub mod Places
 pub mod StepByStep
