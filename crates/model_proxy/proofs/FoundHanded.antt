@@ -126,7 +126,7 @@ all_of r place method (n ∷ ns) x =
 
 -- ---- interim answers are passed over
 
-abbrev is_out : Answer → Bool
+abbrev pub is_out : Answer → Bool
 is_out a = a.is_lax || (a.status == 101)
 
 pub record IsPassedOver (h : ReadAnswer) : Type 0 where
@@ -139,12 +139,12 @@ not_full : (a : Answer) (h : ReadAnswer) → h.reading ≡ answer_is a → h ≡
 not_full a h reading is =
     let no : answer_is a ≡ refused too_large = sym reading ∙ ap (λ (x : ReadAnswer). x.reading) is in cc no
 
-chosen_later : (t u : Bool) (later here : Found) → t ≡ false → u ≡ true → (if t then found_bad else (if u then later else here)) ≡ later
+pub chosen_later : (t u : Bool) (later here : Found) → t ≡ false → u ≡ true → (if t then found_bad else (if u then later else here)) ≡ later
 chosen_later true u later here a b = absurd (false≢true (sym a))
 chosen_later false false later here a b = absurd (false≢true b)
 chosen_later false true later here a b = refl
 
-chosen_here : (t u : Bool) (later here : Found) → t ≡ false → u ≡ false → (if t then found_bad else (if u then later else here)) ≡ here
+pub chosen_here : (t u : Bool) (later here : Found) → t ≡ false → u ≡ false → (if t then found_bad else (if u then later else here)) ≡ here
 chosen_here true u later here a b = absurd (false≢true (sym a))
 chosen_here false true later here a b = absurd (false≢true (sym b))
 chosen_here false false later here a b = refl

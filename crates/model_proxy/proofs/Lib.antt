@@ -28,6 +28,7 @@ pub mod RefusedForward
 pub mod FoundHanded
 pub mod FirstPassed
 pub mod FreshLinks
+pub mod EndedAnswers
 pub mod GivenRequests
 pub mod Places
 pub mod StepByStep
