@@ -221,3 +221,12 @@ ended_is_found r size methods outs news h from to method left a found within x (
       whole = ap (λ (f : Found). f.fate) is ∙ there.1;
       ends = end.2;
     }
+
+-- where nothing is left to read, all bytes since then are the answer's
+pub whole_all : (bytes : List ℕ) (a : Answer) (found : Found) (from : ℕ) → IsFoundWhole a found from (length bytes)
+    → found.fate ≡ whole_at (length (drop from bytes))
+whole_all bytes a found from x =
+    let ends = x.ends in
+    let left = length-drop from bytes in
+    let same : x.end ≡ length (drop from bytes) = omega (arith, ends, left) in
+    x.whole ∙ ap whole_at same
