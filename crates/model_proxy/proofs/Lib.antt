@@ -29,6 +29,7 @@ pub mod FoundHanded
 pub mod FirstPassed
 pub mod FreshLinks
 pub mod EndedAnswers
+pub mod PiecesPut
 pub mod GivenRequests
 pub mod Places
 pub mod StepByStep
