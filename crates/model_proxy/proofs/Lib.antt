@@ -30,6 +30,7 @@ pub mod FirstPassed
 pub mod FreshLinks
 pub mod EndedAnswers
 pub mod PiecesPut
+pub mod PartsForward
 pub mod GivenRequests
 pub mod Places
 pub mod StepByStep
