@@ -31,6 +31,7 @@ pub mod FreshLinks
 pub mod EndedAnswers
 pub mod PiecesPut
 pub mod PartsForward
+pub mod AskedSince
 pub mod GivenRequests
 pub mod Places
 pub mod StepByStep
