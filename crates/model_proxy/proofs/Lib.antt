@@ -32,6 +32,7 @@ pub mod EndedAnswers
 pub mod PiecesPut
 pub mod PartsForward
 pub mod AskedSince
+pub mod AloneSince
 pub mod GivenRequests
 pub mod Places
 pub mod StepByStep
