@@ -84,8 +84,7 @@ pub record IsServedBehind (base : Base) (before : List Step) (line : Line) : Typ
   pub served : IsServed base line
   pub longer : served.trace ≡ more ++ before
 
--- What is served goes on, no request is handed out, and whether the open request's answer ends the connection stays as it is.
--- It is one field, so that a handler's calls can be put together by the tactic.
+-- what is served goes on, no request is handed out, and whether the open request's answer ends the connection stays as it is
 pub record Follows (old new : Line) : Type 0 where
   pub goes : (base : Base) → (new.closes ≡ old.closes) × ((served : IsServed base old) → IsServedBehind base served.trace new)
 
