@@ -1,4 +1,0 @@
-pub mod QuietLemmas
-pub mod MoveLemmas
-pub mod HouseLemmas
-pub mod FlowLemmas

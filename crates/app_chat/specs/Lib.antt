@@ -1,3 +1,0 @@
-pub mod House
-pub mod Moves
-pub mod Flow

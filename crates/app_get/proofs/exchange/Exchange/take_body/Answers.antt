@@ -1,7 +1,0 @@
-use Rattle.std.proofs.Common.{ℕ, Some, refl, ap, ◌∙◌}
-use Rattle.std.proofs.KnownBytes.{Keeps-refl}
-use Rattle.app_get.proofs.Stopping.{protocol_stops}
-use Rattle.app_get.proofs.exchange.Exchange.take_body.Goals as goal
-
-pub returns-then-status-eq101-clause-stops : goal.returns-then-status-eq101-clause-stops
-returns-then-status-eq101-clause-stops g c = protocol_stops _ _ _ refl (c.requires ∙ ap (λ (n : ℕ). Some n) c.if-status-eq101.true) (Keeps-refl _)

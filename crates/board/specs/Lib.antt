@@ -1,9 +1,0 @@
-pub mod Name
-pub mod Journal
-pub mod Views
-pub mod Cursors
-pub mod Table
-pub mod Asks
-pub mod TableRuns
-pub mod Answers
-pub mod Work

@@ -1,9 +1,0 @@
-pub mod Serves
-pub mod Told
-pub mod MemAcceptors
-pub mod Visits
-pub mod Reports
-pub mod Texts
-pub mod Words
-pub mod Writing
-pub mod ServerRuns

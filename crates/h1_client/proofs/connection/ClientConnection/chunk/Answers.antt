@@ -1,7 +1,0 @@
-use Rattle.h1_client.specs.ClientMeaning.{setting_of}
-use Rattle.h1_client.proofs.GoesOnLemmas.{on_map, goes_so}
-use Rattle.h1_client.proofs.connection.ClientConnection.chunk.Goals as goal
-
-pub returns-clause-stands : goal.returns-clause-stands
-returns-clause-stands c =
-    on_map c.chunk.result _ _ (λ steps. goes_so _ c.self.inside.config c.self.inside.parts c.chunk.new.self _ _ c.self.view_is c.requires.can_chunk (steps (setting_of c.self.inside.config))) c.chunk.ensures.ok

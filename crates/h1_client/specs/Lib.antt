@@ -1,9 +1,0 @@
-pub mod HeadMeaning
-pub mod ClientMeaning
-pub mod Incoming
-pub mod Parts
-pub mod Bodies
-pub mod Requests
-pub mod Answers
-pub mod Closing
-pub mod State

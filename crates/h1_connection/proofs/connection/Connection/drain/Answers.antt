@@ -1,9 +1,0 @@
-use Rattle.std.proofs.Common.{refl}
-use Rattle.h1_connection.proofs.GoesOnLemmas.{goes_on}
-use Rattle.h1_connection.proofs.connection.Connection.drain.Goals as goal
-
-pub invariant_of-self : goal.invariant_of-self
-invariant_of-self c = c.drain.ensures.sound
-
-pub returns-clause-stands : goal.returns-clause-stands
-returns-clause-stands c = goes_on _ _ _ _ _ _ c.self.view_is c.requires.can_drain c.drain.ensures.ok c.drain.ensures.marks c.drain.ensures.ahead refl

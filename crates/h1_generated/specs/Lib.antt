@@ -1,4 +1,0 @@
-pub mod Generated
-pub mod Summary
-pub mod GeneratedMeaning
-pub mod Run

@@ -1,6 +1,0 @@
-pub mod Laid
-pub mod Moves
-pub mod CopyLemmas
-pub mod InOrder
-pub mod Framed
-pub mod Ends

@@ -1,3 +1,0 @@
-pub mod Host
-pub mod Judgement
-pub mod Options

@@ -1,9 +1,0 @@
-pub mod Boxed
-pub mod Gather
-pub mod Giving
-pub mod Limit
-pub mod Passing
-pub mod Sides
-pub mod Told
-pub mod Values
-pub mod Whole

@@ -1,6 +1,0 @@
-pub mod Inside
-pub mod LogText
-pub mod Names
-pub mod Places
-pub mod Ranges
-pub mod Tags

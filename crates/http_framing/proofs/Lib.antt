@@ -1,2 +1,0 @@
-pub mod AnyPieces
-pub mod HeaderLines

@@ -1,3 +1,0 @@
-pub mod AnyPieces
-pub mod Kinds
-pub mod HeaderLines

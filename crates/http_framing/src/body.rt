@@ -1,6 +1,0 @@
-//! Bodies.
-mod kind;
-mod size;
-
-pub use kind::BodyKind;
-pub use size::BodySize;

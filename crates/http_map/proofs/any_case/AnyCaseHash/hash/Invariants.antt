@@ -1,8 +1,0 @@
-use Rattle.std.proofs.Common.{◌≡◌, take}
-use Rattle.std.specs.List.{fold, flat_map}
-use Rattle.std.specs.Hash as fed
-use Rattle.http_header.specs.Token.{lowercase}
-use Rattle.http_map.proofs.any_case.AnyCaseHash.hash.Given as goal
-
-abbrev pub invariant-loop-b : goal.invariant-loop-b
-invariant-loop-b g l = l.state ≡ fold g.H.Hasher.write l.initial.state (flat_map fed.u8 (lowercase (take l.b-index l.b-items)))

@@ -1,2 +1,0 @@
-pub mod ReadOn
-pub mod SendOn

@@ -1,3 +1,0 @@
-mod RequestHeadEquality
-mod TextLemmas
-pub mod UriEquality

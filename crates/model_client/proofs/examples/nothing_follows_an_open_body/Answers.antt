@@ -1,5 +1,0 @@
-use Rattle.std.proofs.lemmas.Bool.{false≢true}
-use Rattle.model_client.proofs.examples.nothing_follows_an_open_body.Goals as goal
-
-pub returns : goal.returns
-returns c size place start bytes reading runs h next = λ x. false≢true x.1

@@ -1,7 +1,0 @@
-use Rattle.std.proofs.Common.{refl}
-use Rattle.model_h1.specs.FrameText.{front_frame, unmask}
-use Rattle.model_h1.proofs.frame_examples.without_a_mask.Goals as goal
-
-pub returns : goal.returns
-unfolding front_frame unmask
-returns c = refl

@@ -1,4 +1,0 @@
-pub mod Acceptor
-pub mod Gate
-pub mod Moments
-pub mod Socket

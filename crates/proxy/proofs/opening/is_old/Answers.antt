@@ -1,6 +1,0 @@
-use Rattle.std.proofs.Common.{◌∙◌}
-use Rattle.proxy.proofs.Wants.{age_of}
-use Rattle.proxy.proofs.opening.is_old.Goals as goal
-
-pub returns : goal.returns
-returns c = λ h says. c.is_below.ensures ∙ age_of c.args.item.now h says

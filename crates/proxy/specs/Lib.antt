@@ -1,9 +1,0 @@
-pub mod Sides
-pub mod Leaves
-pub mod Wants
-pub mod Puts
-pub mod Kept
-pub mod Rests
-pub mod Served
-pub mod Fresh
-pub mod Replies

@@ -1,6 +1,0 @@
-use Rattle.std.proofs.Common.{length, min}
-use Rattle.proxy.specs.Kept.{server_room}
-use Rattle.proxy_loop.proofs.flow.take_in_server.Goals as goal
-
-pub returns-clause-cause : goal.returns-clause-cause
-returns-clause-cause g c = c.read_server.ensures.cause (min (server_room c.args.forwarder.now) (length c.args.room.now))

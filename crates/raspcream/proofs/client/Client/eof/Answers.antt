@@ -1,9 +1,0 @@
-use Rattle.model_client.specs.ClientEvent as on
-use Rattle.raspcream.proofs.AskedLemmas.{has_made, barred}
-use Rattle.raspcream.proofs.client.Client.eof.Goals as goal
-
-pub returns-clause-stands : goal.returns-clause-stands
-returns-clause-stands c = has_made _ _ _ _ _ c.self.view_is c.tell.ensures.kind c.eof.ensures.stands
-
-pub returns-then-not-can_read-clause-refused : goal.returns-then-not-can_read-clause-refused
-returns-then-not-can_read-clause-refused c = barred _ _ on.eof _ c.self.view_is c.can_read.ensures.eof c.if-not-can_read.true

@@ -1,9 +1,0 @@
-pub mod QueuedFrames
-pub mod Rows
-pub mod Seat
-pub mod Turn
-pub mod Hub
-pub mod Moves
-pub mod Pair
-pub mod Run
-pub mod Served

@@ -1,3 +1,0 @@
-mod Jobs
-pub mod Lives
-pub mod Waiting

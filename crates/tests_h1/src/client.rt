@@ -1,3 +1,0 @@
-//! The side of a client.
-mod heads;
-mod requests;

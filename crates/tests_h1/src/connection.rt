@@ -1,3 +1,0 @@
-//! The side of a server.
-mod ahead;
-mod calls;

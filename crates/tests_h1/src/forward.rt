@@ -1,3 +1,0 @@
-//! Heads that a forwarder passes on.
-mod answers;
-mod requests;

@@ -1,6 +1,0 @@
-use Rattle.ws_dispatcher.specs.Polls.{MayBePolled}
-use Rattle.tests_servers.specs.Calls.{answers_once}
-use Rattle.tests_servers.proofs.faults.end_of.Given as goal
-
-abbrev pub invariant-loop : goal.invariant-loop
-invariant-loop l = MayBePolled answers_once l.served

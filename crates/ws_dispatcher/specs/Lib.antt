@@ -1,5 +1,0 @@
-pub mod Queued
-pub mod View
-pub mod Steps
-pub mod Polls
-pub mod Order

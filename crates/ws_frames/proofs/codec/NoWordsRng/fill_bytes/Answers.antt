@@ -1,7 +1,0 @@
--- The words are those of the steps.
-use Rattle.std.proofs.Common.{rules}
-use Rattle.rand_core.proofs.StepsLemmas.{meets_fill_bytes}
-use Rattle.ws_frames.proofs.codec.NoWordsRng.fill_bytes.Goals as goal
-
-pub returns : goal.returns
-returns c = meets_fill_bytes _ _ _ _ _ (search rules)

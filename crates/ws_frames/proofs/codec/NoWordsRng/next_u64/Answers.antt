@@ -1,7 +1,0 @@
--- The words are those of the steps.
-use Rattle.std.proofs.Common.{rules}
-use Rattle.rand_core.proofs.StepsLemmas.{meets_next_u64}
-use Rattle.ws_frames.proofs.codec.NoWordsRng.next_u64.Goals as goal
-
-pub returns : goal.returns
-returns c = meets_next_u64 _ _ _ _ (search rules)

@@ -1,5 +1,0 @@
-use Rattle.ws_service.proofs.Traces.{run_follows}
-use Rattle.ws_service.proofs.laws.runs_are_traces.Goals as goal
-
-pub returns : goal.returns
-returns c = λ v w steps noted is. run_follows v w steps noted is

@@ -1,4 +1,0 @@
-pub mod Upgrade
-pub mod Session
-pub mod Answers
-pub mod Causes
