@@ -190,10 +190,10 @@ def is_unread(line, edit):
 
 def is_at(changed, path, line):
     """Whether a place is in a function, or in the folder of its proofs. What stands outside of functions, as a constant, means
-    something to each function of the crate."""
+    something to each function of the crate: to its code, and to the answers to its goals."""
     file, first, last, function = changed
     if not function:
-        return path.startswith("src/")
+        return path.startswith("src/") or os.path.basename(path) == "Answers.antt"
     if path.startswith("proofs/"):
         return os.path.basename(os.path.dirname(path)) == function
     return path == file and first <= line <= last
