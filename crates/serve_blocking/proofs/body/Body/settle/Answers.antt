@@ -3,7 +3,8 @@ use Rattle.serve_blocking.proofs.Settled.{marked, says_closing, says_same}
 use Rattle.serve_blocking.proofs.body.Body.settle.Goals as goal
 
 pub returns-then-not-branch-clause-says : goal.returns-then-not-branch-clause-says
-returns-then-not-branch-clause-says g c = says_same _ _ _ refl (λ holds. sym c.if-not-branch.true ∙ c.in_ok-has_to_close.ensures.closes holds)
+returns-then-not-branch-clause-says g c =
+    says_same _ c.args.head.now c.args.head.now refl (λ holds. sym c.if-not-branch.true ∙ c.in_ok-has_to_close.ensures.closes holds)
 
 pub returns-clause-says : goal.returns-clause-says
 returns-clause-says g c =
