@@ -11,4 +11,4 @@ returns-in_default g c =
 
 pub returns : goal.returns
 returns g c =
-    record { follows = follows_then _ _ _ (follows_then _ _ _ c.in_ok-writer.ensures.follows c.loop.invariant.follows) c.end.ensures.follows }
+    record { follows = follows_then _ _ _ (follows_then _ _ _ c.in_ok-writer.ensures.follows c.loop.invariant.follows) c.end-2.ensures.follows }
