@@ -1,6 +1,7 @@
 -- Requests that go to the handler, one after the other, until the end.
-use Rattle.std.specs.Prelude.{◌≡◌, ℕ, Bool, true, false, if◌then◌else◌, List, [], ◌∷◌, ◌++◌, Option, Some, None, IfSome, is_none, option_and_then}
+use Rattle.std.specs.Prelude.{◌≡◌, ℕ, Bool, true, false, if◌then◌else◌, List, [], ◌∷◌, ◌++◌, Option, Some, None, IfSome, IfOk, Result, Ok, Err, is_none, is_some, option_and_then}
 use Rattle.std.proofs.Common.{refl, sym, ap, subst, ◌∙◌, append_assoc, append-nil}
+use Rattle.http_config.specs.Config.{Settings}
 use Rattle.model_h1.specs.Event as on
 use Rattle.model_h1.specs.Event.{Event, Outcome}
 use Rattle.model_h1.specs.Request.{Head}
@@ -11,7 +12,7 @@ use Rattle.h1_connection.specs.declared.event.End.{End}
 use Rattle.h1_decoder.specs.declared.decoder.HeadItem.{HeadItem}
 use Rattle.h1_strict.specs.Judgement.{status_of}
 use Rattle.serve_blocking.specs.Judged.{doubt_if}
-use Rattle.serve_blocking.specs.Served.{Line, Base, IsServed, IsServedBehind, Follows, Adds, HandsOutOne, SayHeads, Notes, is_admitted, admitted, IsHandled, Handles, IsWritten, HandlesToEnd}
+use Rattle.serve_blocking.specs.Served.{Line, Base, IsServed, IsServedBehind, Follows, Adds, HandsOutOne, SayHeads, Notes, is_admitted, admitted, IsHandled, Handles, IsWritten, HandlesToEnd, Hosts, HostsToEnd, opened, socket_line}
 use Rattle.serve_blocking.proofs.Followed.{behind_then}
 
 -- ---- lists that grow
@@ -74,7 +75,7 @@ handles_follow a b was follows = record {
     items = [];
     said = tt;
     noted = notes_none was;
-    behind = subst (λ (hs : List Head). IsServedBehind (record base { handed = hs }) served.trace b) (sym (append-nil base.handed)) (follows.goes base served);
+    behind = subst (λ (hs : List Head). IsServedBehind (record base { handed = hs }) served.trace b) (sym (append-nil base.handed)) ((follows.goes base).1 served);
   };
 }
 
@@ -82,7 +83,7 @@ pub handles_then : (a b c : Line) (was now : Option (List HeadItem)) → Handles
 handles_then a b c was now handles follows = record {
   goes = λ base served.
       let x = handles.goes base served in
-      let y = follows.goes (record base { handed = base.handed ++ x.heads }) x.behind.served in
+      let y = (follows.goes (record base { handed = base.handed ++ x.heads })).1 x.behind.served in
       record {
         heads = x.heads;
         items = x.items;
@@ -92,18 +93,37 @@ handles_then a b c was now handles follows = record {
       };
 }
 
+-- the same behind the same trace, with a body that isn't wanted yet, and with what its answer says
+abbrev behind_opened : (base : Base) (before : List Step) (a : Line) (wanted closes : Bool) → IsServedBehind base before a
+    → IsServedBehind base before (record a { wanted = wanted; closes = closes })
+behind_opened base before a wanted closes x = record {
+  more = x.more;
+  served = record {
+    trace = x.served.trace;
+    stands = x.served.stands;
+    came = x.served.came;
+    went = x.served.went;
+    handed = x.served.handed;
+    judges = x.served.judges;
+    ended = x.served.ended;
+    at_end = x.served.at_end;
+  };
+  longer = x.longer;
+}
+
 -- one request
 pub handles_one : (a b c : Line) (was now : Option (List HeadItem)) (item : HeadItem) → HandsOutOne a b item
-    → Notes was now (admitted b.judges (item ∷ [])) → Follows b c → Handles a was c now
+    → Notes was now (admitted b.judges (item ∷ [])) → Follows (opened b item) c → Handles a was c now
 handles_one a b c was now item one noted follows = record {
   goes = λ base served.
-      let (h, says, y) = one.goes base served in
+      let (h, says, x) = one.goes base served in
+      let y = behind_opened (record base { handed = base.handed ++ (h ∷ []) }) served.trace b false (is_some (doubt_if b.judges item)) x in
       record {
         heads = h ∷ [];
         items = item ∷ [];
         said = (says, tt);
         noted = subst (λ (j : Bool). Notes was now (admitted j (item ∷ []))) y.served.judges noted;
-        behind = behind_then _ _ served.trace b c y (follows.goes (record base { handed = base.handed ++ (h ∷ []) }) y.served);
+        behind = behind_then _ _ served.trace (opened b item) c y ((follows.goes (record base { handed = base.handed ++ (h ∷ []) })).1 y.served);
       };
 }
 
@@ -119,6 +139,8 @@ behind_as base before line hs ks same x = record {
     went = x.served.went;
     handed = x.served.handed ∙ same;
     judges = x.served.judges;
+    ended = x.served.ended;
+    at_end = x.served.at_end;
   };
   longer = x.longer;
 }
@@ -144,9 +166,6 @@ handles_both a b c was mid now first second = record {
 }
 
 -- ---- the end
-
-pub adds_follow : (e : Event) (o : Outcome) (a b : Line) → Adds e o a b → Follows a b
-adds_follow e o a b adds = record { goes = λ base served. (adds.goes base served).0 }
 
 -- The connection ended for this reason: that is the last that happened, no request is handed out, and the bytes written are
 -- the text of all answers.
@@ -197,3 +216,14 @@ both_to_end a b c was mid now end first second = record {
 pub at_some : (P : End → Type 0) (o : Option End) (e : End) → o ≡ Some e → IfSome o P → P e
 at_some P (Some x) e is holds = subst P (cc is) holds
 at_some P None e is holds = absurd (cc is)
+
+-- ---- a socket
+
+pub hosts_here : (settings : Settings) (judges : Bool) (a b : Line) (was now : Option (List HeadItem)) → a ≡ socket_line settings judges → Handles a was b now
+    → Hosts settings judges was now
+hosts_here settings judges a b was now is handles = record { line = b; handles = subst (λ (l : Line). Handles l was b now) is handles }
+
+pub hosts_to_end : {E : Type 0} (r : Result End E) (settings : Settings) (judges : Bool) (a b : Line) (was now : Option (List HeadItem)) → a ≡ socket_line settings judges
+    → IfOk r (λ end. HandlesToEnd a was end b now) → IfOk r (λ end. HostsToEnd settings judges was end now)
+hosts_to_end (Ok end) settings judges a b was now is ends = record { line = b; ends = subst (λ (l : Line). HandlesToEnd l was end b now) is ends }
+hosts_to_end (Err e) settings judges a b was now is ends = tt

@@ -1,7 +1,13 @@
 pub mod Answered
 pub mod Began
+pub mod Completed
 pub mod Doubts
+pub mod Dropped
 pub mod Followed
+pub mod Gave
 pub mod Handled
+pub mod Results
 pub mod ServedLemmas
+pub mod Settled
+pub mod Waited
 pub mod Written

@@ -1,3 +1,5 @@
+pub mod Acts
 pub mod Judged
+pub mod Limits
 pub mod Pace
 pub mod Served

@@ -1,15 +1,16 @@
 -- What a connection that is served stands for: what came out of its source, what went into its sink, which requests were
 -- handed out, and which of them the handler was given.
-use Rattle.std.specs.Prelude.{◌≡◌, ℕ, Bool, true, false, ◌==◌, List, [], ◌∷◌, ◌++◌, if◌then◌else◌, Option, Some, None, is_none, option_and_then, ⊤}
-use Rattle.std.specs.List.{list_any}
+use Rattle.std.specs.Prelude.{◌≡◌, ℕ, Bool, true, false, not, List, [], ◌∷◌, ◌++◌, if◌then◌else◌, Option, Some, None, is_none, is_some, option_and_then, IfSome, ⊤}
 use Rattle.std.specs.Io.KnownBytes.{Consumes, Appends}
+use Rattle.http_config.specs.Config.{Settings}
 use Rattle.model_h1.specs.Event.{Event, Outcome}
 use Rattle.model_h1.specs.Event as on
-use Rattle.model_h1.specs.Request.{Head}
-use Rattle.model_h1.specs.Sums.{Step, taken, written}
+use Rattle.model_h1.specs.Request.{Head, has_body}
+use Rattle.model_h1.specs.Sums.{Step, taken, written, has_ended}
 use Rattle.model_h1.specs.Text.{text}
+use Rattle.http_framing.specs.Kinds.{kind_of}
 use Rattle.h1_connection.specs.EventMeaning.{setting_of, end_of}
-use Rattle.h1_connection.specs.State.{State, IsAllowed, Stands}
+use Rattle.h1_connection.specs.State.{State, IsAllowed, Stands, fresh_state}
 use Rattle.h1_connection.specs.declared.event.End.{End}
 use Rattle.h1_connection.specs.declared.event.HeadFault.{HeadFault}
 use Rattle.h1_connection.specs.declared.connection.heads.NextKind.{NextKind}
@@ -25,6 +26,11 @@ pub record Line : Type 0 where
   pub left : Option (List ℕ)
   pub given : Option (List ℕ)
   pub judges : Bool
+  -- nothing of the last request's body is left to be given; a handler wants that body; its answer says that the
+  -- connection ends with it, since there is a doubt about its head
+  pub ended : Bool
+  pub wanted : Bool
+  pub closes : Bool
 
 abbrev pub head_in : Outcome → List Head
 head_in (on.head h) = h ∷ []
@@ -35,6 +41,23 @@ unfoldable pub heads : List Step → List Head
 heads [] = []
 heads (s ∷ before) = heads before ++ head_in s.outcome
 
+-- nothing of a body is left to be given: behind a head without one, behind its trailers and behind its end
+abbrev pub given_by : Outcome → Bool → Bool
+given_by (on.head h) before = not (has_body h.body)
+given_by (on.trailers lines) before = true
+given_by on.body_ended before = true
+given_by _ before = before
+
+-- the last request has no body, or its trailers or its end were given; or there is no request yet
+unfoldable pub is_given : List Step → Bool
+is_given [] = true
+is_given (s ∷ before) = given_by s.outcome (is_given before)
+
+-- the same, behind what was told of the next request
+abbrev pub given_after : NextKind → HeadItem → Bool → Bool
+given_after next_kind.Head item before = not (has_body (kind_of item.body))
+given_after _ item before = before
+
 -- what was there before the first byte came, and the heads of the requests that were handed out
 pub record Base : Type 0 where
   pub left : Option (List ℕ)
@@ -43,7 +66,7 @@ pub record Base : Type 0 where
   pub handed : List Head
 
 -- There is a trace of the connection's whose bytes taken are those that came out of the source, whose bytes written are
--- those that went into the sink, and whose requests are these.
+-- those that went into the sink, and whose requests are these. It says whether something of a body is left to be given.
 pub record IsServed (base : Base) (line : Line) : Type 0 where
   pub trace : List Step
   pub stands : Stands line.state trace
@@ -51,6 +74,9 @@ pub record IsServed (base : Base) (line : Line) : Type 0 where
   pub went : Appends base.given line.given (written trace)
   pub handed : heads trace ≡ base.handed
   pub judges : line.judges ≡ base.judges
+  pub ended : line.ended ≡ is_given trace
+  -- the input has ended only behind all bytes of the source
+  pub at_end : has_ended trace ≡ true → IfSome base.left (λ bytes. bytes ≡ taken trace)
 
 -- it is served behind this trace: its own is that one, and then these steps
 pub record IsServedBehind (base : Base) (before : List Step) (line : Line) : Type 0 where
@@ -58,9 +84,9 @@ pub record IsServedBehind (base : Base) (before : List Step) (line : Line) : Typ
   pub served : IsServed base line
   pub longer : served.trace ≡ more ++ before
 
--- what is served goes on, and no request is handed out
+-- what is served goes on, no request is handed out, and whether the open request's answer ends the connection stays as it is
 pub record Follows (old new : Line) : Type 0 where
-  pub goes : (base : Base) (served : IsServed base old) → IsServedBehind base served.trace new
+  pub goes : (base : Base) → (new.closes ≡ old.closes) × ((served : IsServed base old) → IsServedBehind base served.trace new)
 
 -- ---- one event
 
@@ -68,6 +94,7 @@ pub record Follows (old new : Line) : Type 0 where
 pub record Adds (event : Event) (outcome : Outcome) (old new : Line) : Type 0 where
   pub goes : (base : Base) (served : IsServed base old)
       → (behind : IsServedBehind base served.trace new) × (behind.more ≡ record { event = event; outcome = outcome } ∷ [])
+  pub closes : new.closes ≡ old.closes
 
 -- ---- answers
 
@@ -75,17 +102,12 @@ pub record Adds (event : Event) (outcome : Outcome) (old new : Line) : Type 0 wh
 abbrev pub MayAnswer : State → Type 0
 MayAnswer state = (head : _) (size : _) → IsAllowed state (on.answer head size)
 
--- an answer with this status was begun
-abbrev pub answers_with : ℕ → Event → Bool
-answers_with status (on.answer head size) = head.status == status
-answers_with status _ = false
-
--- what is served goes on, no request is handed out, and an answer with this status is begun
-pub record Answers (status : ℕ) (old new : Line) : Type 0 where
-  pub goes : (base : Base) (served : IsServed base old)
-      → (behind : IsServedBehind base served.trace new) × (list_any (λ s. answers_with status s.event) behind.more ≡ true)
-
 -- ---- requests
+
+-- A connection whose next request has this head: its body isn't wanted yet, and where there is a doubt about the head, the
+-- connection ends with its answer.
+abbrev pub opened : Line → HeadItem → Line
+opened line item = record line { wanted = false; closes = is_some (doubt_if line.judges item) }
 
 -- the items say the heads, one by one
 abbrev pub SayHeads : List HeadItem → List Head → Type 0
@@ -151,3 +173,20 @@ pub record IsHandledToEnd (base : Base) (before : List Step) (was now : Option (
 -- what is served goes to the handler until its end
 pub record HandlesToEnd (old : Line) (was : Option (List HeadItem)) (end : End) (new : Line) (now : Option (List HeadItem)) : Type 0 where
   pub goes : (base : Base) (served : IsServed base old) → IsHandledToEnd base served.trace was now end new
+
+-- ---- a socket
+
+-- a connection with these settings over a socket, which tells no bytes, and to which nothing has come
+abbrev pub socket_line : Settings → Bool → Line
+socket_line settings judges =
+    record { state = fresh_state settings; left = None; given = None; judges = judges; ended = true; wanted = false; closes = false }
+
+-- the requests of one connection over a socket go to the handler
+pub record Hosts (settings : Settings) (judges : Bool) (was now : Option (List HeadItem)) : Type 0 where
+  pub line : Line
+  pub handles : Handles (socket_line settings judges) was line now
+
+-- the same until its end
+pub record HostsToEnd (settings : Settings) (judges : Bool) (was : Option (List HeadItem)) (end : End) (now : Option (List HeadItem)) : Type 0 where
+  pub line : Line
+  pub ends : HandlesToEnd (socket_line settings judges) was end line now

@@ -1,6 +1,10 @@
 //! The answer to the open request.
-ghost use Rattle.std.specs.Prelude.{OnOk};
-ghost use Rattle.serve_blocking.specs.Served.{Answers, Follows};
+ghost use Rattle.std.specs.Prelude.{◌≡◌, [], ◌∷◌, false, OnOk, OnErr};
+ghost use Rattle.model_h1.specs.Answer as answers;
+ghost use Rattle.model_h1.specs.Event as on;
+ghost use Rattle.h1_encoder.specs.Meaning.{answer_of, size_of};
+ghost use Rattle.serve_blocking.specs.Acts.{Answers, AnswersPart, Begins, Does, Drops, IsFlushed, Sends, SendsSome, Waits, may, where_may};
+ghost use Rattle.serve_blocking.specs.Served.{Follows};
 
 use crate::{Body, HandleError};
 use http_framing::BodySize;
@@ -27,8 +31,8 @@ impl Answer {
         Answer { _once: () }
     }
 
-    /// Answers with a head and a whole body. A small answer goes out in one write.
-    #[tactic(auto, using(crate::proofs::Followed::follows_none, crate::proofs::Followed::follows_then, crate::proofs::Answered::answered_here, crate::proofs::Answered::answers_follow, crate::proofs::Answered::answers_then, crate::proofs::Answered::then_answers))]
+    /// Answers with a head and a whole body. A small answer goes out in one write. After an error at most a part of the
+    /// answer was handed in: nothing, or its head and the first bytes of its body.
     pub fn whole<S: TimedSource, K: TimedSink>(
         self,
         body: &mut Body<S, K>,
@@ -36,7 +40,8 @@ impl Answer {
         bytes: &[u8],
     ) -> Result<(), HandleError>
         ensures follows { Follows body.old body.new }
-        ensures answers { OnOk result (Answers head.status body.old body.new) }
+        ensures answers { OnOk result (Answers (answer_of head) bytes.now body.old body.new) }
+        ensures part { OnErr result (AnswersPart (answer_of head) bytes.now body.old body.new) }
     {
         let writer = self.sized(body, head, bytes.len() as u64)?;
         let writer = writer.write(body, bytes)?;
@@ -44,8 +49,7 @@ impl Answer {
         Ok(())
     }
 
-    /// Begins an answer whose body has so many bytes (RFC 7230, section 3.3.2).
-    #[tactic(auto, using(crate::proofs::Followed::follows_none, crate::proofs::Followed::follows_then, crate::proofs::Answered::answered_here, crate::proofs::Answered::answers_follow, crate::proofs::Answered::answers_then, crate::proofs::Answered::then_answers))]
+    /// Begins an answer whose body has so many bytes (RFC 7230, section 3.3.2). After an error nothing of it was handed in.
     pub fn sized<S: TimedSource, K: TimedSink>(
         self,
         body: &mut Body<S, K>,
@@ -53,41 +57,42 @@ impl Answer {
         length: u64,
     ) -> Result<Writer, HandleError>
         ensures follows { Follows body.old body.new }
-        ensures answers { OnOk result (Answers head.status body.old body.new) }
+        ensures begins { OnOk result (Begins (answer_of head) (answers.size_of length) body.old body.new) }
+        ensures none { OnErr result (Drops body.old body.new) }
     {
         self.begin(body, head, BodySize::Sized(length))
     }
 
     /// Begins an answer whose body's length isn't known: it is sent in chunks to a client that knows them, and else ends
-    /// with the connection (RFC 7230, section 4.1).
-    #[tactic(auto, using(crate::proofs::Followed::follows_none, crate::proofs::Followed::follows_then, crate::proofs::Answered::answered_here, crate::proofs::Answered::answers_follow, crate::proofs::Answered::answers_then, crate::proofs::Answered::then_answers))]
+    /// with the connection (RFC 7230, section 4.1). After an error nothing of it was handed in.
     pub fn stream<S: TimedSource, K: TimedSink>(
         self,
         body: &mut Body<S, K>,
         head: ResponseHead,
     ) -> Result<Writer, HandleError>
         ensures follows { Follows body.old body.new }
-        ensures answers { OnOk result (Answers head.status body.old body.new) }
+        ensures begins { OnOk result (Begins (answer_of head) answers.size_stream body.old body.new) }
+        ensures none { OnErr result (Drops body.old body.new) }
     {
         self.begin(body, head, BodySize::Stream)
     }
 
-    /// Answers with a head alone, as 304 is (RFC 7232, section 4.1).
-    #[tactic(auto, using(crate::proofs::Followed::follows_none, crate::proofs::Followed::follows_then, crate::proofs::Answered::answered_here, crate::proofs::Answered::answers_follow, crate::proofs::Answered::answers_then, crate::proofs::Answered::then_answers))]
+    /// Answers with a head alone, as 304 is (RFC 7232, section 4.1). After an error at most the head was handed in.
     pub fn empty<S: TimedSource, K: TimedSink>(
         self,
         body: &mut Body<S, K>,
         head: ResponseHead,
     ) -> Result<(), HandleError>
         ensures follows { Follows body.old body.new }
-        ensures answers { OnOk result (Answers head.status body.old body.new) }
+        ensures answers { OnOk result (Answers (answer_of head) [] body.old body.new) }
+        ensures part { OnErr result (AnswersPart (answer_of head) [] body.old body.new) }
     {
         let writer = self.begin(body, head, BodySize::ZERO)?;
         writer.end(body)?;
         Ok(())
     }
 
-    #[tactic(auto, using(crate::proofs::Followed::follows_none, crate::proofs::Followed::follows_then, crate::proofs::Answered::answered_here, crate::proofs::Answered::answers_follow, crate::proofs::Answered::answers_then, crate::proofs::Answered::then_answers))]
+    // Begins an answer, for which the request's body may be passed over.
     fn begin<S: TimedSource, K: TimedSink>(
         self,
         body: &mut Body<S, K>,
@@ -95,7 +100,8 @@ impl Answer {
         size: BodySize,
     ) -> Result<Writer, HandleError>
         ensures follows { Follows body.old body.new }
-        ensures answers { OnOk result (Answers head.status body.old body.new) }
+        ensures begins { OnOk result (Begins (answer_of head) (size_of size) body.old body.new) }
+        ensures none { OnErr result (Drops body.old body.new) }
     {
         body.settle(&mut head)?;
         body.tick()?;
@@ -108,14 +114,16 @@ impl Answer {
 }
 
 impl Writer {
-    /// Sends the next bytes of the body. They are gathered, and written once there is no more room.
-    #[tactic(auto, using(crate::proofs::Followed::follows_none, crate::proofs::Followed::follows_then))]
+    /// Sends the next bytes of the body. They are gathered, and written once there is no more room. After an error the
+    /// first of them may have been handed in.
     pub fn write<S: TimedSource, K: TimedSink>(
         self,
         body: &mut Body<S, K>,
         bytes: &[u8],
     ) -> Result<Writer, HandleError>
         ensures follows { Follows body.old body.new }
+        ensures sends { OnOk result (Sends bytes.now body.old body.new) }
+        ensures some { OnErr result (SendsSome bytes.now body.old body.new) }
     {
         match body.send(bytes) {
             Ok(()) => Ok(self),
@@ -127,12 +135,13 @@ impl Writer {
     }
 
     /// Writes what was gathered now, as a client that waits for each piece wants it.
-    #[tactic(auto, using(crate::proofs::Followed::follows_none, crate::proofs::Followed::follows_then))]
     pub fn flush<S: TimedSource, K: TimedSink>(
         self,
         body: &mut Body<S, K>,
     ) -> Result<Writer, HandleError>
         ensures follows { Follows body.old body.new }
+        ensures waits { Waits body.old body.new }
+        ensures flushed { OnOk result (IsFlushed body.new.state) }
     {
         match body.flush() {
             Ok(()) => Ok(self),
@@ -143,22 +152,25 @@ impl Writer {
         }
     }
 
-    /// The body is whole.
-    #[tactic(auto, using(crate::proofs::Followed::follows_none, crate::proofs::Followed::follows_then))]
+    /// The body is whole. After an error its end wasn't handed in.
     pub fn end<S: TimedSource, K: TimedSink>(self, body: &mut Body<S, K>) -> Result<(), HandleError>
         ensures follows { Follows body.old body.new }
+        ensures ends { OnOk result (Does (where_may body.old.state on.body_end) body.old body.new) }
+        ensures whole { OnOk result (may body.old.state on.body_end ≡ false → body.new ≡ body.old) }
+        ensures none { OnErr result (body.new ≡ body.old) }
     {
         let Writer { _open: () } = self;
-        if body.connection.can_end_answer() {
-            body.end_answer()?;
+        if !body.connection.can_end_answer() {
+            return Ok(());
         }
+        body.end_answer()?;
         Ok(())
     }
 
     /// The body can't be completed: the connection ends, and the client sees that bytes are missing.
-    #[tactic(auto, using(crate::proofs::Followed::follows_none, crate::proofs::Followed::follows_then))]
     pub fn fail<S: TimedSource, K: TimedSink>(self, body: &mut Body<S, K>)
         ensures follows { Follows body.old body.new }
+        ensures fails { Does (where_may body.old.state on.body_error) body.old body.new }
     {
         let Writer { _open: () } = self;
         body.fail_answer();
@@ -166,29 +178,49 @@ impl Writer {
 }
 
 impl<S: TimedSource, K: TimedSink> Body<S, K> {
-    // Hands in bytes of the answer's body, piece by piece, each once there is room for it.
-    #[tactic(auto, using(crate::proofs::Followed::follows_none, crate::proofs::Followed::follows_then))]
+    // Hands in bytes of the answer's body, piece by piece.
     fn send(&mut self, bytes: &[u8]) -> Result<(), HandleError>
         ensures follows { Follows self.old self.new }
+        ensures sends { OnOk result (Sends bytes.now self.old self.new) }
+        ensures some { OnErr result (SendsSome bytes.now self.old self.new) }
     {
         for piece in bytes.chunks(PIECE) {
-            if self.connection.write_room() == 0 {
-                self.flush()?;
-            }
-            if !self.connection.can_chunk() {
-                return Err(HandleError::Misplaced);
-            }
-            self.hand_in(piece)?;
+            self.send_piece(piece)?;
         }
         Ok(())
     }
 
-    #[tactic(auto, using(crate::proofs::Followed::follows_none, crate::proofs::Followed::follows_then))]
+    // Hands in one piece, once there is room for it.
+    fn send_piece(&mut self, piece: &[u8]) -> Result<(), HandleError>
+        ensures sends { OnOk result (Sends piece.now self.old self.new) }
+        ensures none { OnErr result (Waits self.old self.new) }
+    {
+        self.make_room()?;
+        if !self.connection.can_chunk() {
+            return Err(HandleError::Misplaced);
+        }
+        self.hand_in(piece)?;
+        Ok(())
+    }
+
+    // Writes what waits, where there is no room for a piece behind it.
+    fn make_room(&mut self) -> Result<(), HandleError>
+        ensures { Waits self.old self.new }
+    {
+        if self.connection.write_room() == 0 {
+            return self.flush();
+        }
+        Ok(())
+    }
+
+    // The answer's body can't be completed, where one is being sent.
     pub(crate) fn fail_answer(&mut self)
         ensures follows { Follows self.old self.new }
+        ensures fails { Does (where_may self.old.state on.body_error) self.old self.new }
     {
-        if self.connection.can_end_answer() {
-            self.break_answer();
+        if !self.connection.can_end_answer() {
+            return;
         }
+        self.break_answer();
     }
 }

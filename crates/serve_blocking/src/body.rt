@@ -1,6 +1,9 @@
 //! The body of the open request, and the connection that it comes over.
-ghost use Rattle.std.specs.Prelude.{◌≡◌, []};
-ghost use Rattle.h1_connection.specs.State.{fresh_state};
+ghost use Rattle.std.specs.Prelude.{◌≡◌, ◌⊎◌, [], true, false, IfOk, IfErr, OnOk, OnErr, IfSome, IfNone};
+ghost use Rattle.model_h1.specs.Event as on;
+ghost use Rattle.h1_encoder.specs.Meaning.{answer_of};
+ghost use Rattle.h1_connection.specs.State.{fresh_state, IsAllowed};
+ghost use Rattle.serve_blocking.specs.Acts.{Does, Drops, DropsAll, Gives, GivesNone, PassesOver, Reads, ReadsNone, Says, Waits, is_loss, leave, may};
 ghost use Rattle.serve_blocking.specs.Served.{Line, Follows, IsServed};
 
 use crate::clock::Start;
@@ -54,7 +57,7 @@ pub struct Body<S: TimedSource, K: TimedSink> {
     // Where the open request's body ends.
     pub(crate) kind: BodyKind,
 
-    // The open request has no body, or its body was given to its end.
+    // The last request has no body, or its body was given to its end.
     pub(crate) has_ended: bool,
 
     // The handler reads the open request's body.
@@ -69,7 +72,15 @@ impl<S: TimedSource, K: TimedSink> Model for Body<S, K> {
 
     ghost Value = { Line };
 
-    ghost view = { λ b. record { state = b.connection; left = S.left b.source; given = K.given b.sink; judges = b.limits.judges_heads } };
+    ghost view = { λ b. record {
+      state = b.connection;
+      left = S.left b.source;
+      given = K.given b.sink;
+      judges = b.limits.judges_heads;
+      ended = b.has_ended;
+      wanted = b.is_wanted;
+      closes = b.closes;
+    } };
 }
 
 impl<S: TimedSource, K: TimedSink> Body<S, K> {
@@ -81,7 +92,7 @@ impl<S: TimedSource, K: TimedSink> Body<S, K> {
         source: S,
         sink: K,
     ) -> Body<S, K>
-        ensures value { result ≡ record { state = fresh_state config; left = S.left source; given = K.given sink; judges = limits.judges_heads } }
+        ensures value { result ≡ record { state = fresh_state config; left = S.left source; given = K.given sink; judges = limits.judges_heads; ended = true; wanted = false; closes = false } }
         ensures begins { IsServed (record { left = S.left source; given = K.given sink; judges = limits.judges_heads; handed = [] }) result }
     {
         let connection = Connection::new(alloc, config);
@@ -128,14 +139,20 @@ impl<S: TimedSource, K: TimedSink> Body<S, K> {
 
     /// The handler will read the body, also once its answer has begun: where the client waits for leave to send it, it
     /// gets leave (RFC 7231, section 5.1.1). `read` says the same, so this is for a handler that begins its answer first.
-    #[tactic(auto, using(crate::proofs::Followed::follows_none, crate::proofs::Followed::follows_then))]
+    ///
+    /// `NoMemory` alone: then no leave was given.
     pub fn want(&mut self) -> Result<(), HandleError>
         ensures follows { Follows self.old self.new }
+        ensures leave { OnOk result (Does (leave self.old.state) self.old self.new) }
+        ensures none { OnErr result (Does [] self.old self.new) }
+        ensures memory { IfErr result (λ e. e ≡ HandleError.NoMemory) }
+        ensures wanted { self.new.wanted ≡ true }
     {
         self.is_wanted = true;
-        if self.connection.can_continue() {
-            self.send_continue()?;
+        if !self.connection.can_continue() {
+            return Ok(());
         }
+        self.send_continue()?;
         Ok(())
     }
 
@@ -144,32 +161,68 @@ impl<S: TimedSource, K: TimedSink> Body<S, K> {
     ///
     /// `BrokenBody` where the body breaks the grammar of chunks, and where the input, or the connection, ends before the
     /// body does: then also each time that it is asked again. `Stalled` where nothing comes for too long, `Lost` and
-    /// `NoMemory`.
-    #[tactic(auto, using(crate::proofs::Followed::follows_none, crate::proofs::Followed::follows_then))]
+    /// `NoMemory`: then nothing of the body was taken.
     pub fn read(&mut self) -> Result<Piece, HandleError>
         ensures follows { Follows self.old self.new }
+        ensures reads { IfOk result (λ piece. Reads piece self.old self.new) }
+        ensures none { IfErr result (λ e. ReadsNone e self.old self.new) }
+        ensures wanted { self.new.wanted ≡ true }
     {
         self.want()?;
+        self.next_piece()
+    }
+
+    // What comes next of the body, which is waited for.
+    fn next_piece(&mut self) -> Result<Piece, HandleError>
+        ensures gives { IfOk result (λ piece. Gives piece self.old self.new) }
+        ensures none { IfErr result (λ e. GivesNone e self.old self.new) }
+        ensures wanted { self.new.wanted ≡ self.old.wanted }
+    {
         for _ in 0..u64::MAX {
             if !self.connection.can_pull() {
                 return self.told_end();
             }
-            match self.pull()? {
-                Pulled::Bytes(bytes) => return Ok(Piece::Bytes(bytes)),
-                Pulled::Trailers(trailers) => return Ok(Piece::Trailers(trailers)),
-                Pulled::End => return Ok(Piece::End),
-                Pulled::Broken(_) => return Err(HandleError::BrokenBody),
-                Pulled::Pending => {
-                    self.flush()?;
-                    self.fill()?;
-                }
+            match self.ask()? {
+                Some(piece) => return Ok(piece),
+                None => self.wait_for_more()?,
             }
         }
         Err(HandleError::Stalled)
     }
 
+    // Writes what waits, and waits for what comes.
+    fn wait_for_more(&mut self) -> Result<(), HandleError>
+        ensures waits { Waits self.old self.new }
+        ensures lost { IfErr result (λ e. is_loss e ≡ true) }
+    {
+        self.flush()?;
+        let _came = self.fill()?;
+        Ok(())
+    }
+
+    // Pulls once: what is there of the body, or that nothing is.
+    fn ask(&mut self) -> Result<Option<Piece>, HandleError>
+        requires can_pull { IsAllowed self.old.state on.pull }
+        requires can_drop { IsAllowed self.old.state on.drop_body }
+        ensures gives { IfOk result (λ piece. IfSome piece (λ p. Gives p self.old self.new)) }
+        ensures waits { IfOk result (λ piece. IfNone piece (Waits self.old self.new)) }
+        ensures none { IfErr result (λ e. GivesNone e self.old self.new) }
+        ensures wanted { self.new.wanted ≡ self.old.wanted }
+    {
+        match self.pull()? {
+            Pulled::Bytes(bytes) => Ok(Some(Piece::Bytes(bytes))),
+            Pulled::Trailers(trailers) => Ok(Some(Piece::Trailers(trailers))),
+            Pulled::End => Ok(Some(Piece::End)),
+            Pulled::Broken(_) => Err(HandleError::BrokenBody),
+            Pulled::Pending => Ok(None),
+        }
+    }
+
     // Nothing more can be asked for: the body has ended, or the connection ends before it has.
-    fn told_end(&self) -> Result<Piece, HandleError> {
+    fn told_end(&self) -> Result<Piece, HandleError>
+        ensures end { IfOk result (λ piece. (piece ≡ Piece.End) × (self.now.ended ≡ true)) }
+        ensures broken { IfErr result (λ e. (e ≡ HandleError.BrokenBody) × (self.now.ended ≡ false)) }
+    {
         if self.has_ended {
             return Ok(Piece::End);
         }
@@ -179,9 +232,8 @@ impl<S: TimedSource, K: TimedSink> Body<S, K> {
     // A request was handed out, whose body ends so, and with whose answer the connection ends or not. The body's bytes
     // are waited for from now on.
     pub(crate) fn begin_request(&mut self, kind: BodyKind, closes: bool)
-        ensures same { self.new ≡ self.old }
+        ensures { self.new ≡ record self.old { wanted = false; closes = closes } }
     {
-        self.has_ended = kind == BodyKind::None;
         self.kind = kind;
         self.closes = closes;
         self.is_wanted = false;
@@ -192,29 +244,47 @@ impl<S: TimedSource, K: TimedSink> Body<S, K> {
     // that the connection ends with it: a client that isn't told so would send its next request into it. A raw body ends
     // with the connection alone, and of a client that waits for leave none comes. Where the connection ends with the
     // answer anyway, no body is waited for.
-    #[tactic(auto, using(crate::proofs::Followed::follows_none, crate::proofs::Followed::follows_then))]
     pub(crate) fn settle(&mut self, head: &mut ResponseHead) -> Result<(), HandleError>
-        ensures follows { Follows self.old self.new }
+        ensures drops { Drops self.old self.new }
+        ensures kept { self.old.wanted ≡ true → self.new ≡ self.old }
+        ensures says { OnOk result (Says self.old (answer_of head.old) (answer_of head.new)) }
         ensures status { head.new.status ≡ head.old.status }
+        ensures passed { OnOk result (head.new.flags.close ≡ false → PassesOver self.old self.new) }
+        ensures lost { IfErr result (λ e. is_loss e ≡ true) }
     {
-        if self.closes {
-            head.set_connection_type(ConnectionType::Close);
-            return Ok(());
-        }
-        if self.is_wanted || !self.connection.can_pull() {
-            return Ok(());
-        }
-        if self.pass_over_if_it_ends()? {
+        if !self.has_to_close()? {
             return Ok(());
         }
         head.set_connection_type(ConnectionType::Close);
         Ok(())
     }
 
+    // Whether the answer says that the connection ends with it.
+    fn has_to_close(&mut self) -> Result<bool, HandleError>
+        ensures drops { Drops self.old self.new }
+        ensures kept { self.old.wanted ≡ true → self.new ≡ self.old }
+        ensures closes { self.old.closes ≡ true → IfOk result (λ b. b ≡ true) }
+        ensures stays { self.old.closes ≡ false → (self.old.wanted ≡ true) ⊎ (may self.old.state on.drop_body ≡ false) → IfOk result (λ b. b ≡ false) }
+        ensures passed { IfOk result (λ b. b ≡ false → PassesOver self.old self.new) }
+        ensures lost { IfErr result (λ e. is_loss e ≡ true) }
+    {
+        if self.closes {
+            return Ok(true);
+        }
+        if self.is_wanted {
+            return Ok(false);
+        }
+        if !self.connection.can_pull() {
+            return Ok(false);
+        }
+        Ok(!self.pass_over_if_it_ends()?)
+    }
+
     // Whether the body was passed over; where it can't end, it isn't.
-    #[tactic(auto, using(crate::proofs::Followed::follows_none, crate::proofs::Followed::follows_then))]
     fn pass_over_if_it_ends(&mut self) -> Result<bool, HandleError>
-        ensures follows { Follows self.old self.new }
+        ensures drops { Drops self.old self.new }
+        ensures passed { IfOk result (λ b. b ≡ true → DropsAll self.old self.new) }
+        ensures lost { IfErr result (λ e. is_loss e ≡ true) }
     {
         if self.kind == BodyKind::Raw {
             return Ok(false);
@@ -227,15 +297,16 @@ impl<S: TimedSource, K: TimedSink> Body<S, K> {
 
     // Whether the body was passed over. Its bytes are counted, and those that were read for it, as of chunks with long
     // extensions.
-    #[tactic(auto, using(crate::proofs::Followed::follows_none, crate::proofs::Followed::follows_then))]
     fn pass_over(&mut self) -> Result<bool, HandleError>
-        ensures follows { Follows self.old self.new }
+        ensures drops { Drops self.old self.new }
+        ensures passed { IfOk result (λ b. b ≡ true → DropsAll self.old self.new) }
+        ensures lost { IfErr result (λ e. is_loss e ≡ true) }
     {
         let mut left = self.limits.drop;
         let (first, begin) = (self.taken, self.source.uptime());
         for _ in 0..u64::MAX {
             if !self.connection.can_pull() {
-                return Ok(true);
+                return Ok(false);
             }
             match self.pull()? {
                 Pulled::Bytes(bytes) => {
@@ -245,7 +316,8 @@ impl<S: TimedSource, K: TimedSink> Body<S, K> {
                     }
                     left -= count;
                 }
-                Pulled::Trailers(_) | Pulled::End => return Ok(true),
+                Pulled::Trailers(_) => return Ok(true),
+                Pulled::End => return Ok(true),
                 Pulled::Broken(_) => return Ok(false),
                 Pulled::Pending => {
                     let count = self.taken.saturating_sub(first);

@@ -1,7 +1,8 @@
 //! When bytes are read and written, and what time it is.
-ghost use Rattle.std.specs.Prelude.{◌≡◌, ℕ, IsTrue};
+ghost use Rattle.std.specs.Prelude.{◌≡◌, ℕ, IsTrue, true, false, IfErr, OnOk};
 ghost use Rattle.model_h1.specs.Event as on;
 ghost use Rattle.h1_connection.specs.State.{IsAllowed};
+ghost use Rattle.serve_blocking.specs.Acts.{Does, IsFlushed, Waits, is_loss, where_may};
 ghost use Rattle.serve_blocking.specs.Served.{Follows, IsWritten};
 
 use crate::pace::Pace;
@@ -31,9 +32,9 @@ impl<S: TimedSource, K: TimedSink> Body<S, K> {
     }
 
     /// Tells the connection what time it is. It says whether no time has run out.
-    #[tactic(auto, using(crate::proofs::Followed::follows_none, crate::proofs::Followed::follows_then))]
     pub(crate) fn tick(&mut self) -> Result<(), HandleError>
-        ensures follows { Follows self.old self.new }
+        ensures waits { Waits self.old self.new }
+        ensures lost { IfErr result (λ e. is_loss e ≡ true) }
     {
         let Some(moment) = self.moment() else {
             return Ok(());
@@ -48,9 +49,9 @@ impl<S: TimedSource, K: TimedSink> Body<S, K> {
     }
 
     /// Reads what has come, or that nothing more does, or that time has passed. It says whether something has come.
-    #[tactic(auto, using(crate::proofs::Followed::follows_none, crate::proofs::Followed::follows_then))]
     pub(crate) fn fill(&mut self) -> Result<bool, HandleError>
-        ensures follows { Follows self.old self.new }
+        ensures waits { Waits self.old self.new }
+        ensures lost { IfErr result (λ e. is_loss e ≡ true) }
     {
         self.wait_for(self.patience());
         let (first, begin) = (self.taken, self.source.uptime());
@@ -62,9 +63,10 @@ impl<S: TimedSource, K: TimedSink> Body<S, K> {
     }
 
     /// Writes all that waits. While the peer takes nothing, what it sends is read, as far as there is room for it.
-    #[tactic(auto, using(crate::proofs::Followed::follows_none, crate::proofs::Followed::follows_then))]
     pub(crate) fn flush(&mut self) -> Result<(), HandleError>
-        ensures follows { Follows self.old self.new }
+        ensures waits { Waits self.old self.new }
+        ensures flushed { OnOk result (IsFlushed self.new.state) }
+        ensures lost { IfErr result (λ e. is_loss e ≡ true) }
     {
         for _ in 0..u64::MAX {
             if !self.has_unwritten() {
@@ -76,10 +78,10 @@ impl<S: TimedSource, K: TimedSink> Body<S, K> {
     }
 
     // Writes once. Where the peer takes nothing, what it sends is read.
-    #[tactic(auto, using(crate::proofs::Followed::follows_none, crate::proofs::Followed::follows_then))]
     fn write_once(&mut self) -> Result<(), HandleError>
         requires can_write { (count : ℕ) → IsAllowed self.old.state (on.write count) }
-        ensures follows { Follows self.old self.new }
+        ensures waits { Waits self.old self.new }
+        ensures lost { IfErr result (λ e. is_loss e ≡ true) }
     {
         let begin = self.source.uptime();
         match self.write_stretch() {
@@ -93,9 +95,8 @@ impl<S: TimedSource, K: TimedSink> Body<S, K> {
     }
 
     /// Writes what the peer takes at once of what waits.
-    #[tactic(auto, using(crate::proofs::Followed::follows_none, crate::proofs::Followed::follows_then))]
     pub(crate) fn flush_at_once(&mut self)
-        ensures follows { Follows self.old self.new }
+        ensures waits { Waits self.old self.new }
     {
         for _ in 0..u64::MAX {
             if !self.has_unwritten() {
@@ -108,9 +109,9 @@ impl<S: TimedSource, K: TimedSink> Body<S, K> {
     }
 
     /// Writes what waits where it has to be written now: where the connection closes, and where no more may wait.
-    #[tactic(auto, using(crate::proofs::Followed::follows_none, crate::proofs::Followed::follows_then))]
     pub(crate) fn flush_if_due(&mut self) -> Result<(), HandleError>
-        ensures follows { Follows self.old self.new }
+        ensures waits { Waits self.old self.new }
+        ensures lost { IfErr result (λ e. is_loss e ≡ true) }
     {
         if self.connection.closing().is_some() || self.connection.write_room() == 0 {
             return self.flush();
@@ -120,19 +121,28 @@ impl<S: TimedSource, K: TimedSink> Body<S, K> {
 
     // Whether something waits that may be written.
     fn has_unwritten(&self) -> bool
-        ensures { IsTrue result → (count : ℕ) → IsAllowed self.now.state (on.write count) }
+        ensures some { IsTrue result → (count : ℕ) → IsAllowed self.now.state (on.write count) }
+        ensures none { result ≡ false → IsFlushed self.now.state }
     {
-        !self.connection.stretch().is_empty() && self.connection.can_write()
+        if self.connection.stretch().is_empty() {
+            return false;
+        }
+        self.connection.can_write()
     }
 
     /// Where the server is to end, no further request is taken.
-    #[tactic(auto, using(crate::proofs::Followed::follows_none, crate::proofs::Followed::follows_then))]
     pub(crate) fn drain_where(&mut self, is_ending: bool)
+        ensures ends { is_ending ≡ true → Does (where_may self.old.state on.drain) self.old self.new }
+        ensures stays { is_ending ≡ false → self.new ≡ self.old }
         ensures follows { Follows self.old self.new }
     {
-        if is_ending && self.connection.can_drain() {
-            self.drain();
+        if !is_ending {
+            return;
         }
+        if !self.connection.can_drain() {
+            return;
+        }
+        self.drain();
     }
 
     /// Whether all that was to be written was written.
@@ -143,9 +153,9 @@ impl<S: TimedSource, K: TimedSink> Body<S, K> {
     }
 
     // The peer took nothing for a while.
-    #[tactic(auto, using(crate::proofs::Followed::follows_none, crate::proofs::Followed::follows_then))]
     fn read_meanwhile(&mut self) -> Result<(), HandleError>
-        ensures follows { Follows self.old self.new }
+        ensures waits { Waits self.old self.new }
+        ensures lost { IfErr result (λ e. is_loss e ≡ true) }
     {
         self.tick()?;
         self.wait_for(0);
@@ -155,9 +165,9 @@ impl<S: TimedSource, K: TimedSink> Body<S, K> {
     }
 
     // Reads once. It says whether something has come, be it the input's end or that no more may be held.
-    #[tactic(auto, using(crate::proofs::Followed::follows_none, crate::proofs::Followed::follows_then))]
     fn read_once(&mut self) -> Result<bool, HandleError>
-        ensures follows { Follows self.old self.new }
+        ensures waits { Waits self.old self.new }
+        ensures lost { IfErr result (λ e. is_loss e ≡ true) }
     {
         if !self.connection.can_read() {
             return Ok(true);
@@ -194,6 +204,7 @@ impl<S: TimedSource, K: TimedSink> Body<S, K> {
     // So many bytes came after so many milliseconds. Where a time of the config runs, that alone ends the connection.
     fn note_read(&mut self, waited: u64, count: u64) -> Result<(), HandleError>
         ensures same { self.new ≡ self.old }
+        ensures lost { IfErr result (λ e. is_loss e ≡ true) }
     {
         if self.connection.deadline().is_some() {
             self.reads = Pace::new();
@@ -209,6 +220,7 @@ impl<S: TimedSource, K: TimedSink> Body<S, K> {
     // So many bytes were taken after so many milliseconds.
     fn note_write(&mut self, waited: u64, count: u64) -> Result<(), HandleError>
         ensures same { self.new ≡ self.old }
+        ensures lost { IfErr result (λ e. is_loss e ≡ true) }
     {
         let limits = self.limits;
         if self.writes.note(waited, count, limits.stall, limits.least) {

@@ -1,9 +1,12 @@
 //! One connection, served to its end.
-ghost use Rattle.std.specs.Prelude.{◌≡◌, ◌∷◌, [], IfOk, IfSome, OnOk, option_and_then};
+ghost use Rattle.std.specs.Prelude.{◌≡◌, ◌∷◌, [], true, false, is_some, IfOk, IfSome, IfNone, OnOk, option_and_then};
+ghost use Rattle.http_types.specs.ResponseHead.{fresh_response};
 ghost use Rattle.h1_decoder.specs.declared.decoder.HeadItem.{HeadItem};
+ghost use Rattle.h1_encoder.specs.Meaning.{answer_of};
 ghost use Rattle.h1_strict.specs.Judgement.{status_of};
+ghost use Rattle.serve_blocking.specs.Acts.{Answers, Completes};
 ghost use Rattle.serve_blocking.specs.Judged.{doubt_if, status_after};
-ghost use Rattle.serve_blocking.specs.Served.{Answers, Follows, Handles, HandlesToEnd, MayAnswer, Notes, admitted};
+ghost use Rattle.serve_blocking.specs.Served.{Follows, Handles, HandlesToEnd, Hosts, HostsToEnd, MayAnswer, Notes, admitted, opened};
 
 use crate::{Answer, Body, HandleError, Handler, Incoming, Limits};
 use h1_connection::{End, NextKind};
@@ -28,7 +31,10 @@ pub fn host_stream<R: Clock, H: Handler>(
     config: ServiceConfig,
     limits: Limits,
     handler: &mut H,
-) -> Result<End, HandleError> {
+) -> Result<End, HandleError>
+    ensures handles { Hosts config limits.judges_heads (H.handled handler.old) (H.handled handler.new) }
+    ensures ends { IfOk result (λ end. HostsToEnd config limits.judges_heads (H.handled handler.old) end (H.handled handler.new)) }
+{
     if prepare(stream, WRITE_SLICE).is_err() {
         return Err(HandleError::Lost);
     }
@@ -42,7 +48,7 @@ pub fn host_stream<R: Clock, H: Handler>(
 
 /// Serves a connection to its end, and says why it ended. Each request goes to the handler, one after the other. All that
 /// waits to be written is written before the end, and where there is an error, as much as the peer takes.
-#[tactic(auto, using(crate::proofs::Handled::handles_then))]
+#[tactic(auto, using(crate::proofs::Handled::handles_then, crate::proofs::Waited::waits_follow))]
 pub fn host_connection<S: TimedSource, K: TimedSink, H: Handler>(
     alloc: Global,
     body: &mut Body<S, K>,
@@ -123,7 +129,6 @@ fn turn<S: TimedSource, K: TimedSink, H: Handler>(
 
 // Takes a request that was handed out: it goes to the handler, and is answered; or where its head is refused, it is
 // answered and no handler sees it.
-#[tactic(auto, using(crate::proofs::Followed::follows_none, crate::proofs::Followed::follows_then, crate::proofs::Answered::answers_follow, crate::proofs::Answered::answers_then, crate::proofs::Answered::then_answers, crate::proofs::Handled::notes_refused, crate::proofs::Handled::notes_admitted))]
 fn take<S: TimedSource, K: TimedSink, H: Handler>(
     alloc: Global,
     body: &mut Body<S, K>,
@@ -132,13 +137,35 @@ fn take<S: TimedSource, K: TimedSink, H: Handler>(
     handler: &mut H,
 ) -> Result<(), HandleError>
     ensures handled { Notes (H.handled handler.old) (H.handled handler.new) (admitted body.old.judges (item.now ∷ [])) }
-    ensures follows { Follows body.old body.new }
+    ensures follows { Follows (opened body.old item.now) body.new }
+    ensures refused { IfSome (option_and_then status_of (doubt_if body.old.judges item.now)) (λ status. OnOk result (Answers (answer_of (fresh_response status)) [] (record (opened body.old item.now) { closes = true }) body.new)) }
+    ensures completed { IfNone (option_and_then status_of (doubt_if body.old.judges item.now)) (OnOk result (Completes (opened body.old item.now) body.new)) }
 {
     let doubt = judged(item, body.limits.judges_heads);
     body.begin_request(item.body, doubt.is_some());
-    if let Some(status) = refusal(doubt) {
-        return Answer::new().empty(body, ResponseHead::new(alloc, status));
+    match refusal(doubt) {
+        Some(status) => {
+            let head = ResponseHead::new(alloc, status);
+            Answer::new().empty(body, head)
+        }
+        None => ask(alloc, body, item, peer, handler),
     }
+}
+
+// The request goes to the handler, and is answered.
+fn ask<S: TimedSource, K: TimedSink, H: Handler>(
+    alloc: Global,
+    body: &mut Body<S, K>,
+    item: &HeadItem,
+    peer: Option<SocketAddr>,
+    handler: &mut H,
+) -> Result<(), HandleError>
+    requires unwanted { body.old.wanted ≡ false }
+    requires doubted { body.old.closes ≡ is_some (doubt_if body.old.judges item.now) }
+    ensures handled { Notes (H.handled handler.old) (H.handled handler.new) (item.now ∷ []) }
+    ensures follows { Follows body.old body.new }
+    ensures completed { OnOk result (Completes body.old body.new) }
+{
     let request = Incoming::new(item, peer, body.moment());
     let handled = handler.handle(&request, body, Answer::new());
     complete(alloc, body, handled)
@@ -170,20 +197,40 @@ fn refusal(doubt: Option<HeadDoubt>) -> Option<StatusCode>
 }
 
 // Sees to it that the request is answered once the handler has returned.
-#[tactic(auto, using(crate::proofs::Followed::follows_none, crate::proofs::Followed::follows_then, crate::proofs::Answered::answers_follow, crate::proofs::Answered::answers_then, crate::proofs::Answered::then_answers))]
 fn complete<S: TimedSource, K: TimedSink>(
     alloc: Global,
     body: &mut Body<S, K>,
     handled: Result<(), HandleError>,
 ) -> Result<(), HandleError>
     ensures follows { Follows body.old body.new }
-    ensures answers { MayAnswer body.old.state → OnOk result (Answers (status_after handled) body.old body.new) }
+    ensures answers { MayAnswer body.old.state → OnOk result (Answers (answer_of (fresh_response (status_after handled))) [] body.old body.new) }
 {
-    let status = match handled {
-        Err(error @ (HandleError::Lost | HandleError::Stalled)) => return Err(error),
+    let status = status_after(&handled);
+    match handled {
+        Err(error @ (HandleError::Lost | HandleError::Stalled)) => Err(error),
+        _ => end_request(alloc, body, status),
+    }
+}
+
+// The status of the answer where the handler gave none.
+fn status_after(handled: &Result<(), HandleError>) -> StatusCode
+    ensures { result ≡ status_after handled.now }
+{
+    match handled {
         Err(HandleError::BrokenBody) => StatusCode::BAD_REQUEST,
         _ => StatusCode::INTERNAL_SERVER_ERROR,
-    };
+    }
+}
+
+// Answers the open request with a status alone, where it may be answered. An answer that isn't whole fails.
+fn end_request<S: TimedSource, K: TimedSink>(
+    alloc: Global,
+    body: &mut Body<S, K>,
+    status: StatusCode,
+) -> Result<(), HandleError>
+    ensures follows { Follows body.old body.new }
+    ensures answers { MayAnswer body.old.state → OnOk result (Answers (answer_of (fresh_response status)) [] body.old body.new) }
+{
     if body.connection.can_answer() {
         let head = ResponseHead::new(alloc, status);
         return Answer::new().empty(body, head);

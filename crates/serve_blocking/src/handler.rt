@@ -1,6 +1,7 @@
 //! What a program has to say.
-ghost use Rattle.std.specs.Prelude.{Option, List, ◌∷◌, []};
+ghost use Rattle.std.specs.Prelude.{◌≡◌, false, Option, List, ◌∷◌, [], is_some};
 ghost use Rattle.h1_decoder.specs.declared.decoder.HeadItem.{HeadItem};
+ghost use Rattle.serve_blocking.specs.Judged.{doubt_if};
 ghost use Rattle.serve_blocking.specs.Served.{Follows, Notes};
 
 use crate::{Answer, Body, HandleError, Incoming};
@@ -21,6 +22,8 @@ pub trait Handler {
         body: &mut Body<S, K>,
         answer: Answer,
     ) -> Result<(), HandleError>
+        requires unwanted { body.old.wanted ≡ false }
+        requires doubted { body.old.closes ≡ is_some (doubt_if body.old.judges request.now) }
         ensures handled { Notes (handled self.old) (handled self.new) (request.now ∷ []) }
         ensures follows { Follows body.old body.new };
 

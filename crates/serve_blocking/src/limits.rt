@@ -31,6 +31,11 @@ pub struct Limits {
 }
 
 impl Default for Limits {
+    ghost use Rattle.serve_blocking.specs.Limits.{default_limits};
+    ghost use Rattle.std.specs.Prelude.{◌≡◌};
+
+    ghost is_default = { λ limits. limits ≡ default_limits };
+
     /// 10,000 connections, 1024 bytes in each 30 seconds, bodies of 64 KiB that are dropped, 2 seconds and 256 KiB after
     /// the last answer, 10 seconds at the end, and heads that are judged.
     fn default() -> Limits {

@@ -1,21 +1,15 @@
-use Rattle.std.proofs.Common.{[], None, false, sym, subst}
-use Rattle.model_h1.specs.Answer.{AnswerHead, size_none}
-use Rattle.model_h1.specs.Event as on
-use Rattle.h1_connection.specs.State.{IsAllowed}
-use Rattle.serve_blocking.specs.Served.{Line}
+use Rattle.std.proofs.Common.{ℕ, [], subst}
+use Rattle.std.specs.Prelude.{OnOk}
+use Rattle.http_types.specs.ResponseHead.{fresh_response}
+use Rattle.h1_encoder.specs.Meaning.{answer_of}
+use Rattle.serve_blocking.specs.Acts.{Answers}
+use Rattle.serve_blocking.proofs.Followed.{follows_none}
 use Rattle.serve_blocking.proofs.connection.complete.Goals as goal
 
-pub returns-clause-answers : goal.returns-clause-answers
-returns-clause-answers g c = λ may.
-    let head : AnswerHead = record {
-      status = 0;
-      reason = None;
-      closes = false;
-      keeps_alive = false;
-      upgrades = false;
-      no_chunking = false;
-      in_camel_case = false;
-      headers = [];
-    } in
-    let allowed = subst (λ (l : Line). IsAllowed l.state (on.answer head size_none)) (sym c.body.view_is) (may head size_none) in
-    absurd (cc (c.if-can_answer.false, c.can_answer.ensures head size_none, allowed))
+pub returns-in-Err-Lost-clause-follows : goal.returns-in-Err-Lost-clause-follows
+returns-in-Err-Lost-clause-follows g c = follows_none _
+
+pub returns-in_default-clause-answers : goal.returns-in_default-clause-answers
+returns-in_default-clause-answers g c = λ may.
+    subst (λ (n : ℕ). OnOk c.end_request.result (Answers (answer_of (fresh_response n)) [] c.args.body.now c.end_request.new.body)) c.status_after-status.ensures
+    (c.end_request.ensures.answers may)

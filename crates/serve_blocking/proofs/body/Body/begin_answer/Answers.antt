@@ -5,4 +5,5 @@ use Rattle.serve_blocking.proofs.body.Body.begin_answer.Goals as goal
 
 pub returns-clause-adds : goal.returns-clause-adds
 returns-clause-adds g c =
-    seen_adds _ _ _ _ _ c.self.view_is (quietly_adds _ _ (on.answer _ _) _ c.in_ok-answer.ensures.stands (done_moves (on.answer _ _) refl on.done refl) refl refl refl)
+    seen_adds _ _ _ _ _ c.self.view_is
+    (quietly_adds _ _ (on.answer _ _) on.done c.in_ok-answer.ensures.stands (done_moves (on.answer _ _) refl on.done refl) refl refl refl refl refl tt)

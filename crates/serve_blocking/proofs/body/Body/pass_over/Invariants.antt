@@ -1,5 +1,5 @@
-use Rattle.serve_blocking.specs.Served.{Follows}
+use Rattle.serve_blocking.specs.Acts.{Drops}
 use Rattle.serve_blocking.proofs.body.Body.pass_over.Given as goal
 
 abbrev pub invariant-loop : goal.invariant-loop
-invariant-loop g l = record { follows : Follows l.initial.self l.self }
+invariant-loop g l = record { drops : Drops l.initial.self l.self }

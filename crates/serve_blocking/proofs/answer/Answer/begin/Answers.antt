@@ -1,0 +1,48 @@
+use Rattle.serve_blocking.proofs.Answered.{begins_follow}
+use Rattle.serve_blocking.proofs.Dropped.{drops_then, drops_follow, drops_equal, waits_drop}
+use Rattle.serve_blocking.proofs.Results.{on_err}
+use Rattle.serve_blocking.proofs.Settled.{begins_here}
+use Rattle.serve_blocking.proofs.answer.Answer.begin.Goals as goal
+
+pub returns-in_err-settle-clause-follows : goal.returns-in_err-settle-clause-follows
+returns-in_err-settle-clause-follows g c = drops_follow _ _ c.in_err-settle.ensures.drops
+
+pub returns-in_err-settle-clause-none : goal.returns-in_err-settle-clause-none
+returns-in_err-settle-clause-none g c = on_err c.from_residual.result c.in_err-settle.ensures.drops
+
+pub returns-in_err-tick-clause-follows : goal.returns-in_err-tick-clause-follows
+returns-in_err-tick-clause-follows g c = drops_follow _ _ (drops_then _ _ _ c.in_ok-settle.ensures.drops (waits_drop _ _ c.in_err-tick.ensures.waits))
+
+pub returns-in_err-tick-clause-none : goal.returns-in_err-tick-clause-none
+returns-in_err-tick-clause-none g c =
+    on_err c.from_residual-in_err-tick.result (drops_then _ _ _ c.in_ok-settle.ensures.drops (waits_drop _ _ c.in_err-tick.ensures.waits))
+
+pub returns-then-not-can_answer-clause-follows : goal.returns-then-not-can_answer-clause-follows
+returns-then-not-can_answer-clause-follows g c =
+    drops_follow _ _ (drops_then _ _ _ c.in_ok-settle.ensures.drops (waits_drop _ _ c.in_ok-tick.ensures.waits))
+
+pub returns-then-not-can_answer-clause-none : goal.returns-then-not-can_answer-clause-none
+returns-then-not-can_answer-clause-none g c = drops_then _ _ _ c.in_ok-settle.ensures.drops (waits_drop _ _ c.in_ok-tick.ensures.waits)
+
+pub returns-in_err-begin_answer-clause-follows : goal.returns-in_err-begin_answer-clause-follows
+returns-in_err-begin_answer-clause-follows g c =
+    drops_follow _ _
+    (drops_then _ _ _ (drops_then _ _ _ c.in_ok-settle.ensures.drops (waits_drop _ _ c.in_ok-tick.ensures.waits))
+    (drops_equal _ _ c.in_err-begin_answer.ensures.err))
+
+pub returns-in_err-begin_answer-clause-none : goal.returns-in_err-begin_answer-clause-none
+returns-in_err-begin_answer-clause-none g c =
+    on_err c.from_residual-in_err-begin_answer.result
+    (drops_then _ _ _ (drops_then _ _ _ c.in_ok-settle.ensures.drops (waits_drop _ _ c.in_ok-tick.ensures.waits))
+    (drops_equal _ _ c.in_err-begin_answer.ensures.err))
+
+pub returns-clause-follows : goal.returns-clause-follows
+returns-clause-follows g c =
+    begins_follow _ _ _ _
+    (begins_here _ _ _ _ _ _ _ c.in_ok-settle.ensures.says c.in_ok-settle.ensures.drops c.in_ok-settle.ensures.kept c.in_ok-settle.ensures.passed
+    c.in_ok-tick.ensures.waits c.in_ok-begin_answer.ensures.adds)
+
+pub returns-clause-begins : goal.returns-clause-begins
+returns-clause-begins g c =
+    begins_here _ _ _ _ _ _ _ c.in_ok-settle.ensures.says c.in_ok-settle.ensures.drops c.in_ok-settle.ensures.kept c.in_ok-settle.ensures.passed
+    c.in_ok-tick.ensures.waits c.in_ok-begin_answer.ensures.adds

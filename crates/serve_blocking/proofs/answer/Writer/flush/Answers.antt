@@ -1,0 +1,8 @@
+use Rattle.serve_blocking.proofs.Waited.{waits_follow}
+use Rattle.serve_blocking.proofs.answer.Writer.flush.Goals as goal
+
+pub returns-in-Ok-clause-follows : goal.returns-in-Ok-clause-follows
+returns-in-Ok-clause-follows g c = waits_follow _ _ c.flush.ensures.waits
+
+pub returns-in-Err-clause-follows : goal.returns-in-Err-clause-follows
+returns-in-Err-clause-follows g c = waits_follow _ _ c.flush.ensures.waits

@@ -1,5 +1,0 @@
-use Rattle.serve_blocking.specs.Served.{Follows}
-use Rattle.serve_blocking.proofs.body.Body.read.Given as goal
-
-abbrev pub invariant-loop : goal.invariant-loop
-invariant-loop g l = record { follows : Follows l.initial.self l.self }
