@@ -1,0 +1,523 @@
+-- What a codec gives is the beginning of what is heard.
+use Rattle.std.proofs.Common.{◌≡◌, ◌⊎◌, inl, inr, ℕ, ◌<◌, ◌≤◌, eqb, Bool, true, false, List, [], ◌∷◌, ◌++◌, length, drop, slice_range, refl, sym, ap, ◌∙◌, subst, arith, append-nil, append_assoc, length-append}
+use Rattle.std.proofs.lemmas.Bool.{cond_both, cases_lt, eq-eqb, false≢true}
+use Rattle.std.proofs.lemmas.List.{take-append-le, drop-append-le}
+use Rattle.std.specs.Prelude.{⊤, Option, Some, None, Result, Ok, Err, IfErr}
+use Rattle.http_types.specs.declared.error.ParseError.{ParseError}
+use Rattle.http_types.specs.declared.error.ParseError.TheVariants as errors
+use Rattle.http_types.specs.declared.error.ParseError.TheVariants.{NoMemory}
+use Rattle.model_h1.specs.HeadPiece.{IsHeadPiece, HasNoHeadPiece}
+use Rattle.model_h1.specs.Request.{BodyKind, no_body, fixed_body, chunked_body, raw_body, Fault, too_large}
+use Rattle.model_h1.specs.Reading.{Ending, goes_on, is_broken, ends_before}
+use Rattle.model_h1.proofs.HeadPieceLemmas.{head_piece_unique, head_piece_append, slice_range-append}
+use Rattle.model_state.specs.Kept.{Rest, no_rest, fixed_rest}
+use Rattle.h1_decoder.specs.Refusal.{UnlessNoMemory, fault_of}
+use Rattle.h1_payload.specs.Decoding.{Decoding, reading_of, IsDecodedBy}
+use Rattle.h1_payload.specs.declared.item.DecodeError.{DecodeError}
+use Rattle.h1_payload.specs.declared.item.DecodeError.TheVariants.{Invalid}
+use Rattle.h1_payload.specs.declared.item.PayloadItem.{PayloadItem}
+use Rattle.h1_payload.specs.declared.item.PayloadItem.TheVariants as items
+use Rattle.h1_codec.specs.Kind.{Reading, says_head, says_fault, Kind, IsOneReading}
+use Rattle.h1_codec.specs.Heads.{HasSeen, payload_of, IsNextItem, IsWaiting, IsTooLong, Stop, waits, refused, Stops}
+use Rattle.h1_codec.specs.FramedMessages.{Closing, no_end, an_end, a_fault, closing_of, chunk_in_front, end_in_front, Part, no_part, Messages, given, nothing, body_of, After, Standing, Looked}
+use Rattle.h1_codec.specs.Steps.{message_of, open_after, IsOpenStep, IsIdleStep, IsStepFrom, IsStep}
+use Rattle.h1_codec.specs.declared.framed_message.Message.{Message}
+use Rattle.h1_codec.specs.declared.payload_type.PayloadType.{PayloadType}
+use Rattle.h1_codec.specs.declared.framed_message.Message.TheVariants.{Item, Chunk}
+use Rattle.h1_codec.proofs.GoingOn.{next_append}
+use Rattle.h1_codec.proofs.Refusals.{none_too_long, stops_append, one_stop}
+use Rattle.model_codecs.specs.Acts.{Act, comes, asked, bytes_came, told, EndsWaiting, HasAnswered, IsRun}
+use Rattle.model_codecs.specs.Heard.{part_read, IsHeardPart, AreHeard, all_given, given_closing, IsGivenOf, AreFirstOf, AreAllOf, EndsBroken, HaveCauses}
+use Rattle.model_codecs.proofs.Standings.{closes_on, seen_behind, seen_inside, looked_idle, looked_inside, stays_idle, stays_lacking, is_lacking}
+use Rattle.model_codecs.proofs.Stuck.{causes_map, after_item, after_none, after_error, after_bytes, AreStuck, stuck_error, broken_stuck, one_next, refused_stuck}
+use Rattle.model_codecs.proofs.Tells.{IsLeft, BodyTells, gave, waited, has_ended, broke, lacked, end_message, end_open, body_tells}
+
+-- ---- small facts
+
+broken_closes : (e : Ending) → closing_of e ≡ a_fault → e ≡ is_broken
+broken_closes goes_on is = cc is
+broken_closes is_broken is = refl
+broken_closes (ends_before left) is = cc is
+
+-- a body of which nothing was read isn't broken, and something is left of it
+abbrev IsWholeBody : Option Decoding → Type 0
+IsWholeBody None = ⊤
+IsWholeBody (Some d) = (d.is_broken ≡ false) × IsLeft d.rest
+
+sound_whole : (is_bare : Bool) (payload : PayloadType) (kind : BodyKind) → payload ≡ payload_of kind → IsWholeBody (body_of is_bare payload)
+sound_whole is_bare payload kind is = subst (λ (p : PayloadType). IsWholeBody (body_of is_bare p)) (sym is) (by_kind is_bare kind)
+  where
+    by_kind : (is_bare : Bool) (kind : BodyKind) → IsWholeBody (body_of is_bare (payload_of kind))
+    by_kind true kind = tt
+    by_kind false no_body = tt
+    by_kind false (fixed_body n) =
+        cond_both (eqb n 0) no_rest (fixed_rest n) (λ (r : Rest). (false ≡ false) × IsLeft r) (λ e. (refl, tt))
+        (λ e. (refl, some n e))
+      where
+        some : (m : ℕ) → eqb m 0 ≡ false → 0 < m
+        some m e = elim (cases_lt 0 m) [ inl more ↦ more | inr none ↦ let zero_is : eqb m 0 ≡ true = eq-eqb m 0 (omega (arith, none)) in absurd (false≢true (sym e ∙ zero_is)) ]
+    by_kind false chunked_body = (refl, tt)
+    by_kind false raw_body = (refl, tt)
+
+module _ {I : Type 0} (k : Kind I) (one : IsOneReading k) (is_bare : Bool) (limit : ℕ) where
+  abbrev H : Type 0
+  H = k.Head × Part
+
+  -- what these bytes say
+  abbrev Says : List ℕ → List H → Option Fault → Type 0
+  Says bytes hs stop = AreHeard k is_bare limit bytes hs stop
+
+  -- ---- what is next
+
+  -- a head of what is heard; or the rest of a body, how that ends, and what is heard behind it
+  pub data Expect : Type 0 where
+    between : List H → Option Fault → Expect
+    inside : List ℕ → Ending → List H → Option Fault → Expect
+
+  abbrev whole : List ℕ → Ending → Part
+  whole left ending = record { bytes = left; closing = closing_of ending }
+
+  abbrev others_of : Expect → List H
+  others_of (between hs stop) = hs
+  others_of (inside left ending hs stop) = hs
+
+  abbrev stop_of : Expect → Option Fault
+  stop_of (between hs stop) = stop
+  stop_of (inside left ending hs stop) = stop
+
+  -- the codec stands there, with these bytes unread and these to come
+  abbrev pub Stands : Expect → Standing → List ℕ → List ℕ → Type 0
+  Stands (between hs stop) st bytes future =
+      (st.body ≡ None) × (st.search.limit ≡ limit) × ((b : List ℕ) → HasSeen st.search (bytes ++ b)) × Says (bytes ++ future) hs stop
+  Stands (inside left ending hs stop) st bytes future =
+      (d : Decoding) × (st.body ≡ Some d) × (st.search.limit ≡ limit) × ((b : List ℕ) → HasSeen st.search b) × (d.is_broken ≡ false) × IsLeft d.rest
+      × ((reading_of d.rest (bytes ++ future)).body ≡ left) × ((reading_of d.rest (bytes ++ future)).ending ≡ ending)
+      × After ending (λ l. Says l hs stop) ((hs ≡ []) × (stop ≡ None))
+
+  -- ---- what is given from there
+
+  abbrev FirstFrom : Expect → Messages I → Type 0
+  FirstFrom (between hs stop) t = (t.part ≡ no_part) × AreFirstOf k is_bare limit t.messages hs
+  FirstFrom (inside left ending hs stop) t = IsGivenOf k is_bare limit t.part (whole left ending) (λ ms. AreFirstOf k is_bare limit ms hs) t.messages
+
+  abbrev PartFrom : Expect → Messages I → Type 0
+  PartFrom (between hs stop) t = ⊤
+  PartFrom (inside left ending hs stop) t = t.part ≡ all_given (whole left ending)
+
+  -- all is given but for this
+  abbrev AllFrom : Expect → Messages I → List H → Type 0
+  AllFrom e t behind = (front : List H) × PartFrom e t × (others_of e ≡ front ++ behind) × AreAllOf k is_bare limit t.messages front
+
+  abbrev BrokenFrom : Expect → Type 0
+  BrokenFrom (between hs stop) = EndsBroken k is_bare limit hs
+  BrokenFrom (inside left ending hs stop) = ((hs ≡ []) × (ending ≡ is_broken)) ⊎ EndsBroken k is_bare limit hs
+
+  -- behind all that was given stand as many bytes as the limit, in which no head ends
+  abbrev LongFrom : Expect → Messages I → Type 0
+  LongFrom e t = (behind : List H) × (text : List ℕ) × AllFrom e t behind × Says text behind (stop_of e) × IsTooLong limit text
+
+  abbrev CauseFrom : Expect → Messages I → ParseError → Type 0
+  CauseFrom e t error =
+      (AllFrom e t [] × (((error ≡ errors.Chunk) × BrokenFrom e) ⊎ (stop_of e ≡ Some (fault_of error)))) ⊎ (LongFrom e t × (fault_of error ≡ too_large))
+
+  pub record Gives (e : Expect) (acts : List (Act I)) (more : List ℕ) : Type 0 where
+    pub stop : (told acts nothing).stop ≡ waits
+    pub first : FirstFrom e (told acts nothing)
+    pub causes : HaveCauses (CauseFrom e (told acts nothing)) acts
+    pub all : more ≡ [] → EndsWaiting acts → AllFrom e (told acts nothing) [] × (stop_of e ≡ None) × ¬ (BrokenFrom e)
+
+  -- ---- where nothing is given
+
+  first_of_none : (e : Expect) → FirstFrom e nothing
+  first_of_none (between hs stop) = (refl, tt)
+  first_of_none (inside left ending hs stop) = inr (refl, (left, refl), refl)
+
+  no_acts : (e : Expect) (more : List ℕ) → Gives e [] more
+  no_acts e more = record { stop = refl; first = first_of_none e; causes = tt; all = λ none waiting. absurd waiting }
+
+  -- the codec is stuck, and this is why
+  is_stuck : (e : Expect) (P : ParseError → Type 0) (acts : List (Act I)) (more : List ℕ) → AreStuck k one is_bare limit P acts → ((x : ParseError) → P x → CauseFrom e nothing x) → Gives e acts more
+  is_stuck e P acts more x why = record {
+    stop = ap (λ (t : Messages I). t.stop) x.none;
+    first = subst (FirstFrom e) (sym x.none) (first_of_none e);
+    causes = subst (λ (t : Messages I). HaveCauses (CauseFrom e t) acts) (sym x.none) (causes_map P (CauseFrom e nothing) acts why x.causes);
+    all = λ none waiting. absurd (x.never waiting);
+  }
+
+  -- ---- acts in front
+
+  -- nothing is answered
+  none_answered : (e : Expect) (acts : List (Act I)) (more : List ℕ) → (acts ≡ [] → more ≡ [] → AllFrom e nothing [] × (stop_of e ≡ None) × ¬ (BrokenFrom e))
+      → Gives e acts more → Gives e (asked (Ok None) ∷ acts) more
+  none_answered e [] more all x = record { stop = x.stop; first = x.first; causes = tt; all = λ none waiting. all refl none }
+  none_answered e (act ∷ acts) more all x = record { stop = x.stop; first = x.first; causes = x.causes; all = λ none waiting. x.all none (after_none act acts waiting) }
+
+  -- memory ran out
+  lacks_answered : (e : Expect) (error : ParseError) (acts : List (Act I)) (more : List ℕ) → error ≡ NoMemory → Gives e acts more → Gives e (asked (Err error) ∷ acts) more
+  lacks_answered e error acts more is x =
+      record { stop = x.stop; first = x.first; causes = (λ known. absurd (known is), x.causes); all = λ none waiting. x.all none (after_error error acts waiting) }
+
+  -- bytes come
+  came_first : (e : Expect) (new : List ℕ) (acts : List (Act I)) (more : List ℕ) → Gives e acts more → Gives e (comes new ∷ acts) more
+  came_first e new acts more x =
+      record { stop = x.stop; first = x.first; causes = x.causes; all = λ none waiting. x.all none (after_bytes new acts waiting) }
+
+  -- An item, and what is given behind it: where each part of that is one of what is given with the item.
+  item_in_front : (old new : Expect) (item : Message I) (acts : List (Act I)) (more : List ℕ) → stop_of old ≡ stop_of new
+      → (FirstFrom new (told acts nothing) → FirstFrom old (given item (told acts nothing)))
+      → ((behind : List H) → AllFrom new (told acts nothing) behind → AllFrom old (given item (told acts nothing)) behind)
+      → (BrokenFrom new → BrokenFrom old) → (BrokenFrom old → BrokenFrom new) → (given item (told acts nothing)).stop ≡ (told acts nothing).stop
+      → Gives new acts more → Gives old (asked (Ok (Some item)) ∷ acts) more
+  item_in_front old new item acts more same first all breaks back stays x = record {
+    stop = stays ∙ x.stop;
+    first = first x.first;
+    causes = causes_map (CauseFrom new (told acts nothing)) (CauseFrom old (given item (told acts nothing))) acts why x.causes;
+    all = λ none waiting.
+        let y = x.all none (after_item item acts waiting) in
+        (all [] y.0, same ∙ y.1, λ broken. y.2 (back broken));
+  }
+    where
+      why : (error : ParseError) → CauseFrom new (told acts nothing) error → CauseFrom old (given item (told acts nothing)) error
+      why error (inl (given_all, inl (is, broken))) = inl (all [] given_all, inl (is, breaks broken))
+      why error (inl (given_all, inr is)) = inl (all [] given_all, inr (same ∙ is))
+      why error (inr ((behind, text, given_all, says, long), is)) =
+          inr ((behind, text, all behind given_all, subst (Says text behind) (sym same) says, long), is)
+
+  -- ---- items
+
+  -- the last of these is broken exactly where the last of those behind the first is
+  broken_behind : (h : H) (hs : List H) → EndsBroken k is_bare limit hs → EndsBroken k is_bare limit (h ∷ hs)
+  broken_behind h [] broken = absurd broken
+  broken_behind h (n ∷ hs) broken = broken
+
+  broken_last : (h : H) (hs : List H) → EndsBroken k is_bare limit (h ∷ hs) → ((hs ≡ []) × (h.1.closing ≡ a_fault)) ⊎ EndsBroken k is_bare limit hs
+  broken_last h [] broken = inl (refl, broken)
+  broken_last h (n ∷ hs) broken = inr broken
+
+  -- a head that has no body
+  bare_given : (h : H) (hs : List H) (stop : Option Fault) (i : I) (acts : List (Act I)) (more : List ℕ) → k.says i h.0 → h.1 ≡ no_part
+      → Gives (between hs stop) acts more → Gives (between (h ∷ hs) stop) (asked (Ok (Some (Item i))) ∷ acts) more
+  bare_given h hs stop i acts more says none x =
+      let t = told acts nothing in
+      let part : t.part ≡ all_given h.1 = x.first.0 ∙ ap all_given (sym none) in
+      item_in_front (between (h ∷ hs) stop) (between hs stop) (Item i) acts more refl
+      (λ first. (refl, (says, inl (part, first.1))))
+      (λ behind (front, unit, are, all). (h ∷ front, tt, ap (λ (l : List H). h ∷ l) are, (says, part, all)))
+      (broken_behind h hs)
+      (λ broken. elim (broken_last h hs broken) [
+        | inl (last, wrong) ↦ let never : no_end ≡ a_fault = sym (ap (λ (p : Part). p.closing) none) ∙ wrong in absurd (cc never)
+        | inr later ↦ later
+      ])
+      refl x
+
+  -- a head with a body
+  head_given : (h : H) (left : List ℕ) (ending : Ending) (hs : List H) (stop : Option Fault) (i : I) (acts : List (Act I)) (more : List ℕ) → k.says i h.0
+      → h.1 ≡ whole left ending → Gives (inside left ending hs stop) acts more → Gives (between (h ∷ hs) stop) (asked (Ok (Some (Item i))) ∷ acts) more
+  head_given h left ending hs stop i acts more says is x =
+      let t = told acts nothing in
+      item_in_front (between (h ∷ hs) stop) (inside left ending hs stop) (Item i) acts more refl
+      (λ first. (refl, (says, subst (λ (p : Part). IsGivenOf k is_bare limit t.part p (λ ms. AreFirstOf k is_bare limit ms hs) t.messages) (sym is) first)))
+      (λ behind (front, part, are, all). (h ∷ front, tt, ap (λ (l : List H). h ∷ l) are, (says, part ∙ ap all_given (sym is), all)))
+      (λ broken. breaks broken)
+      (λ broken. elim (broken_last h hs broken) [
+        | inl (last, wrong) ↦ inl (last, broken_closes ending (sym (ap (λ (p : Part). p.closing) is) ∙ wrong))
+        | inr later ↦ inr later
+      ])
+      refl x
+    where
+      breaks : BrokenFrom (inside left ending hs stop) → EndsBroken k is_bare limit (h ∷ hs)
+      breaks (inl (last, wrong)) =
+          subst (λ (l : List H). EndsBroken k is_bare limit (h ∷ l)) (sym last) (ap (λ (p : Part). p.closing) is ∙ ap closing_of wrong)
+      breaks (inr later) = broken_behind h hs later
+
+  -- bytes of a body
+  bytes_given : (b left : List ℕ) (ending : Ending) (hs : List H) (stop : Option Fault) (acts : List (Act I)) (more : List ℕ) → 0 < length b
+      → Gives (inside left ending hs stop) acts more → Gives (inside (b ++ left) ending hs stop) (asked (Ok (Some (Chunk (Some b)))) ∷ acts) more
+  bytes_given b left ending hs stop acts more some x =
+      let t = told acts nothing in
+      item_in_front (inside (b ++ left) ending hs stop) (inside left ending hs stop) (Chunk (Some b)) acts more refl
+      (λ first. first_more t.part first) (λ behind (front, part, are, all). (front, whole_more t.part part, are, all)) (λ broken. broken) (λ broken. broken) refl x
+    where
+      whole_more : (part : Part) → part ≡ all_given (whole left ending)
+          → ◌≡◌ {A = Part} (record { bytes = b ++ part.bytes; closing = chunk_in_front b part.closing }) (all_given (whole (b ++ left) ending))
+      whole_more part is =
+          ap (λ (p : Part). record { bytes = b ++ p.bytes; closing = chunk_in_front b p.closing }) is
+          ∙ ap (λ (c : Closing). record { bytes = b ++ left; closing = c }) (closes_on b (given_closing (closing_of ending)) some)
+
+      first_more : (part : Part) → IsGivenOf k is_bare limit part (whole left ending) (λ ms. AreFirstOf k is_bare limit ms hs) (told acts nothing).messages
+          → IsGivenOf k is_bare limit (record { bytes = b ++ part.bytes; closing = chunk_in_front b part.closing }) (whole (b ++ left) ending)
+          (λ ms. AreFirstOf k is_bare limit ms hs) (told acts nothing).messages
+      first_more part (inl (is, others)) = inl (whole_more part is, others)
+      first_more part (inr (goes, (more_bytes, begins), none)) =
+          inr (closes_on b part.closing some ∙ goes, (more_bytes, ap (λ (l : List ℕ). b ++ l) begins ∙ sym (append_assoc b part.bytes more_bytes)), none)
+
+  -- the end of a body
+  end_given : (left : List ℕ) (hs : List H) (stop : Option Fault) (acts : List (Act I)) (more : List ℕ) → Gives (between hs stop) acts more
+      → Gives (inside [] (ends_before left) hs stop) (asked (Ok (Some (Chunk None))) ∷ acts) more
+  end_given left hs stop acts more x =
+      let ends : ◌≡◌ {A = Part} (record { bytes = []; closing = end_in_front (told acts nothing).part.bytes (told acts nothing).part.closing }) (record { bytes = []; closing = an_end }) =
+      ap (λ (p : Part). record { bytes = []; closing = end_in_front p.bytes p.closing }) x.first.0 in
+      item_in_front (inside [] (ends_before left) hs stop) (between hs stop) (Chunk None) acts more refl
+      (λ first. inl (ends, first.1)) (λ behind (front, unit, are, all). (front, ends, are, all)) (λ broken. inr broken)
+      (λ broken. elim broken [
+        | inl (last, wrong) ↦ let never : ◌≡◌ {A = Ending} (ends_before left) is_broken = wrong in absurd (cc never)
+        | inr later ↦ later
+      ])
+      refl x
+
+  -- ---- one answer
+
+  -- what is given behind it is given as it is heard, whatever is expected there
+  abbrev Others : List (Act I) → List ℕ → Standing → List ℕ → Type 0
+  Others acts more last rest = (e : Expect) (st : Standing) (bytes : List ℕ) → Stands e st bytes (bytes_came acts ++ more)
+      → IsRun k is_bare st bytes acts last rest → Gives e acts more
+
+  -- a codec that is as before stands where it stood
+  same_stands : (e : Expect) (old new : Standing) (bytes behind future : List ℕ) → new ≡ old → behind ≡ bytes → Stands e old bytes future → Stands e new behind future
+  same_stands e old new bytes behind future same stays x =
+      subst (λ (s : Standing). Stands e s behind future) (sym same) (subst (λ (l : List ℕ). Stands e old l future) (sym stays) x)
+
+  module _ (acts : List (Act I)) (more : List ℕ) (last : Standing) (rest : List ℕ) (go : Others acts more last rest) (st next : Standing) (bytes behind : List ℕ)
+      (run : IsRun k is_bare next behind acts last rest) where
+    abbrev future : List ℕ
+    future = bytes_came acts ++ more
+
+    no_more : acts ≡ [] → more ≡ [] → future ≡ []
+    no_more none nothing_more = ap (λ (l : List (Act I)). bytes_came l ++ more) none ∙ nothing_more
+
+    -- ---- while no body is open
+
+    module _ (none : st.body ≡ None) (limit_is : st.search.limit ≡ limit) (seen : (b : List ℕ) → HasSeen st.search (bytes ++ b)) where
+      now_seen : HasSeen st.search bytes
+      now_seen = subst (HasSeen st.search) (append-nil bytes) (seen [])
+
+      -- what is refused now is refused where all bytes are there
+      refused_so : (hs : List H) (stop : Option Fault) (fault : Fault) → Stops k limit bytes (refused fault) → Says (bytes ++ future) hs stop
+          → (error : ParseError) → fault_of error ≡ fault → CauseFrom (between hs stop) nothing error
+      refused_so hs stop fault (inl (long, is)) says error named =
+          let longer : IsTooLong limit (bytes ++ future) =
+          (omega (arith, long.0, length-append bytes future), subst HasNoHeadPiece (sym (take-append-le limit bytes future long.0)) long.1) in
+          inr ((hs, bytes ++ future, ([], tt, refl, tt), says, longer), named ∙ is)
+      refused_so [] None fault (inr (s, e, found, reading)) says error named = absurd (says s e (head_piece_append bytes future s e found.piece))
+      refused_so [] (Some f) fault (inr (s, e, found, reading)) (s', e', piece, inl (long, large)) error named =
+          let same = (head_piece_unique (bytes ++ future) s e s' e' (head_piece_append bytes future s e found.piece) piece).1 in
+          absurd (omega (arith, found.within, long, same))
+      refused_so [] (Some f) fault (inr (s, e, found, reading)) (s', e', piece, inr reading') error named =
+          let same : ◌≡◌ {A = Reading k.Head} (says_fault fault) (says_fault f) =
+          (one_next k one is_bare limit bytes future s e s' e' (says_fault fault) (says_fault f) found.piece piece reading reading').0 in
+          let faults : fault ≡ f = cc same in
+          inl (([], tt, refl, tt), inr (ap Some (sym faults ∙ sym named)))
+      refused_so (h ∷ hs) stop fault (inr (s, e, found, reading)) (s', e', piece, reading', part) error named =
+          let same : ◌≡◌ {A = Reading k.Head} (says_fault fault) (says_head h.0) =
+          (one_next k one is_bare limit bytes future s e s' e' (says_fault fault) (says_head h.0) found.piece piece reading reading').0 in
+          absurd (cc same)
+
+      -- an error
+      idle_error : (hs : List H) (stop : Option Fault) (error : ParseError) → Says (bytes ++ future) hs stop → HasAnswered k is_bare st bytes (Err error) next behind
+          → IsIdleStep k st.search bytes (Err error) next.body behind → Gives (between hs stop) (asked (Err error) ∷ acts) more
+      idle_error hs stop error says x step = elim (is_lacking error) [
+        | inl lacks ↦ lacks_answered (between hs stop) error acts more lacks
+            (go (between hs stop) next behind
+            (same_stands (between hs stop) st next bytes behind future (stays_idle st.body error st next none x.left.1) x.left.0 (none, limit_is, seen, says)) run)
+        | inr known ↦
+            let stops : Stops k limit bytes (refused (fault_of error)) = subst (λ (m : ℕ). Stops k m bytes (refused (fault_of error))) limit_is (step now_seen known) in
+            let stays : IsRun k is_bare st bytes acts last rest =
+            subst (λ (s : Standing). IsRun k is_bare s bytes acts last rest) (stays_idle st.body error st next none x.left.1)
+            (subst (λ (l : List ℕ). IsRun k is_bare next l acts last rest) x.left.0 run) in
+            let stuck = refused_stuck k one is_bare limit (fault_of error) acts st bytes last rest none limit_is seen stops stays in
+            is_stuck (between hs stop) (λ e. fault_of e ≡ fault_of error) (asked (Err error) ∷ acts) more
+            (stuck_error k one is_bare limit (λ e. fault_of e ≡ fault_of error) error acts (λ known. refl) stuck)
+            (refused_so hs stop (fault_of error) stops says)
+      ]
+
+      -- no item
+      idle_none : (hs : List H) (stop : Option Fault) → Says (bytes ++ future) hs stop → HasAnswered k is_bare st bytes (Ok None) next behind
+          → IsIdleStep k st.search bytes (Ok None) next.body behind → Gives (between hs stop) (asked (Ok None) ∷ acts) more
+      idle_none hs stop says x step =
+          let waiting : IsWaiting limit bytes = subst (λ (m : ℕ). IsWaiting m bytes) limit_is (step.0 now_seen) in
+          let seen' = seen_behind next.body next.search behind step.1 (x.seen (looked_idle st.body st.search bytes none seen)) in
+          let there : Stands (between hs stop) next behind future =
+          (step.1, x.limit ∙ limit_is, seen', subst (λ (l : List ℕ). Says (l ++ future) hs stop) (sym step.2) says) in
+          none_answered (between hs stop) acts more
+          (λ no_acts nothing_more. nothing_there hs stop (subst (λ (l : List ℕ). Says l hs stop) (all_bytes (no_more no_acts nothing_more)) says) waiting)
+          (go (between hs stop) next behind there run)
+        where
+          all_bytes : future ≡ [] → bytes ++ future ≡ bytes
+          all_bytes nothing = ap (λ (l : List ℕ). bytes ++ l) nothing ∙ append-nil bytes
+
+          nothing_there : (hs : List H) (stop : Option Fault) → Says bytes hs stop → IsWaiting limit bytes
+              → AllFrom (between hs stop) nothing [] × (stop ≡ None) × ¬ (BrokenFrom (between hs stop))
+          nothing_there [] None says waiting = (([], tt, refl, tt), refl, λ broken. broken)
+          nothing_there [] (Some f) (s, e, piece, why) waiting = absurd (waiting.0 s e piece)
+          nothing_there (h ∷ hs) stop (s, e, piece, reading, part) waiting = absurd (waiting.0 s e piece)
+
+      -- a head
+      module _ (i : I) (x : HasAnswered k is_bare st bytes (Ok (Some (Item i))) next behind) where
+        looked : Looked st bytes
+        looked = looked_idle st.body st.search bytes none seen
+
+        idle_item : (hs : List H) (stop : Option Fault) → Says (bytes ++ future) hs stop → Gives (between hs stop) (asked (Ok (Some (Item i))) ∷ acts) more
+        idle_item hs stop says = by_heard hs stop says (x.item looked)
+          where
+            by_heard : (hs : List H) (stop : Option Fault) → Says (bytes ++ future) hs stop
+                → (kind : PayloadType) × (next.body ≡ body_of is_bare kind) × IsNextItem k st.search.limit bytes behind (i, kind)
+                → Gives (between hs stop) (asked (Ok (Some (Item i))) ∷ acts) more
+            by_heard [] None says (kind, opens, (s, e, found, is, left)) = absurd (says s e (head_piece_append bytes future s e found.piece))
+            by_heard [] (Some f) (s', e', piece, inl (long, large)) (kind, opens, (s, e, found, is, left)) =
+                let same = (head_piece_unique (bytes ++ future) s e s' e' (head_piece_append bytes future s e found.piece) piece).1 in
+                absurd (omega (arith, found.within, limit_is, long, same))
+            by_heard [] (Some f) (s', e', piece, inr reading') (kind, opens, (s, e, found, is, left)) =
+                let same : ◌≡◌ {A = Reading k.Head} (says_head is.head) (says_fault f) =
+                (one_next k one is_bare limit bytes future s e s' e' (says_head is.head) (says_fault f) found.piece piece is.reading reading').0 in
+                absurd (cc same)
+            by_heard (h ∷ hs) stop (s', e', piece, reading', part) (kind, opens, (s, e, found, is, left)) =
+                let both = one_next k one is_bare limit bytes future s e s' e' (says_head is.head) (says_head h.0) found.piece piece is.reading reading' in
+                let same : ◌≡◌ {A = Reading k.Head} (says_head is.head) (says_head h.0) = both.0 in
+                let head : is.head ≡ h.0 = cc same in
+                let body_is : next.body ≡ body_of is_bare (payload_of (k.body h.0)) =
+                opens ∙ ap (body_of is_bare) (is.payload ∙ ap (λ (y : k.Head). payload_of (k.body y)) head) in
+                let text_is : drop e' (bytes ++ future) ≡ behind ++ future =
+                ap (λ (n : ℕ). drop n (bytes ++ future)) (sym both.1) ∙ drop-append-le e bytes future found.piece.in_range ∙ ap (λ (l : List ℕ). l ++ future) (sym left) in
+                let said = subst (λ (l : List ℕ). IsHeardPart (body_of is_bare (payload_of (k.body h.0))) l h.1 (λ y. Says y hs stop) ((hs ≡ []) × (stop ≡ None))) text_is part in
+                opened h hs stop (subst (k.says i) head is.says) (body_of is_bare (payload_of (k.body h.0))) body_is (sound_whole is_bare (payload_of (k.body h.0)) (k.body h.0) refl) said
+
+            opened : (h : H) (hs : List H) (stop : Option Fault) → k.says i h.0 → (body : Option Decoding) → next.body ≡ body → IsWholeBody body
+                → IsHeardPart body (behind ++ future) h.1 (λ y. Says y hs stop) ((hs ≡ []) × (stop ≡ None))
+                → Gives (between (h ∷ hs) stop) (asked (Ok (Some (Item i))) ∷ acts) more
+            opened h hs stop says None is sound (part, on) =
+                bare_given h hs stop i acts more says part
+                (go (between hs stop) next behind (is, x.limit ∙ limit_is, seen_behind next.body next.search behind is (x.seen looked), on) run)
+            opened h hs stop says (Some d) is sound (part, on) =
+                let r = reading_of d.rest (behind ++ future) in
+                head_given h r.body r.ending hs stop i acts more says part
+                (go (inside r.body r.ending hs stop) next behind
+                (d, is, x.limit ∙ limit_is, seen_inside next.body d next.search behind is (x.seen looked), sound.0, sound.1, refl, refl, on) run)
+
+    -- ---- while a body is open
+
+    module _ (left : List ℕ) (ending : Ending) (hs : List H) (stop : Option Fault) (d : Decoding) (is : st.body ≡ Some d) (limit_is : st.search.limit ≡ limit)
+        (seen : (b : List ℕ) → HasSeen st.search b) (sound : d.is_broken ≡ false) (is_left : IsLeft d.rest)
+        (body_is : (reading_of d.rest (bytes ++ future)).body ≡ left) (ending_is : (reading_of d.rest (bytes ++ future)).ending ≡ ending)
+        (on : After ending (λ l. Says l hs stop) ((hs ≡ []) × (stop ≡ None))) where
+      abbrev Answered : Result (Option (Message I)) ParseError → Type 0
+      Answered answer = HasAnswered k is_bare st bytes answer next behind
+
+      abbrev Given : Result (Option (Message I)) ParseError → Type 0
+      Given answer = Gives (inside left ending hs stop) (asked answer ∷ acts) more
+
+      by_item : (answer : Result (Option (Message I)) ParseError) (item : Result (Option PayloadItem) DecodeError) (new : Decoding) → Answered answer
+          → answer ≡ message_of item → next.body ≡ open_after item new → BodyTells d bytes future item new behind → Given answer
+      by_item answer item new x same opens (gave given_bytes item_is some sound' is_left' body ending') =
+          let answer_is : answer ≡ Ok (Some (Chunk (Some given_bytes))) = same ∙ ap message_of item_is in
+          let open_is : next.body ≡ Some new = opens ∙ ap (λ (y : Result (Option PayloadItem) DecodeError). open_after y new) item_is in
+          let y = subst Answered answer_is x in
+          let r = reading_of new.rest (behind ++ future) in
+          let cut : left ≡ given_bytes ++ r.body = sym body_is ∙ body in
+          let there : Stands (inside r.body ending hs stop) next behind future =
+          (new, open_is, x.limit ∙ limit_is, seen_inside next.body new next.search behind open_is (y.seen (looked_inside st.body d st.search bytes is seen)), sound', is_left', refl, sym ending' ∙ ending_is, on) in
+          subst Given (sym answer_is)
+          (subst (λ (l : List ℕ). Gives (inside l ending hs stop) (asked (Ok (Some (Chunk (Some given_bytes)))) ∷ acts) more) (sym cut)
+          (bytes_given given_bytes r.body ending hs stop acts more some (go (inside r.body ending hs stop) next behind there run)))
+      by_item answer item new x same opens (waited item_is sound' is_left' body ending' missing) =
+          let answer_is : answer ≡ Ok None = same ∙ ap message_of item_is in
+          let open_is : next.body ≡ Some new = opens ∙ ap (λ (y : Result (Option PayloadItem) DecodeError). open_after y new) item_is in
+          let y = subst Answered answer_is x in
+          let there : Stands (inside left ending hs stop) next behind future =
+          (new, open_is, x.limit ∙ limit_is, seen_inside next.body new next.search behind open_is (y.seen (looked_inside st.body d st.search bytes is seen)), sound', is_left', sym body ∙ body_is, sym ending' ∙ ending_is, on) in
+          subst Given (sym answer_is)
+          (none_answered (inside left ending hs stop) acts more
+          (λ no_acts nothing_more.
+          let none = missing (no_more no_acts nothing_more) in
+          nothing_left (sym body_is ∙ none.0) (sym ending_is ∙ none.1))
+          (go (inside left ending hs stop) next behind there run))
+        where
+          nothing_left : left ≡ [] → ending ≡ goes_on → AllFrom (inside left ending hs stop) nothing [] × (stop ≡ None) × ¬ (BrokenFrom (inside left ending hs stop))
+          nothing_left none goes =
+              let others = subst (λ (e : Ending). After e (λ l. Says l hs stop) ((hs ≡ []) × (stop ≡ None))) goes on in (
+                ([], (λ i. record { bytes = sym none i; closing = given_closing (closing_of (sym goes i)) }), others.0, tt),
+                others.1,
+                λ broken. unbroken broken others.0,
+              )
+            where
+              unbroken : BrokenFrom (inside left ending hs stop) → hs ≡ [] → ⊥
+              unbroken (inl (last, wrong)) empty = let never : goes_on ≡ is_broken = sym goes ∙ wrong in cc never
+              unbroken (inr later) empty = subst (EndsBroken k is_bare limit) empty later
+      by_item answer item new x same opens (has_ended ends body ending') =
+          let answer_is : answer ≡ Ok (Some (Chunk None)) = same ∙ end_message item ends in
+          let open_is : next.body ≡ None = opens ∙ end_open item new ends in
+          let y = subst Answered answer_is x in
+          let is_end : ending ≡ ends_before (behind ++ future) = sym ending_is ∙ ending' in
+          let says : Says (behind ++ future) hs stop = subst (λ (e : Ending). After e (λ l. Says l hs stop) ((hs ≡ []) × (stop ≡ None))) is_end on in
+          let there : Stands (between hs stop) next behind future =
+          (open_is, x.limit ∙ limit_is, seen_behind next.body next.search behind open_is (y.seen (looked_inside st.body d st.search bytes is seen)), says) in
+          subst Given (sym answer_is)
+          (subst (λ (l : List ℕ). Gives (inside l ending hs stop) (asked (Ok (Some (Chunk None))) ∷ acts) more) (sym (sym body_is ∙ body))
+          (subst (λ (e : Ending). Gives (inside [] e hs stop) (asked (Ok (Some (Chunk None))) ∷ acts) more) (sym is_end)
+          (end_given (behind ++ future) hs stop acts more (go (between hs stop) next behind there run))))
+      by_item answer item new x same opens (broke item_is wrong stays body ending') =
+          let answer_is : answer ≡ Err errors.Chunk = same ∙ ap message_of item_is in
+          let open_is : next.body ≡ Some new = opens ∙ ap (λ (y : Result (Option PayloadItem) DecodeError). open_after y new) item_is in
+          let stuck = broken_stuck k one is_bare limit acts next new behind last rest open_is wrong run in
+          let is_end : ending ≡ is_broken = sym ending_is ∙ ending' in
+          let others : (hs ≡ []) × (stop ≡ None) = subst (λ (e : Ending). After e (λ l. Says l hs stop) ((hs ≡ []) × (stop ≡ None))) is_end on in
+          subst Given (sym answer_is)
+          (is_stuck (inside left ending hs stop) (λ e. e ≡ errors.Chunk) (asked (Err errors.Chunk) ∷ acts) more
+          (stuck_error k one is_bare limit (λ e. e ≡ errors.Chunk) errors.Chunk acts (λ known. refl) stuck)
+          (λ error named. inl (
+            ([], (λ i. record { bytes = (sym body ∙ body_is) i; closing = given_closing (closing_of (sym is_end i)) }), others.0, tt),
+            inl (named, inl (others.0, is_end)),
+          )))
+      by_item answer item new x same opens (lacked item_is kept stays) =
+          let answer_is : answer ≡ Err NoMemory = same ∙ ap message_of item_is in
+          let y = subst Answered answer_is x in
+          subst Given (sym answer_is)
+          (lacks_answered (inside left ending hs stop) NoMemory acts more refl
+          (go (inside left ending hs stop) next behind
+          (same_stands (inside left ending hs stop) st next bytes behind future (stays_lacking st.body NoMemory st next refl y.left.1) y.left.0
+          (d, is, limit_is, seen, sound, is_left, body_is, ending_is, on)) run))
+
+      inside_given : (answer : Result (Option (Message I)) ParseError) → Answered answer → Given answer
+      inside_given answer x =
+          let step : IsOpenStep d bytes answer next.body behind = subst (λ (b : Option Decoding). IsStepFrom k b st.search bytes answer next.body behind) is x.step in
+          by_item answer step.0 step.1 x step.3 step.4 (body_tells d bytes future step.1 behind step.0 sound is_left step.2)
+
+    -- ---- any answer
+
+    between_given : (hs : List H) (stop : Option Fault) (answer : Result (Option (Message I)) ParseError) → Stands (between hs stop) st bytes future
+        → HasAnswered k is_bare st bytes answer next behind → Gives (between hs stop) (asked answer ∷ acts) more
+    between_given hs stop answer (none, limit_is, seen, says) x = by_answer answer x (subst (λ (b : Option Decoding). IsStepFrom k b st.search bytes answer next.body behind) none x.step)
+      where
+        by_answer : (a : Result (Option (Message I)) ParseError) → HasAnswered k is_bare st bytes a next behind → IsIdleStep k st.search bytes a next.body behind
+            → Gives (between hs stop) (asked a ∷ acts) more
+        by_answer (Ok None) y step = idle_none none limit_is seen hs stop says y step
+        by_answer (Ok (Some (Chunk piece))) y step = absurd step
+        by_answer (Ok (Some (Item i))) y step = idle_item none limit_is seen i y hs stop says
+        by_answer (Err e) y step = idle_error none limit_is seen hs stop e says y step
+
+    answer_given : (e : Expect) (answer : Result (Option (Message I)) ParseError) → Stands e st bytes future → HasAnswered k is_bare st bytes answer next behind
+        → Gives e (asked answer ∷ acts) more
+    answer_given (between hs stop) answer stands x = between_given hs stop answer stands x
+    answer_given (inside left ending hs stop) answer (d, is, limit_is, seen, sound, is_left, body_is, ending_is, on) x =
+        inside_given left ending hs stop d is limit_is seen sound is_left body_is ending_is on answer x
+
+  -- ---- all answers
+
+  pub run_gives : (acts : List (Act I)) (e : Expect) (st : Standing) (bytes more : List ℕ) (last : Standing) (rest : List ℕ)
+      → Stands e st bytes (bytes_came acts ++ more) → IsRun k is_bare st bytes acts last rest → Gives e acts more
+  run_gives [] e st bytes more last rest stands run = no_acts e more
+  run_gives (comes new ∷ acts) e st bytes more last rest stands run =
+      came_first e new acts more (run_gives acts e st (bytes ++ new) more last rest (joined e stands) run)
+    where
+      text_is : (bytes ++ new) ++ (bytes_came acts ++ more) ≡ bytes ++ ((new ++ bytes_came acts) ++ more)
+      text_is = append_assoc bytes new (bytes_came acts ++ more) ∙ ap (λ (l : List ℕ). bytes ++ l) (sym (append_assoc new (bytes_came acts) more))
+
+      joined : (e : Expect) → Stands e st bytes ((new ++ bytes_came acts) ++ more) → Stands e st (bytes ++ new) (bytes_came acts ++ more)
+      joined (between hs stop) (none, limit_is, seen, says) =
+          (none, limit_is, λ b. subst (HasSeen st.search) (sym (append_assoc bytes new b)) (seen (new ++ b)), subst (λ (l : List ℕ). Says l hs stop) (sym text_is) says)
+      joined (inside left ending hs stop) (d, is, limit_is, seen, sound, is_left, body_is, ending_is, on) =
+          (d, is, limit_is, seen, sound, is_left, ap (λ (l : List ℕ). (reading_of d.rest l).body) text_is ∙ body_is,
+          ap (λ (l : List ℕ). (reading_of d.rest l).ending) text_is ∙ ending_is, on)
+  run_gives (asked answer ∷ acts) e st bytes more last rest stands (next, behind, x, run) =
+      answer_given acts more last rest
+      (λ e' st' bytes' stands' run'. run_gives acts e' st' bytes' more last rest stands' run')
+      st next bytes behind run e answer stands x
