@@ -59,34 +59,34 @@ sound_whole is_bare payload kind is = subst (λ (p : PayloadType). IsWholeBody (
     by_kind false chunked_body = (refl, tt)
     by_kind false raw_body = (refl, tt)
 
+-- what is next: a head of what is heard; or the rest of a body, how that ends, and what is heard behind it
+pub data Expect (H : Type 0) : Type 0 where
+  between : List H → Option Fault → Expect H
+  inside : List ℕ → Ending → List H → Option Fault → Expect H
+
 module _ {I : Type 0} (k : Kind I) (one : IsOneReading k) (is_bare : Bool) (limit : ℕ) where
-  abbrev H : Type 0
+  abbrev pub H : Type 0
   H = k.Head × Part
 
   -- what these bytes say
-  abbrev Says : List ℕ → List H → Option Fault → Type 0
+  abbrev pub Says : List ℕ → List H → Option Fault → Type 0
   Says bytes hs stop = AreHeard k is_bare limit bytes hs stop
 
   -- ---- what is next
 
-  -- a head of what is heard; or the rest of a body, how that ends, and what is heard behind it
-  pub data Expect : Type 0 where
-    between : List H → Option Fault → Expect
-    inside : List ℕ → Ending → List H → Option Fault → Expect
-
-  abbrev whole : List ℕ → Ending → Part
+  abbrev pub whole : List ℕ → Ending → Part
   whole left ending = record { bytes = left; closing = closing_of ending }
 
-  abbrev others_of : Expect → List H
+  abbrev pub others_of : Expect H → List H
   others_of (between hs stop) = hs
   others_of (inside left ending hs stop) = hs
 
-  abbrev stop_of : Expect → Option Fault
+  abbrev pub stop_of : Expect H → Option Fault
   stop_of (between hs stop) = stop
   stop_of (inside left ending hs stop) = stop
 
   -- the codec stands there, with these bytes unread and these to come
-  abbrev pub Stands : Expect → Standing → List ℕ → List ℕ → Type 0
+  abbrev pub Stands : Expect H → Standing → List ℕ → List ℕ → Type 0
   Stands (between hs stop) st bytes future =
       (st.body ≡ None) × (st.search.limit ≡ limit) × ((b : List ℕ) → HasSeen st.search (bytes ++ b)) × Says (bytes ++ future) hs stop
   Stands (inside left ending hs stop) st bytes future =
@@ -96,31 +96,31 @@ module _ {I : Type 0} (k : Kind I) (one : IsOneReading k) (is_bare : Bool) (limi
 
   -- ---- what is given from there
 
-  abbrev FirstFrom : Expect → Messages I → Type 0
+  abbrev pub FirstFrom : Expect H → Messages I → Type 0
   FirstFrom (between hs stop) t = (t.part ≡ no_part) × AreFirstOf k is_bare limit t.messages hs
   FirstFrom (inside left ending hs stop) t = IsGivenOf k is_bare limit t.part (whole left ending) (λ ms. AreFirstOf k is_bare limit ms hs) t.messages
 
-  abbrev PartFrom : Expect → Messages I → Type 0
+  abbrev pub PartFrom : Expect H → Messages I → Type 0
   PartFrom (between hs stop) t = ⊤
   PartFrom (inside left ending hs stop) t = t.part ≡ all_given (whole left ending)
 
   -- all is given but for this
-  abbrev AllFrom : Expect → Messages I → List H → Type 0
+  abbrev pub AllFrom : Expect H → Messages I → List H → Type 0
   AllFrom e t behind = (front : List H) × PartFrom e t × (others_of e ≡ front ++ behind) × AreAllOf k is_bare limit t.messages front
 
-  abbrev BrokenFrom : Expect → Type 0
+  abbrev pub BrokenFrom : Expect H → Type 0
   BrokenFrom (between hs stop) = EndsBroken k is_bare limit hs
   BrokenFrom (inside left ending hs stop) = ((hs ≡ []) × (ending ≡ is_broken)) ⊎ EndsBroken k is_bare limit hs
 
   -- behind all that was given stand as many bytes as the limit, in which no head ends
-  abbrev LongFrom : Expect → Messages I → Type 0
+  abbrev pub LongFrom : Expect H → Messages I → Type 0
   LongFrom e t = (behind : List H) × (text : List ℕ) × AllFrom e t behind × Says text behind (stop_of e) × IsTooLong limit text
 
-  abbrev CauseFrom : Expect → Messages I → ParseError → Type 0
+  abbrev pub CauseFrom : Expect H → Messages I → ParseError → Type 0
   CauseFrom e t error =
       (AllFrom e t [] × (((error ≡ errors.Chunk) × BrokenFrom e) ⊎ (stop_of e ≡ Some (fault_of error)))) ⊎ (LongFrom e t × (fault_of error ≡ too_large))
 
-  pub record Gives (e : Expect) (acts : List (Act I)) (more : List ℕ) : Type 0 where
+  pub record Gives (e : Expect H) (acts : List (Act I)) (more : List ℕ) : Type 0 where
     pub stop : (told acts nothing).stop ≡ waits
     pub first : FirstFrom e (told acts nothing)
     pub causes : HaveCauses (CauseFrom e (told acts nothing)) acts
@@ -128,15 +128,15 @@ module _ {I : Type 0} (k : Kind I) (one : IsOneReading k) (is_bare : Bool) (limi
 
   -- ---- where nothing is given
 
-  first_of_none : (e : Expect) → FirstFrom e nothing
+  first_of_none : (e : Expect H) → FirstFrom e nothing
   first_of_none (between hs stop) = (refl, tt)
   first_of_none (inside left ending hs stop) = inr (refl, (left, refl), refl)
 
-  no_acts : (e : Expect) (more : List ℕ) → Gives e [] more
+  no_acts : (e : Expect H) (more : List ℕ) → Gives e [] more
   no_acts e more = record { stop = refl; first = first_of_none e; causes = tt; all = λ none waiting. absurd waiting }
 
   -- the codec is stuck, and this is why
-  is_stuck : (e : Expect) (P : ParseError → Type 0) (acts : List (Act I)) (more : List ℕ) → AreStuck k one is_bare limit P acts → ((x : ParseError) → P x → CauseFrom e nothing x) → Gives e acts more
+  is_stuck : (e : Expect H) (P : ParseError → Type 0) (acts : List (Act I)) (more : List ℕ) → AreStuck k one is_bare limit P acts → ((x : ParseError) → P x → CauseFrom e nothing x) → Gives e acts more
   is_stuck e P acts more x why = record {
     stop = ap (λ (t : Messages I). t.stop) x.none;
     first = subst (FirstFrom e) (sym x.none) (first_of_none e);
@@ -147,23 +147,23 @@ module _ {I : Type 0} (k : Kind I) (one : IsOneReading k) (is_bare : Bool) (limi
   -- ---- acts in front
 
   -- nothing is answered
-  none_answered : (e : Expect) (acts : List (Act I)) (more : List ℕ) → (acts ≡ [] → more ≡ [] → AllFrom e nothing [] × (stop_of e ≡ None) × ¬ (BrokenFrom e))
+  none_answered : (e : Expect H) (acts : List (Act I)) (more : List ℕ) → (acts ≡ [] → more ≡ [] → AllFrom e nothing [] × (stop_of e ≡ None) × ¬ (BrokenFrom e))
       → Gives e acts more → Gives e (asked (Ok None) ∷ acts) more
   none_answered e [] more all x = record { stop = x.stop; first = x.first; causes = tt; all = λ none waiting. all refl none }
   none_answered e (act ∷ acts) more all x = record { stop = x.stop; first = x.first; causes = x.causes; all = λ none waiting. x.all none (after_none act acts waiting) }
 
   -- memory ran out
-  lacks_answered : (e : Expect) (error : ParseError) (acts : List (Act I)) (more : List ℕ) → error ≡ NoMemory → Gives e acts more → Gives e (asked (Err error) ∷ acts) more
+  lacks_answered : (e : Expect H) (error : ParseError) (acts : List (Act I)) (more : List ℕ) → error ≡ NoMemory → Gives e acts more → Gives e (asked (Err error) ∷ acts) more
   lacks_answered e error acts more is x =
       record { stop = x.stop; first = x.first; causes = (λ known. absurd (known is), x.causes); all = λ none waiting. x.all none (after_error error acts waiting) }
 
   -- bytes come
-  came_first : (e : Expect) (new : List ℕ) (acts : List (Act I)) (more : List ℕ) → Gives e acts more → Gives e (comes new ∷ acts) more
+  came_first : (e : Expect H) (new : List ℕ) (acts : List (Act I)) (more : List ℕ) → Gives e acts more → Gives e (comes new ∷ acts) more
   came_first e new acts more x =
       record { stop = x.stop; first = x.first; causes = x.causes; all = λ none waiting. x.all none (after_bytes new acts waiting) }
 
   -- An item, and what is given behind it: where each part of that is one of what is given with the item.
-  item_in_front : (old new : Expect) (item : Message I) (acts : List (Act I)) (more : List ℕ) → stop_of old ≡ stop_of new
+  item_in_front : (old new : Expect H) (item : Message I) (acts : List (Act I)) (more : List ℕ) → stop_of old ≡ stop_of new
       → (FirstFrom new (told acts nothing) → FirstFrom old (given item (told acts nothing)))
       → ((behind : List H) → AllFrom new (told acts nothing) behind → AllFrom old (given item (told acts nothing)) behind)
       → (BrokenFrom new → BrokenFrom old) → (BrokenFrom old → BrokenFrom new) → (given item (told acts nothing)).stop ≡ (told acts nothing).stop
@@ -205,7 +205,7 @@ module _ {I : Type 0} (k : Kind I) (one : IsOneReading k) (is_bare : Bool) (limi
       (λ behind (front, unit, are, all). (h ∷ front, tt, ap (λ (l : List H). h ∷ l) are, (says, part, all)))
       (broken_behind h hs)
       (λ broken. elim (broken_last h hs broken) [
-        | inl (last, wrong) ↦ let never : no_end ≡ a_fault = sym (ap (λ (p : Part). p.closing) none) ∙ wrong in absurd (cc never)
+        | inl last ↦ let never : no_end ≡ a_fault = sym (ap (λ (p : Part). p.closing) none) ∙ last.1 in absurd (cc never)
         | inr later ↦ later
       ])
       refl x
@@ -220,7 +220,7 @@ module _ {I : Type 0} (k : Kind I) (one : IsOneReading k) (is_bare : Bool) (limi
       (λ behind (front, part, are, all). (h ∷ front, tt, ap (λ (l : List H). h ∷ l) are, (says, part ∙ ap all_given (sym is), all)))
       (λ broken. breaks broken)
       (λ broken. elim (broken_last h hs broken) [
-        | inl (last, wrong) ↦ inl (last, broken_closes ending (sym (ap (λ (p : Part). p.closing) is) ∙ wrong))
+        | inl last ↦ inl (last.0, broken_closes ending (sym (ap (λ (p : Part). p.closing) is) ∙ last.1))
         | inr later ↦ inr later
       ])
       refl x
@@ -260,7 +260,7 @@ module _ {I : Type 0} (k : Kind I) (one : IsOneReading k) (is_bare : Bool) (limi
       item_in_front (inside [] (ends_before left) hs stop) (between hs stop) (Chunk None) acts more refl
       (λ first. inl (ends, first.1)) (λ behind (front, unit, are, all). (front, ends, are, all)) (λ broken. inr broken)
       (λ broken. elim broken [
-        | inl (last, wrong) ↦ let never : ◌≡◌ {A = Ending} (ends_before left) is_broken = wrong in absurd (cc never)
+        | inl last ↦ let never : ◌≡◌ {A = Ending} (ends_before left) is_broken = last.1 in absurd (cc never)
         | inr later ↦ later
       ])
       refl x
@@ -269,11 +269,11 @@ module _ {I : Type 0} (k : Kind I) (one : IsOneReading k) (is_bare : Bool) (limi
 
   -- what is given behind it is given as it is heard, whatever is expected there
   abbrev Others : List (Act I) → List ℕ → Standing → List ℕ → Type 0
-  Others acts more last rest = (e : Expect) (st : Standing) (bytes : List ℕ) → Stands e st bytes (bytes_came acts ++ more)
+  Others acts more last rest = (e : Expect H) (st : Standing) (bytes : List ℕ) → Stands e st bytes (bytes_came acts ++ more)
       → IsRun k is_bare st bytes acts last rest → Gives e acts more
 
   -- a codec that is as before stands where it stood
-  same_stands : (e : Expect) (old new : Standing) (bytes behind future : List ℕ) → new ≡ old → behind ≡ bytes → Stands e old bytes future → Stands e new behind future
+  same_stands : (e : Expect H) (old new : Standing) (bytes behind future : List ℕ) → new ≡ old → behind ≡ bytes → Stands e old bytes future → Stands e new behind future
   same_stands e old new bytes behind future same stays x =
       subst (λ (s : Standing). Stands e s behind future) (sym same) (subst (λ (l : List ℕ). Stands e old l future) (sym stays) x)
 
@@ -359,6 +359,18 @@ module _ {I : Type 0} (k : Kind I) (one : IsOneReading k) (is_bare : Bool) (limi
         idle_item : (hs : List H) (stop : Option Fault) → Says (bytes ++ future) hs stop → Gives (between hs stop) (asked (Ok (Some (Item i))) ∷ acts) more
         idle_item hs stop says = by_heard hs stop says (x.item looked)
           where
+            opened : (h : H) (hs : List H) (stop : Option Fault) → k.says i h.0 → (body : Option Decoding) → next.body ≡ body → IsWholeBody body
+                → IsHeardPart body (behind ++ future) h.1 (λ y. Says y hs stop) ((hs ≡ []) × (stop ≡ None))
+                → Gives (between (h ∷ hs) stop) (asked (Ok (Some (Item i))) ∷ acts) more
+            opened h hs stop says None is sound (part, on) =
+                bare_given h hs stop i acts more says part
+                (go (between hs stop) next behind (is, x.limit ∙ limit_is, seen_behind next.body next.search behind is (x.seen looked), on) run)
+            opened h hs stop says (Some d) is sound (part, on) =
+                let r = reading_of d.rest (behind ++ future) in
+                head_given h r.body r.ending hs stop i acts more says part
+                (go (inside r.body r.ending hs stop) next behind
+                (d, is, x.limit ∙ limit_is, seen_inside next.body d next.search behind is (x.seen looked), sound.0, sound.1, refl, refl, on) run)
+
             by_heard : (hs : List H) (stop : Option Fault) → Says (bytes ++ future) hs stop
                 → (kind : PayloadType) × (next.body ≡ body_of is_bare kind) × IsNextItem k st.search.limit bytes behind (i, kind)
                 → Gives (between hs stop) (asked (Ok (Some (Item i))) ∷ acts) more
@@ -380,18 +392,6 @@ module _ {I : Type 0} (k : Kind I) (one : IsOneReading k) (is_bare : Bool) (limi
                 ap (λ (n : ℕ). drop n (bytes ++ future)) (sym both.1) ∙ drop-append-le e bytes future found.piece.in_range ∙ ap (λ (l : List ℕ). l ++ future) (sym left) in
                 let said = subst (λ (l : List ℕ). IsHeardPart (body_of is_bare (payload_of (k.body h.0))) l h.1 (λ y. Says y hs stop) ((hs ≡ []) × (stop ≡ None))) text_is part in
                 opened h hs stop (subst (k.says i) head is.says) (body_of is_bare (payload_of (k.body h.0))) body_is (sound_whole is_bare (payload_of (k.body h.0)) (k.body h.0) refl) said
-
-            opened : (h : H) (hs : List H) (stop : Option Fault) → k.says i h.0 → (body : Option Decoding) → next.body ≡ body → IsWholeBody body
-                → IsHeardPart body (behind ++ future) h.1 (λ y. Says y hs stop) ((hs ≡ []) × (stop ≡ None))
-                → Gives (between (h ∷ hs) stop) (asked (Ok (Some (Item i))) ∷ acts) more
-            opened h hs stop says None is sound (part, on) =
-                bare_given h hs stop i acts more says part
-                (go (between hs stop) next behind (is, x.limit ∙ limit_is, seen_behind next.body next.search behind is (x.seen looked), on) run)
-            opened h hs stop says (Some d) is sound (part, on) =
-                let r = reading_of d.rest (behind ++ future) in
-                head_given h r.body r.ending hs stop i acts more says part
-                (go (inside r.body r.ending hs stop) next behind
-                (d, is, x.limit ∙ limit_is, seen_inside next.body d next.search behind is (x.seen looked), sound.0, sound.1, refl, refl, on) run)
 
     -- ---- while a body is open
 
@@ -494,7 +494,7 @@ module _ {I : Type 0} (k : Kind I) (one : IsOneReading k) (is_bare : Bool) (limi
         by_answer (Ok (Some (Item i))) y step = idle_item none limit_is seen i y hs stop says
         by_answer (Err e) y step = idle_error none limit_is seen hs stop e says y step
 
-    answer_given : (e : Expect) (answer : Result (Option (Message I)) ParseError) → Stands e st bytes future → HasAnswered k is_bare st bytes answer next behind
+    answer_given : (e : Expect H) (answer : Result (Option (Message I)) ParseError) → Stands e st bytes future → HasAnswered k is_bare st bytes answer next behind
         → Gives e (asked answer ∷ acts) more
     answer_given (between hs stop) answer stands x = between_given hs stop answer stands x
     answer_given (inside left ending hs stop) answer (d, is, limit_is, seen, sound, is_left, body_is, ending_is, on) x =
@@ -502,7 +502,7 @@ module _ {I : Type 0} (k : Kind I) (one : IsOneReading k) (is_bare : Bool) (limi
 
   -- ---- all answers
 
-  pub run_gives : (acts : List (Act I)) (e : Expect) (st : Standing) (bytes more : List ℕ) (last : Standing) (rest : List ℕ)
+  pub run_gives : (acts : List (Act I)) (e : Expect H) (st : Standing) (bytes more : List ℕ) (last : Standing) (rest : List ℕ)
       → Stands e st bytes (bytes_came acts ++ more) → IsRun k is_bare st bytes acts last rest → Gives e acts more
   run_gives [] e st bytes more last rest stands run = no_acts e more
   run_gives (comes new ∷ acts) e st bytes more last rest stands run =
@@ -511,7 +511,7 @@ module _ {I : Type 0} (k : Kind I) (one : IsOneReading k) (is_bare : Bool) (limi
       text_is : (bytes ++ new) ++ (bytes_came acts ++ more) ≡ bytes ++ ((new ++ bytes_came acts) ++ more)
       text_is = append_assoc bytes new (bytes_came acts ++ more) ∙ ap (λ (l : List ℕ). bytes ++ l) (sym (append_assoc new (bytes_came acts) more))
 
-      joined : (e : Expect) → Stands e st bytes ((new ++ bytes_came acts) ++ more) → Stands e st (bytes ++ new) (bytes_came acts ++ more)
+      joined : (e : Expect H) → Stands e st bytes ((new ++ bytes_came acts) ++ more) → Stands e st (bytes ++ new) (bytes_came acts ++ more)
       joined (between hs stop) (none, limit_is, seen, says) =
           (none, limit_is, λ b. subst (HasSeen st.search) (sym (append_assoc bytes new b)) (seen (new ++ b)), subst (λ (l : List ℕ). Says l hs stop) (sym text_is) says)
       joined (inside left ending hs stop) (d, is, limit_is, seen, sound, is_left, body_is, ending_is, on) =

@@ -149,7 +149,7 @@ module _ (bytes : List ℕ) (limit : ℕ) where
 
   pub messages_heard : (place : ℕ) (ms : List Message) → AreMessages all_so_far place ms → AreHeard requests false limit (drop place bytes) (heard bytes ms) (refusal ms)
   messages_heard place [] none = none
-  messages_heard place (m ∷ ms) (x, on) = by_reading m.reading m.body x.reading x.body on
+  messages_heard place (m ∷ ms) (x, on) = by_reading (λ n are. messages_heard n ms are) m.reading m.body x.reading x.body on
     where
       here : m.body_start ≤ length bytes
       here = omega (arith, x.body_start, x.piece.in_range, length-drop place bytes, some_left place x.start x.end x.piece)
@@ -158,15 +158,17 @@ module _ (bytes : List ℕ) (limit : ℕ) where
       behind = ap (λ (n : ℕ). drop n bytes) x.body_start ∙ sym (drop-drop x.end place bytes)
 
       -- what follows, heard
-      others : (next : Option ℕ) → MatchOption next (ms ≡ []) (λ n. AreMessages all_so_far n ms)
+      others : ((n : ℕ) → AreMessages all_so_far n ms → AreHeard requests false limit (drop n bytes) (heard bytes ms) (refusal ms))
+          → (next : Option ℕ) → MatchOption next (ms ≡ []) (λ n. AreMessages all_so_far n ms)
           → MatchOption next ((heard bytes ms ≡ []) × (refusal ms ≡ None)) (λ n. AreHeard requests false limit (drop n bytes) (heard bytes ms) (refusal ms))
-      others None none = (ap (heard bytes) none, ap refusal none)
-      others (Some n) are = messages_heard n ms are
+      others go None none = (ap (heard bytes) none, ap refusal none)
+      others go (Some n) are = go n are
 
-      by_reading : (r : Reading) (body : Body) → IsReadingWithin limit (slice_range (drop place bytes) x.start x.end) r → IsBodyAfter all_so_far r m.body_start body
+      by_reading : ((n : ℕ) → AreMessages all_so_far n ms → AreHeard requests false limit (drop n bytes) (heard bytes ms) (refusal ms))
+          → (r : Reading) (body : Body) → IsReadingWithin limit (slice_range (drop place bytes) x.start x.end) r → IsBodyAfter all_so_far r m.body_start body
           → MatchOption (next_start body) (ms ≡ []) (λ n. AreMessages all_so_far n ms)
           → AreHeard requests false limit (drop place bytes) (heard_first bytes r body (heard bytes ms)) (refusal_first r (refusal ms))
-      by_reading (head_is h) body (inl (fits, reads)) is next = (
+      by_reading go (head_is h) body (inl (fits, reads)) is next = (
         x.start,
         x.end,
         x.piece,
@@ -176,10 +178,10 @@ module _ (bytes : List ℕ) (limit : ℕ) where
             (λ left. AreHeard requests false limit left (heard bytes ms) (refusal ms)) ((heard bytes ms ≡ []) × (refusal ms ≡ None)))
             behind
             (body_heard ((heard bytes ms ≡ []) × (refusal ms ≡ None)) (λ left. AreHeard requests false limit left (heard bytes ms) (refusal ms)) m.body_start
-            h.body body here is (others (next_start body) next)),
+            h.body body here is (others go (next_start body) next)),
       )
-      by_reading (head_is h) body (inr (long, is_large)) is next = absurd (cc is_large)
-      by_reading (faulty fault) body (inl (fits, reads)) is next = (x.start, x.end, x.piece, inr reads)
-      by_reading (faulty fault) body (inr (long, is_large)) is next =
+      by_reading go (head_is h) body (inr (long, is_large)) is next = absurd (cc is_large)
+      by_reading go (faulty fault) body (inl (fits, reads)) is next = (x.start, x.end, x.piece, inr reads)
+      by_reading go (faulty fault) body (inr (long, is_large)) is next =
           let named : fault ≡ too_large = cc is_large in
           (x.start, x.end, x.piece, inl (omega (arith, long, length-take (x.end - x.start) (drop x.start (drop place bytes))), named))

@@ -30,8 +30,8 @@ parse_given limit standing last acts more rest ms fresh run parse =
       first = x.first.1;
       causes = causes_map (CauseFrom requests one_request false limit (between hs (refusal ms)) t) (λ e. IsCauseOf requests false limit e t.messages hs (refusal ms)) acts
           (λ error why. elim why [
-            | inl (given_all, reason) ↦ inl (all_of given_all.0 given_all.2 given_all.3, reason)
-            | inr ((behind, text, given_all, says, long), named) ↦ inr (given_all.0, behind, text, given_all.2, given_all.3, says, long, named)
+            | inl y ↦ inl (all_of y.0.0 y.0.2 y.0.3, y.1)
+            | inr y ↦ inr (y.0.2.0, y.0.0, y.0.1, y.0.2.2, y.0.2.3, y.0.3, y.0.4, y.1)
           ])
           x.causes;
       all = λ none waiting. let y = x.all none waiting in (all_of y.0.0 y.0.2 y.0.3, y.1, y.2);

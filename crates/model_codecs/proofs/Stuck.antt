@@ -57,11 +57,11 @@ module _ {I : Type 0} where
   after_bytes new (a ∷ acts) waiting = waiting
 
 module _ {I : Type 0} (k : Kind I) (one : IsOneReading k) (is_bare : Bool) (limit : ℕ) where
-  abbrev H : Type 0
+  abbrev pub H : Type 0
   H = k.Head × Part
 
   -- what these bytes say
-  abbrev Says : List ℕ → List H → Option Fault → Type 0
+  abbrev pub Says : List ℕ → List H → Option Fault → Type 0
   Says bytes hs stop = AreHeard k is_bare limit bytes hs stop
 
   -- nothing is given, each error is this one, and none is last that says that nothing is there
@@ -119,25 +119,26 @@ module _ {I : Type 0} (k : Kind I) (one : IsOneReading k) (is_bare : Bool) (limi
         (stops_append k one limit bytes new fault stops) run in
         record { none = x.none; causes = x.causes; never = λ waiting. x.never (after_bytes new acts waiting) }
     refused_stuck (asked answer ∷ acts) st bytes last rest none limit_is seen stops (next, behind, x, run) =
-        by_answer answer x (subst (λ (b : Option Decoding). IsStepFrom k b st.search bytes answer next.body behind) none x.step)
+        by_answer (λ again. refused_stuck acts st bytes last rest none limit_is seen stops again) answer x
+        (subst (λ (b : Option Decoding). IsStepFrom k b st.search bytes answer next.body behind) none x.step)
       where
         now : HasSeen st.search bytes
         now = subst (HasSeen st.search) (append-nil bytes) (seen [])
 
-        by_answer : (a : Result (Option (Message I)) ParseError) → HasAnswered k is_bare st bytes a next behind → IsIdleStep k st.search bytes a next.body behind
+        by_answer : (IsRun k is_bare st bytes acts last rest → AreStuck (λ e. fault_of e ≡ fault) acts) → (a : Result (Option (Message I)) ParseError) → HasAnswered k is_bare st bytes a next behind → IsIdleStep k st.search bytes a next.body behind
             → AreStuck (λ e. fault_of e ≡ fault) (asked a ∷ acts)
-        by_answer (Ok None) y step =
+        by_answer go (Ok None) y step =
             let waiting : IsWaiting limit bytes = subst (λ (m : ℕ). IsWaiting m bytes) limit_is (step.0 now) in
             let never = (one_stop k one limit bytes fault [] waits stops waiting).1 in
             absurd (cc never)
-        by_answer (Ok (Some (Chunk piece))) y step = absurd step
-        by_answer (Ok (Some (Item i))) y step =
+        by_answer go (Ok (Some (Chunk piece))) y step = absurd step
+        by_answer go (Ok (Some (Item i))) y step =
             let found = y.item (looked_idle st.body st.search bytes none seen) in
             absurd (no_item bytes behind fault (i, found.0) stops (subst (λ (l : ℕ). IsNextItem k l bytes behind (i, found.0)) limit_is found.2))
-        by_answer (Err e) y step =
+        by_answer go (Err e) y step =
             let same = stays_idle st.body e st next none y.left.1 in
             let stays = y.left.0 in
-            let again = refused_stuck acts st bytes last rest none limit_is seen stops
+            let again = go
             (subst (λ (s : Standing). IsRun k is_bare s bytes acts last rest) same (subst (λ (l : List ℕ). IsRun k is_bare next l acts last rest) stays run)) in
             stuck_error (λ x. fault_of x ≡ fault) e acts
             (λ known.

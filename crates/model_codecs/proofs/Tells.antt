@@ -1,10 +1,10 @@
 -- What the decoder of an open body answers, whatever its bytes are.
-use Rattle.std.proofs.Common.{◌≡◌, ℕ, ◌-◌, ◌<◌, ◌≤◌, leb, ltb, cond, Bool, true, false, List, [], ◌∷◌, ◌++◌, length, take, drop, refl, sym, ap, ◌∙◌, subst, subst₂, arith, append-nil}
+use Rattle.std.proofs.Common.{◌≡◌, ℕ, zero, suc, ◌-◌, ◌<◌, ◌≤◌, leb, ltb, cond, Bool, true, false, List, [], ◌∷◌, ◌++◌, length, take, drop, refl, sym, ap, ◌∙◌, subst, subst₂, arith, append-nil}
 use Rattle.std.specs.Prelude.{⊤, Option, Some, None, Result, Ok, Err, nat_lt}
 use Rattle.std.proofs.lemmas.Bool.{cond_both, cond-false, lt-leb, leb-false}
 use Rattle.http_map.specs.HeaderMap.{Entries}
 use Rattle.model_h1.specs.Place.{Place, in_bytes, bytes_end, in_section, done, broken, step}
-use Rattle.model_h1.specs.Reading.{Ending, goes_on, is_broken, ends_before, Reading, at_end}
+use Rattle.model_h1.specs.Reading.{Ending, goes_on, is_broken, ends_before, Reading, at_end, read}
 use Rattle.model_h1.specs.TakeNext.{Next, Taken, chunk, waits, ended, breaks, noted_line, of_chunk, stops_at, take_next}
 use Rattle.model_h1.proofs.TakenPlaces.{taken_chunk_leads}
 use Rattle.model_h1.specs.Event.{Outcome, BodyFault}
@@ -78,7 +78,8 @@ module _ (n : ℕ) (some : 0 < n) (future : List ℕ) where
       ))
     where
       take_none : (m : ℕ) → take {A = ℕ} m [] ≡ []
-      take_none m = refl
+      take_none zero = refl
+      take_none (suc m) = refl
 
   fixed_some : (b : ℕ) (bytes : List ℕ) → PullTells (fixed_rest n) (b ∷ bytes) future (pull_fixed false n (b ∷ bytes))
   fixed_some b bytes =

@@ -73,6 +73,13 @@ given_closing closing = closing
 abbrev pub all_given : Part → Part
 all_given part = record { bytes = part.bytes; closing = given_closing part.closing }
 
+-- each error but that memory ran out has this cause
+abbrev pub HaveCauses : {I : Type 0} → (ParseError → Type 0) → List (Act I) → Type 0
+HaveCauses P [] = ⊤
+HaveCauses P (comes bytes ∷ acts) = HaveCauses P acts
+HaveCauses P (asked (Ok item) ∷ acts) = HaveCauses P acts
+HaveCauses P (asked (Err e) ∷ acts) = UnlessNoMemory e (P e) × HaveCauses P acts
+
 module _ {I : Type 0} (k : Kind I) (is_bare : Bool) (limit : ℕ) where
   -- Each head is the next of the bytes, and behind it stands its body. Behind the last that is heard no head is whole yet, or it is
   -- refused, as one that is longer than the limit is.
@@ -117,13 +124,6 @@ module _ {I : Type 0} (k : Kind I) (is_bare : Bool) (limit : ℕ) where
       (AreAllOf ms hs × (((error ≡ broken_chunk) × EndsBroken hs) ⊎ (stop ≡ Some (fault_of error))))
       ⊎ ((front behind : List (k.Head × Part)) × (text : List ℕ) × (hs ≡ front ++ behind) × AreAllOf ms front × AreHeard text behind stop
       × IsTooLong limit text × (fault_of error ≡ too_large))
-
-  -- each error but that memory ran out has this cause
-  abbrev pub HaveCauses : (ParseError → Type 0) → List (Act I) → Type 0
-  HaveCauses P [] = ⊤
-  HaveCauses P (comes bytes ∷ acts) = HaveCauses P acts
-  HaveCauses P (asked (Ok item) ∷ acts) = HaveCauses P acts
-  HaveCauses P (asked (Err e) ∷ acts) = UnlessNoMemory e (P e) × HaveCauses P acts
 
   -- What was given is the beginning of what is heard, and nothing else. Where all bytes came and there was no further item, it is
   -- all of that, and nothing is refused.
