@@ -31,13 +31,8 @@ use Rattle.model_codecs.specs.Heard.{part_read, IsHeardPart, AreHeard, all_given
 use Rattle.model_codecs.proofs.Standings.{closes_on, seen_behind, seen_inside, looked_idle, looked_inside, stays_idle, stays_lacking, is_lacking}
 use Rattle.model_codecs.proofs.Stuck.{causes_map, after_item, after_none, after_error, after_bytes, AreStuck, stuck_error, broken_stuck, one_next, refused_stuck}
 use Rattle.model_codecs.proofs.Tells.{IsLeft, BodyTells, gave, waited, has_ended, broke, lacked, end_message, end_open, body_tells}
-
--- ---- small facts
-
-broken_closes : (e : Ending) → closing_of e ≡ a_fault → e ≡ is_broken
-broken_closes goes_on is = cc is
-broken_closes is_broken is = refl
-broken_closes (ends_before left) is = cc is
+use Rattle.model_codecs.proofs.HeardItems as given_items
+use Rattle.model_codecs.proofs.HeardItems.{Expect, between, inside}
 
 -- a body of which nothing was read isn't broken, and something is left of it
 abbrev IsWholeBody : Option Decoding → Type 0
@@ -59,211 +54,18 @@ sound_whole is_bare payload kind is = subst (λ (p : PayloadType). IsWholeBody (
     by_kind false chunked_body = (refl, tt)
     by_kind false raw_body = (refl, tt)
 
--- what is next: a head of what is heard; or the rest of a body, how that ends, and what is heard behind it
-pub data Expect (H : Type 0) : Type 0 where
-  between : List H → Option Fault → Expect H
-  inside : List ℕ → Ending → List H → Option Fault → Expect H
-
 module _ {I : Type 0} (k : Kind I) (one : IsOneReading k) (is_bare : Bool) (limit : ℕ) where
   abbrev pub H : Type 0
   H = k.Head × Part
 
-  -- what these bytes say
   abbrev pub Says : List ℕ → List H → Option Fault → Type 0
   Says bytes hs stop = AreHeard k is_bare limit bytes hs stop
 
-  -- ---- what is next
-
-  abbrev pub whole : List ℕ → Ending → Part
-  whole left ending = record { bytes = left; closing = closing_of ending }
-
-  abbrev pub others_of : Expect H → List H
-  others_of (between hs stop) = hs
-  others_of (inside left ending hs stop) = hs
-
-  abbrev pub stop_of : Expect H → Option Fault
-  stop_of (between hs stop) = stop
-  stop_of (inside left ending hs stop) = stop
-
-  -- the codec stands there, with these bytes unread and these to come
   abbrev pub Stands : Expect H → Standing → List ℕ → List ℕ → Type 0
-  Stands (between hs stop) st bytes future =
-      (st.body ≡ None) × (st.search.limit ≡ limit) × ((b : List ℕ) → HasSeen st.search (bytes ++ b)) × Says (bytes ++ future) hs stop
-  Stands (inside left ending hs stop) st bytes future =
-      (d : Decoding) × (st.body ≡ Some d) × (st.search.limit ≡ limit) × ((b : List ℕ) → HasSeen st.search b) × (d.is_broken ≡ false) × IsLeft d.rest
-      × ((reading_of d.rest (bytes ++ future)).body ≡ left) × ((reading_of d.rest (bytes ++ future)).ending ≡ ending)
-      × After ending (λ l. Says l hs stop) ((hs ≡ []) × (stop ≡ None))
+  Stands e st bytes future = given_items.Stands k one is_bare limit e st bytes future
 
-  -- ---- what is given from there
-
-  abbrev pub FirstFrom : Expect H → Messages I → Type 0
-  FirstFrom (between hs stop) t = (t.part ≡ no_part) × AreFirstOf k is_bare limit t.messages hs
-  FirstFrom (inside left ending hs stop) t = IsGivenOf k is_bare limit t.part (whole left ending) (λ ms. AreFirstOf k is_bare limit ms hs) t.messages
-
-  abbrev pub PartFrom : Expect H → Messages I → Type 0
-  PartFrom (between hs stop) t = ⊤
-  PartFrom (inside left ending hs stop) t = t.part ≡ all_given (whole left ending)
-
-  -- all is given but for this
-  abbrev pub AllFrom : Expect H → Messages I → List H → Type 0
-  AllFrom e t behind = (front : List H) × PartFrom e t × (others_of e ≡ front ++ behind) × AreAllOf k is_bare limit t.messages front
-
-  abbrev pub BrokenFrom : Expect H → Type 0
-  BrokenFrom (between hs stop) = EndsBroken k is_bare limit hs
-  BrokenFrom (inside left ending hs stop) = ((hs ≡ []) × (ending ≡ is_broken)) ⊎ EndsBroken k is_bare limit hs
-
-  -- behind all that was given stand as many bytes as the limit, in which no head ends
-  abbrev pub LongFrom : Expect H → Messages I → Type 0
-  LongFrom e t = (behind : List H) × (text : List ℕ) × AllFrom e t behind × Says text behind (stop_of e) × IsTooLong limit text
-
-  abbrev pub CauseFrom : Expect H → Messages I → ParseError → Type 0
-  CauseFrom e t error =
-      (AllFrom e t [] × (((error ≡ errors.Chunk) × BrokenFrom e) ⊎ (stop_of e ≡ Some (fault_of error)))) ⊎ (LongFrom e t × (fault_of error ≡ too_large))
-
-  pub record Gives (e : Expect H) (acts : List (Act I)) (more : List ℕ) : Type 0 where
-    pub stop : (told acts nothing).stop ≡ waits
-    pub first : FirstFrom e (told acts nothing)
-    pub causes : HaveCauses (CauseFrom e (told acts nothing)) acts
-    pub all : more ≡ [] → EndsWaiting acts → AllFrom e (told acts nothing) [] × (stop_of e ≡ None) × ¬ (BrokenFrom e)
-
-  -- ---- where nothing is given
-
-  first_of_none : (e : Expect H) → FirstFrom e nothing
-  first_of_none (between hs stop) = (refl, tt)
-  first_of_none (inside left ending hs stop) = inr (refl, (left, refl), refl)
-
-  no_acts : (e : Expect H) (more : List ℕ) → Gives e [] more
-  no_acts e more = record { stop = refl; first = first_of_none e; causes = tt; all = λ none waiting. absurd waiting }
-
-  -- the codec is stuck, and this is why
-  is_stuck : (e : Expect H) (P : ParseError → Type 0) (acts : List (Act I)) (more : List ℕ) → AreStuck k one is_bare limit P acts → ((x : ParseError) → P x → CauseFrom e nothing x) → Gives e acts more
-  is_stuck e P acts more x why = record {
-    stop = ap (λ (t : Messages I). t.stop) x.none;
-    first = subst (FirstFrom e) (sym x.none) (first_of_none e);
-    causes = subst (λ (t : Messages I). HaveCauses (CauseFrom e t) acts) (sym x.none) (causes_map P (CauseFrom e nothing) acts why x.causes);
-    all = λ none waiting. absurd (x.never waiting);
-  }
-
-  -- ---- acts in front
-
-  -- nothing is answered
-  none_answered : (e : Expect H) (acts : List (Act I)) (more : List ℕ) → (acts ≡ [] → more ≡ [] → AllFrom e nothing [] × (stop_of e ≡ None) × ¬ (BrokenFrom e))
-      → Gives e acts more → Gives e (asked (Ok None) ∷ acts) more
-  none_answered e [] more all x = record { stop = x.stop; first = x.first; causes = tt; all = λ none waiting. all refl none }
-  none_answered e (act ∷ acts) more all x = record { stop = x.stop; first = x.first; causes = x.causes; all = λ none waiting. x.all none (after_none act acts waiting) }
-
-  -- memory ran out
-  lacks_answered : (e : Expect H) (error : ParseError) (acts : List (Act I)) (more : List ℕ) → error ≡ NoMemory → Gives e acts more → Gives e (asked (Err error) ∷ acts) more
-  lacks_answered e error acts more is x =
-      record { stop = x.stop; first = x.first; causes = (λ known. absurd (known is), x.causes); all = λ none waiting. x.all none (after_error error acts waiting) }
-
-  -- bytes come
-  came_first : (e : Expect H) (new : List ℕ) (acts : List (Act I)) (more : List ℕ) → Gives e acts more → Gives e (comes new ∷ acts) more
-  came_first e new acts more x =
-      record { stop = x.stop; first = x.first; causes = x.causes; all = λ none waiting. x.all none (after_bytes new acts waiting) }
-
-  -- An item, and what is given behind it: where each part of that is one of what is given with the item.
-  item_in_front : (old new : Expect H) (item : Message I) (acts : List (Act I)) (more : List ℕ) → stop_of old ≡ stop_of new
-      → (FirstFrom new (told acts nothing) → FirstFrom old (given item (told acts nothing)))
-      → ((behind : List H) → AllFrom new (told acts nothing) behind → AllFrom old (given item (told acts nothing)) behind)
-      → (BrokenFrom new → BrokenFrom old) → (BrokenFrom old → BrokenFrom new) → (given item (told acts nothing)).stop ≡ (told acts nothing).stop
-      → Gives new acts more → Gives old (asked (Ok (Some item)) ∷ acts) more
-  item_in_front old new item acts more same first all breaks back stays x = record {
-    stop = stays ∙ x.stop;
-    first = first x.first;
-    causes = causes_map (CauseFrom new (told acts nothing)) (CauseFrom old (given item (told acts nothing))) acts why x.causes;
-    all = λ none waiting.
-        let y = x.all none (after_item item acts waiting) in
-        (all [] y.0, same ∙ y.1, λ broken. y.2 (back broken));
-  }
-    where
-      why : (error : ParseError) → CauseFrom new (told acts nothing) error → CauseFrom old (given item (told acts nothing)) error
-      why error (inl (given_all, inl (is, broken))) = inl (all [] given_all, inl (is, breaks broken))
-      why error (inl (given_all, inr is)) = inl (all [] given_all, inr (same ∙ is))
-      why error (inr ((behind, text, given_all, says, long), is)) =
-          inr ((behind, text, all behind given_all, subst (Says text behind) (sym same) says, long), is)
-
-  -- ---- items
-
-  -- the last of these is broken exactly where the last of those behind the first is
-  broken_behind : (h : H) (hs : List H) → EndsBroken k is_bare limit hs → EndsBroken k is_bare limit (h ∷ hs)
-  broken_behind h [] broken = absurd broken
-  broken_behind h (n ∷ hs) broken = broken
-
-  broken_last : (h : H) (hs : List H) → EndsBroken k is_bare limit (h ∷ hs) → ((hs ≡ []) × (h.1.closing ≡ a_fault)) ⊎ EndsBroken k is_bare limit hs
-  broken_last h [] broken = inl (refl, broken)
-  broken_last h (n ∷ hs) broken = inr broken
-
-  -- a head that has no body
-  bare_given : (h : H) (hs : List H) (stop : Option Fault) (i : I) (acts : List (Act I)) (more : List ℕ) → k.says i h.0 → h.1 ≡ no_part
-      → Gives (between hs stop) acts more → Gives (between (h ∷ hs) stop) (asked (Ok (Some (Item i))) ∷ acts) more
-  bare_given h hs stop i acts more says none x =
-      let t = told acts nothing in
-      let part : t.part ≡ all_given h.1 = x.first.0 ∙ ap all_given (sym none) in
-      item_in_front (between (h ∷ hs) stop) (between hs stop) (Item i) acts more refl
-      (λ first. (refl, (says, inl (part, first.1))))
-      (λ behind (front, unit, are, all). (h ∷ front, tt, ap (λ (l : List H). h ∷ l) are, (says, part, all)))
-      (broken_behind h hs)
-      (λ broken. elim (broken_last h hs broken) [
-        | inl last ↦ let never : no_end ≡ a_fault = sym (ap (λ (p : Part). p.closing) none) ∙ last.1 in absurd (cc never)
-        | inr later ↦ later
-      ])
-      refl x
-
-  -- a head with a body
-  head_given : (h : H) (left : List ℕ) (ending : Ending) (hs : List H) (stop : Option Fault) (i : I) (acts : List (Act I)) (more : List ℕ) → k.says i h.0
-      → h.1 ≡ whole left ending → Gives (inside left ending hs stop) acts more → Gives (between (h ∷ hs) stop) (asked (Ok (Some (Item i))) ∷ acts) more
-  head_given h left ending hs stop i acts more says is x =
-      let t = told acts nothing in
-      item_in_front (between (h ∷ hs) stop) (inside left ending hs stop) (Item i) acts more refl
-      (λ first. (refl, (says, subst (λ (p : Part). IsGivenOf k is_bare limit t.part p (λ ms. AreFirstOf k is_bare limit ms hs) t.messages) (sym is) first)))
-      (λ behind (front, part, are, all). (h ∷ front, tt, ap (λ (l : List H). h ∷ l) are, (says, part ∙ ap all_given (sym is), all)))
-      (λ broken. breaks broken)
-      (λ broken. elim (broken_last h hs broken) [
-        | inl last ↦ inl (last.0, broken_closes ending (sym (ap (λ (p : Part). p.closing) is) ∙ last.1))
-        | inr later ↦ inr later
-      ])
-      refl x
-    where
-      breaks : BrokenFrom (inside left ending hs stop) → EndsBroken k is_bare limit (h ∷ hs)
-      breaks (inl (last, wrong)) =
-          subst (λ (l : List H). EndsBroken k is_bare limit (h ∷ l)) (sym last) (ap (λ (p : Part). p.closing) is ∙ ap closing_of wrong)
-      breaks (inr later) = broken_behind h hs later
-
-  -- bytes of a body
-  bytes_given : (b left : List ℕ) (ending : Ending) (hs : List H) (stop : Option Fault) (acts : List (Act I)) (more : List ℕ) → 0 < length b
-      → Gives (inside left ending hs stop) acts more → Gives (inside (b ++ left) ending hs stop) (asked (Ok (Some (Chunk (Some b)))) ∷ acts) more
-  bytes_given b left ending hs stop acts more some x =
-      let t = told acts nothing in
-      item_in_front (inside (b ++ left) ending hs stop) (inside left ending hs stop) (Chunk (Some b)) acts more refl
-      (λ first. first_more t.part first) (λ behind (front, part, are, all). (front, whole_more t.part part, are, all)) (λ broken. broken) (λ broken. broken) refl x
-    where
-      whole_more : (part : Part) → part ≡ all_given (whole left ending)
-          → ◌≡◌ {A = Part} (record { bytes = b ++ part.bytes; closing = chunk_in_front b part.closing }) (all_given (whole (b ++ left) ending))
-      whole_more part is =
-          ap (λ (p : Part). record { bytes = b ++ p.bytes; closing = chunk_in_front b p.closing }) is
-          ∙ ap (λ (c : Closing). record { bytes = b ++ left; closing = c }) (closes_on b (given_closing (closing_of ending)) some)
-
-      first_more : (part : Part) → IsGivenOf k is_bare limit part (whole left ending) (λ ms. AreFirstOf k is_bare limit ms hs) (told acts nothing).messages
-          → IsGivenOf k is_bare limit (record { bytes = b ++ part.bytes; closing = chunk_in_front b part.closing }) (whole (b ++ left) ending)
-          (λ ms. AreFirstOf k is_bare limit ms hs) (told acts nothing).messages
-      first_more part (inl (is, others)) = inl (whole_more part is, others)
-      first_more part (inr (goes, (more_bytes, begins), none)) =
-          inr (closes_on b part.closing some ∙ goes, (more_bytes, ap (λ (l : List ℕ). b ++ l) begins ∙ sym (append_assoc b part.bytes more_bytes)), none)
-
-  -- the end of a body
-  end_given : (left : List ℕ) (hs : List H) (stop : Option Fault) (acts : List (Act I)) (more : List ℕ) → Gives (between hs stop) acts more
-      → Gives (inside [] (ends_before left) hs stop) (asked (Ok (Some (Chunk None))) ∷ acts) more
-  end_given left hs stop acts more x =
-      let ends : ◌≡◌ {A = Part} (record { bytes = []; closing = end_in_front (told acts nothing).part.bytes (told acts nothing).part.closing }) (record { bytes = []; closing = an_end }) =
-      ap (λ (p : Part). record { bytes = []; closing = end_in_front p.bytes p.closing }) x.first.0 in
-      item_in_front (inside [] (ends_before left) hs stop) (between hs stop) (Chunk None) acts more refl
-      (λ first. inl (ends, first.1)) (λ behind (front, unit, are, all). (front, ends, are, all)) (λ broken. inr broken)
-      (λ broken. elim broken [
-        | inl last ↦ let never : ◌≡◌ {A = Ending} (ends_before left) is_broken = last.1 in absurd (cc never)
-        | inr later ↦ later
-      ])
-      refl x
+  abbrev pub Gives : Expect H → List (Act I) → List ℕ → Type 0
+  Gives e acts more = given_items.Gives k one is_bare limit e acts more
 
   -- ---- one answer
 
@@ -293,7 +95,7 @@ module _ {I : Type 0} (k : Kind I) (one : IsOneReading k) (is_bare : Bool) (limi
 
       -- what is refused now is refused where all bytes are there
       refused_so : (hs : List H) (stop : Option Fault) (fault : Fault) → Stops k limit bytes (refused fault) → Says (bytes ++ future) hs stop
-          → (error : ParseError) → fault_of error ≡ fault → CauseFrom (between hs stop) nothing error
+          → (error : ParseError) → fault_of error ≡ fault → given_items.CauseFrom k one is_bare limit (between hs stop) nothing error
       refused_so hs stop fault (inl (long, is)) says error named =
           let longer : IsTooLong limit (bytes ++ future) =
           (omega (arith, long.0, length-append bytes future), subst HasNoHeadPiece (sym (take-append-le limit bytes future long.0)) long.1) in
@@ -316,7 +118,7 @@ module _ {I : Type 0} (k : Kind I) (one : IsOneReading k) (is_bare : Bool) (limi
       idle_error : (hs : List H) (stop : Option Fault) (error : ParseError) → Says (bytes ++ future) hs stop → HasAnswered k is_bare st bytes (Err error) next behind
           → IsIdleStep k st.search bytes (Err error) next.body behind → Gives (between hs stop) (asked (Err error) ∷ acts) more
       idle_error hs stop error says x step = elim (is_lacking error) [
-        | inl lacks ↦ lacks_answered (between hs stop) error acts more lacks
+        | inl lacks ↦ given_items.lacks_answered k one is_bare limit (between hs stop) error acts more lacks
             (go (between hs stop) next behind
             (same_stands (between hs stop) st next bytes behind future (stays_idle st.body error st next none x.left.1) x.left.0 (none, limit_is, seen, says)) run)
         | inr known ↦
@@ -325,7 +127,7 @@ module _ {I : Type 0} (k : Kind I) (one : IsOneReading k) (is_bare : Bool) (limi
             subst (λ (s : Standing). IsRun k is_bare s bytes acts last rest) (stays_idle st.body error st next none x.left.1)
             (subst (λ (l : List ℕ). IsRun k is_bare next l acts last rest) x.left.0 run) in
             let stuck = refused_stuck k one is_bare limit (fault_of error) acts st bytes last rest none limit_is seen stops stays in
-            is_stuck (between hs stop) (λ e. fault_of e ≡ fault_of error) (asked (Err error) ∷ acts) more
+            given_items.is_stuck k one is_bare limit (between hs stop) (λ e. fault_of e ≡ fault_of error) (asked (Err error) ∷ acts) more
             (stuck_error k one is_bare limit (λ e. fault_of e ≡ fault_of error) error acts (λ known. refl) stuck)
             (refused_so hs stop (fault_of error) stops says)
       ]
@@ -338,7 +140,7 @@ module _ {I : Type 0} (k : Kind I) (one : IsOneReading k) (is_bare : Bool) (limi
           let seen' = seen_behind next.body next.search behind step.1 (x.seen (looked_idle st.body st.search bytes none seen)) in
           let there : Stands (between hs stop) next behind future =
           (step.1, x.limit ∙ limit_is, seen', subst (λ (l : List ℕ). Says (l ++ future) hs stop) (sym step.2) says) in
-          none_answered (between hs stop) acts more
+          given_items.none_answered k one is_bare limit (between hs stop) acts more
           (λ no_acts nothing_more. nothing_there hs stop (subst (λ (l : List ℕ). Says l hs stop) (all_bytes (no_more no_acts nothing_more)) says) waiting)
           (go (between hs stop) next behind there run)
         where
@@ -346,7 +148,7 @@ module _ {I : Type 0} (k : Kind I) (one : IsOneReading k) (is_bare : Bool) (limi
           all_bytes nothing = ap (λ (l : List ℕ). bytes ++ l) nothing ∙ append-nil bytes
 
           nothing_there : (hs : List H) (stop : Option Fault) → Says bytes hs stop → IsWaiting limit bytes
-              → AllFrom (between hs stop) nothing [] × (stop ≡ None) × ¬ (BrokenFrom (between hs stop))
+              → given_items.AllFrom k one is_bare limit (between hs stop) nothing [] × (stop ≡ None) × ¬ (given_items.BrokenFrom k one is_bare limit (between hs stop))
           nothing_there [] None says waiting = (([], tt, refl, tt), refl, λ broken. broken)
           nothing_there [] (Some f) (s, e, piece, why) waiting = absurd (waiting.0 s e piece)
           nothing_there (h ∷ hs) stop (s, e, piece, reading, part) waiting = absurd (waiting.0 s e piece)
@@ -363,11 +165,11 @@ module _ {I : Type 0} (k : Kind I) (one : IsOneReading k) (is_bare : Bool) (limi
                 → IsHeardPart body (behind ++ future) h.1 (λ y. Says y hs stop) ((hs ≡ []) × (stop ≡ None))
                 → Gives (between (h ∷ hs) stop) (asked (Ok (Some (Item i))) ∷ acts) more
             opened h hs stop says None is sound (part, on) =
-                bare_given h hs stop i acts more says part
+                given_items.bare_given k one is_bare limit h hs stop i acts more says part
                 (go (between hs stop) next behind (is, x.limit ∙ limit_is, seen_behind next.body next.search behind is (x.seen looked), on) run)
             opened h hs stop says (Some d) is sound (part, on) =
                 let r = reading_of d.rest (behind ++ future) in
-                head_given h r.body r.ending hs stop i acts more says part
+                given_items.head_given k one is_bare limit h r.body r.ending hs stop i acts more says part
                 (go (inside r.body r.ending hs stop) next behind
                 (d, is, x.limit ∙ limit_is, seen_inside next.body d next.search behind is (x.seen looked), sound.0, sound.1, refl, refl, on) run)
 
@@ -417,7 +219,7 @@ module _ {I : Type 0} (k : Kind I) (one : IsOneReading k) (is_bare : Bool) (limi
           (new, open_is, x.limit ∙ limit_is, seen_inside next.body new next.search behind open_is (y.seen (looked_inside st.body d st.search bytes is seen)), sound', is_left', refl, sym ending' ∙ ending_is, on) in
           subst Given (sym answer_is)
           (subst (λ (l : List ℕ). Gives (inside l ending hs stop) (asked (Ok (Some (Chunk (Some given_bytes)))) ∷ acts) more) (sym cut)
-          (bytes_given given_bytes r.body ending hs stop acts more some (go (inside r.body ending hs stop) next behind there run)))
+          (given_items.bytes_given k one is_bare limit given_bytes r.body ending hs stop acts more some (go (inside r.body ending hs stop) next behind there run)))
       by_item answer item new x same opens (waited item_is sound' is_left' body ending' missing) =
           let answer_is : answer ≡ Ok None = same ∙ ap message_of item_is in
           let open_is : next.body ≡ Some new = opens ∙ ap (λ (y : Result (Option PayloadItem) DecodeError). open_after y new) item_is in
@@ -425,13 +227,13 @@ module _ {I : Type 0} (k : Kind I) (one : IsOneReading k) (is_bare : Bool) (limi
           let there : Stands (inside left ending hs stop) next behind future =
           (new, open_is, x.limit ∙ limit_is, seen_inside next.body new next.search behind open_is (y.seen (looked_inside st.body d st.search bytes is seen)), sound', is_left', sym body ∙ body_is, sym ending' ∙ ending_is, on) in
           subst Given (sym answer_is)
-          (none_answered (inside left ending hs stop) acts more
+          (given_items.none_answered k one is_bare limit (inside left ending hs stop) acts more
           (λ no_acts nothing_more.
           let none = missing (no_more no_acts nothing_more) in
           nothing_left (sym body_is ∙ none.0) (sym ending_is ∙ none.1))
           (go (inside left ending hs stop) next behind there run))
         where
-          nothing_left : left ≡ [] → ending ≡ goes_on → AllFrom (inside left ending hs stop) nothing [] × (stop ≡ None) × ¬ (BrokenFrom (inside left ending hs stop))
+          nothing_left : left ≡ [] → ending ≡ goes_on → given_items.AllFrom k one is_bare limit (inside left ending hs stop) nothing [] × (stop ≡ None) × ¬ (given_items.BrokenFrom k one is_bare limit (inside left ending hs stop))
           nothing_left none goes =
               let others = subst (λ (e : Ending). After e (λ l. Says l hs stop) ((hs ≡ []) × (stop ≡ None))) goes on in (
                 ([], (λ i. record { bytes = sym none i; closing = given_closing (closing_of (sym goes i)) }), others.0, tt),
@@ -439,7 +241,7 @@ module _ {I : Type 0} (k : Kind I) (one : IsOneReading k) (is_bare : Bool) (limi
                 λ broken. unbroken broken others.0,
               )
             where
-              unbroken : BrokenFrom (inside left ending hs stop) → hs ≡ [] → ⊥
+              unbroken : given_items.BrokenFrom k one is_bare limit (inside left ending hs stop) → hs ≡ [] → ⊥
               unbroken (inl (last, wrong)) empty = let never : goes_on ≡ is_broken = sym goes ∙ wrong in cc never
               unbroken (inr later) empty = subst (EndsBroken k is_bare limit) empty later
       by_item answer item new x same opens (has_ended ends body ending') =
@@ -453,7 +255,7 @@ module _ {I : Type 0} (k : Kind I) (one : IsOneReading k) (is_bare : Bool) (limi
           subst Given (sym answer_is)
           (subst (λ (l : List ℕ). Gives (inside l ending hs stop) (asked (Ok (Some (Chunk None))) ∷ acts) more) (sym (sym body_is ∙ body))
           (subst (λ (e : Ending). Gives (inside [] e hs stop) (asked (Ok (Some (Chunk None))) ∷ acts) more) (sym is_end)
-          (end_given (behind ++ future) hs stop acts more (go (between hs stop) next behind there run))))
+          (given_items.end_given k one is_bare limit (behind ++ future) hs stop acts more (go (between hs stop) next behind there run))))
       by_item answer item new x same opens (broke item_is wrong stays body ending') =
           let answer_is : answer ≡ Err errors.Chunk = same ∙ ap message_of item_is in
           let open_is : next.body ≡ Some new = opens ∙ ap (λ (y : Result (Option PayloadItem) DecodeError). open_after y new) item_is in
@@ -461,7 +263,7 @@ module _ {I : Type 0} (k : Kind I) (one : IsOneReading k) (is_bare : Bool) (limi
           let is_end : ending ≡ is_broken = sym ending_is ∙ ending' in
           let others : (hs ≡ []) × (stop ≡ None) = subst (λ (e : Ending). After e (λ l. Says l hs stop) ((hs ≡ []) × (stop ≡ None))) is_end on in
           subst Given (sym answer_is)
-          (is_stuck (inside left ending hs stop) (λ e. e ≡ errors.Chunk) (asked (Err errors.Chunk) ∷ acts) more
+          (given_items.is_stuck k one is_bare limit (inside left ending hs stop) (λ e. e ≡ errors.Chunk) (asked (Err errors.Chunk) ∷ acts) more
           (stuck_error k one is_bare limit (λ e. e ≡ errors.Chunk) errors.Chunk acts (λ known. refl) stuck)
           (λ error named. inl (
             ([], (λ i. record { bytes = (sym body ∙ body_is) i; closing = given_closing (closing_of (sym is_end i)) }), others.0, tt),
@@ -471,7 +273,7 @@ module _ {I : Type 0} (k : Kind I) (one : IsOneReading k) (is_bare : Bool) (limi
           let answer_is : answer ≡ Err NoMemory = same ∙ ap message_of item_is in
           let y = subst Answered answer_is x in
           subst Given (sym answer_is)
-          (lacks_answered (inside left ending hs stop) NoMemory acts more refl
+          (given_items.lacks_answered k one is_bare limit (inside left ending hs stop) NoMemory acts more refl
           (go (inside left ending hs stop) next behind
           (same_stands (inside left ending hs stop) st next bytes behind future (stays_lacking st.body NoMemory st next refl y.left.1) y.left.0
           (d, is, limit_is, seen, sound, is_left, body_is, ending_is, on)) run))
@@ -504,9 +306,9 @@ module _ {I : Type 0} (k : Kind I) (one : IsOneReading k) (is_bare : Bool) (limi
 
   pub run_gives : (acts : List (Act I)) (e : Expect H) (st : Standing) (bytes more : List ℕ) (last : Standing) (rest : List ℕ)
       → Stands e st bytes (bytes_came acts ++ more) → IsRun k is_bare st bytes acts last rest → Gives e acts more
-  run_gives [] e st bytes more last rest stands run = no_acts e more
+  run_gives [] e st bytes more last rest stands run = given_items.no_acts k one is_bare limit e more
   run_gives (comes new ∷ acts) e st bytes more last rest stands run =
-      came_first e new acts more (run_gives acts e st (bytes ++ new) more last rest (joined e stands) run)
+      given_items.came_first k one is_bare limit e new acts more (run_gives acts e st (bytes ++ new) more last rest (joined e stands) run)
     where
       text_is : (bytes ++ new) ++ (bytes_came acts ++ more) ≡ bytes ++ ((new ++ bytes_came acts) ++ more)
       text_is = append_assoc bytes new (bytes_came acts ++ more) ∙ ap (λ (l : List ℕ). bytes ++ l) (sym (append_assoc new (bytes_came acts) more))

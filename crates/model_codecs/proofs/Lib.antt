@@ -13,6 +13,8 @@ pub mod Received
 pub mod Standings
 pub mod Tells
 pub mod ParseHeard
+pub mod AnswersHeard
 pub mod Stuck
+pub mod HeardItems
 pub mod HeardRuns
 pub mod Parsed

@@ -131,7 +131,7 @@ module _ (bytes : List ℕ) (limit : ℕ) where
               subst (λ (e : Ending). After e G S) (sym ending) go,
             )
 
-    body_heard : (kind : BodyKind) (body : Body) → place ≤ length bytes → IsBodyOf all_so_far kind place body → Follows body
+    pub body_heard : (kind : BodyKind) (body : Body) → place ≤ length bytes → IsBodyOf all_so_far kind place body → Follows body
         → IsHeardPart (body_of false (payload_of kind)) text (part_in (has_body kind) bytes body) G S
     body_heard no_body body within is on = (refl, subst Follows is on)
     body_heard (fixed_body n) body within is on = fixed_heard n body within is on
@@ -141,7 +141,7 @@ module _ (bytes : List ℕ) (limit : ℕ) where
   -- ---- messages
 
   -- a head stands in some bytes
-  some_left : (place s e : ℕ) → IsHeadPiece (drop place bytes) s e → place ≤ length bytes
+  pub some_left : (place s e : ℕ) → IsHeadPiece (drop place bytes) s e → place ≤ length bytes
   some_left place s e piece = elim (cases_lt (length bytes) place) [
     | inl past ↦ absurd (nothing_behind s e (subst (λ (l : List ℕ). IsHeadPiece l s e) (drop_all place bytes (omega (arith, past))) piece))
     | inr within ↦ within

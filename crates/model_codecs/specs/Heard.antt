@@ -9,12 +9,15 @@ use Rattle.model_h1.specs.Parse.{Message, Body}
 use Rattle.model_h1.specs.Handed.{body_bytes, Begins}
 use Rattle.model_h1.specs.Reading.{Ending}
 use Rattle.model_h1.specs.Reading as reading
+use Rattle.model_client.specs.AnswerParse.{AnswerMessage}
+use Rattle.model_client.specs.AnswerReading.{Answer, AnswerReading, answer_is, refused}
 use Rattle.h1_decoder.specs.Refusal.{UnlessNoMemory, fault_of}
 use Rattle.h1_payload.specs.Decoding.{Decoding, reading_of}
 use Rattle.h1_codec.specs.Kind.{says_head, says_fault, Kind}
-use Rattle.h1_codec.specs.Heads.{payload_of, IsTooLong, waits}
-use Rattle.h1_codec.specs.FramedMessages.{Closing, no_end, an_end, a_fault, never_said, Part, no_part, closing_of, body_of, After}
+use Rattle.h1_codec.specs.Heads.{HasSeen, payload_of, IsTooLong, waits}
+use Rattle.h1_codec.specs.FramedMessages.{Closing, no_end, an_end, a_fault, never_said, Part, no_part, closing_of, body_of, After, Standing}
 use Rattle.model_codecs.specs.Acts.{Act, comes, asked, all_told, EndsWaiting}
+use Rattle.model_codecs.specs.Given.{kind_to}
 
 -- ---- a server's parse
 
@@ -52,6 +55,31 @@ refusal_first (faulty fault) others = Some fault
 abbrev pub refusal : List Message → Option Fault
 refusal [] = None
 refusal (m ∷ ms) = refusal_first m.reading (refusal ms)
+
+-- ---- a client's parse
+
+-- the same of answers, to requests of a method to which none has a body, or each as its head says
+abbrev pub heard_answer : Bool → List ℕ → AnswerReading → Body → List (Answer × Part) → List (Answer × Part)
+heard_answer is_bare bytes (answer_is a) body others = (a, part_in (has_body (kind_to is_bare a.body)) bytes body) ∷ others
+heard_answer is_bare bytes (refused fault) body others = []
+
+abbrev pub heard_answers : Bool → List ℕ → List AnswerMessage → List (Answer × Part)
+heard_answers is_bare bytes [] = []
+heard_answers is_bare bytes (m ∷ ms) = heard_answer is_bare bytes m.reading m.body (heard_answers is_bare bytes ms)
+
+abbrev pub answer_refused : AnswerReading → Option Fault → Option Fault
+answer_refused (answer_is a) others = others
+answer_refused (refused fault) others = Some fault
+
+abbrev pub answer_refusal : List AnswerMessage → Option Fault
+answer_refusal [] = None
+answer_refusal (m ∷ ms) = answer_refused m.reading (answer_refusal ms)
+
+-- no body is open, these bytes are left, and heads end within so many bytes
+pub record IsIdle (standing : Standing) (limit : ℕ) (left : List ℕ) : Type 0 where
+  pub body : standing.body ≡ None
+  pub limit_is : standing.search.limit ≡ limit
+  pub seen : (bytes : List ℕ) → HasSeen standing.search (left ++ bytes)
 
 -- ---- against what bytes say
 
