@@ -80,7 +80,7 @@ pub fn receive<R: RandomSource + AllocGlobal, L: Recorder>(
 ) -> io::Result<()> {
     match guest {
         Guest::Echo => {
-            let echo = FnService::new(Echo);
+            let echo: FnService<Echo, ()> = FnService::new(Echo);
             serve(
                 rt,
                 UpgradeDispatcher::new(request, line, transport, echo),
@@ -89,7 +89,7 @@ pub fn receive<R: RandomSource + AllocGlobal, L: Recorder>(
             )
         }
         Guest::Refusal => {
-            let refusal = UpgradeHandler::new();
+            let refusal: UpgradeHandler<Message> = UpgradeHandler::new();
             serve(
                 rt,
                 UpgradeDispatcher::new(request, line, transport, refusal),
