@@ -44,7 +44,7 @@ pub data Expect (H : Type 0) : Type 0 where
   between : List H → Option Fault → Expect H
   inside : List ℕ → Ending → List H → Option Fault → Expect H
 
-module _ {I : Type 0} (k : Kind I) (one : IsOneReading k) (is_bare : Bool) (limit : ℕ) where
+module _ {I : Type 0} (k : Kind I) (one : IsOneReading k) (is_bare : Bool) (limit : ℕ) (rest : List ℕ) where
   abbrev pub H : Type 0
   H = k.Head × Part
 
@@ -92,9 +92,9 @@ module _ {I : Type 0} (k : Kind I) (one : IsOneReading k) (is_bare : Bool) (limi
   BrokenFrom (between hs stop) = EndsBroken k is_bare limit hs
   BrokenFrom (inside left ending hs stop) = ((hs ≡ []) × (ending ≡ is_broken)) ⊎ EndsBroken k is_bare limit hs
 
-  -- behind all that was given stand as many bytes as the limit, in which no head ends
+  -- behind all that was given as many bytes as the limit are left, in which no head ends
   abbrev pub LongFrom : Expect H → Messages I → Type 0
-  LongFrom e t = (behind : List H) × (text : List ℕ) × AllFrom e t behind × Says text behind (stop_of e) × IsTooLong limit text
+  LongFrom e t = (behind : List H) × AllFrom e t behind × IsTooLong limit rest
 
   abbrev pub CauseFrom : Expect H → Messages I → ParseError → Type 0
   CauseFrom e t error =
@@ -116,8 +116,8 @@ module _ {I : Type 0} (k : Kind I) (one : IsOneReading k) (is_bare : Bool) (limi
   no_acts e more = record { stop = refl; first = first_of_none e; causes = tt; all = λ none waiting. absurd waiting }
 
   -- the codec is stuck, and this is why
-  pub is_stuck : (e : Expect H) (P : ParseError → Type 0) (acts : List (Act I)) (more : List ℕ) → AreStuck k one is_bare limit P acts → ((x : ParseError) → P x → CauseFrom e nothing x) → Gives e acts more
-  is_stuck e P acts more x why = record {
+  pub is_stuck : (e : Expect H) (P : ParseError → Type 0) (acts : List (Act I)) (more bytes : List ℕ) → AreStuck k one is_bare limit P acts bytes rest → ((x : ParseError) → P x → CauseFrom e nothing x) → Gives e acts more
+  is_stuck e P acts more bytes x why = record {
     stop = ap (λ (t : Messages I). t.stop) x.none;
     first = subst (FirstFrom e) (sym x.none) (first_of_none e);
     causes = subst (λ (t : Messages I). HaveCauses (CauseFrom e t) acts) (sym x.none) (causes_map P (CauseFrom e nothing) acts why x.causes);
@@ -160,8 +160,8 @@ module _ {I : Type 0} (k : Kind I) (one : IsOneReading k) (is_bare : Bool) (limi
       why : (error : ParseError) → CauseFrom new (told acts nothing) error → CauseFrom old (given item (told acts nothing)) error
       why error (inl (given_all, inl (is, broken))) = inl (all [] given_all, inl (is, breaks broken))
       why error (inl (given_all, inr is)) = inl (all [] given_all, inr (same ∙ is))
-      why error (inr ((behind, text, given_all, says, long), is)) =
-          inr ((behind, text, all behind given_all, subst (Says text behind) (sym same) says, long), is)
+      why error (inr ((behind, given_all, long), is)) =
+          inr ((behind, all behind given_all, long), is)
 
   -- ---- items
 

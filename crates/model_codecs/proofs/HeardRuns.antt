@@ -62,17 +62,17 @@ module _ {I : Type 0} (k : Kind I) (one : IsOneReading k) (is_bare : Bool) (limi
   Says bytes hs stop = AreHeard k is_bare limit bytes hs stop
 
   abbrev pub Stands : Expect H → Standing → List ℕ → List ℕ → Type 0
-  Stands e st bytes future = given_items.Stands k one is_bare limit e st bytes future
+  Stands e st bytes future = given_items.Stands k one is_bare limit [] e st bytes future
 
-  abbrev pub Gives : Expect H → List (Act I) → List ℕ → Type 0
-  Gives e acts more = given_items.Gives k one is_bare limit e acts more
+  abbrev pub Gives : List ℕ → Expect H → List (Act I) → List ℕ → Type 0
+  Gives rest e acts more = given_items.Gives k one is_bare limit rest e acts more
 
   -- ---- one answer
 
   -- what is given behind it is given as it is heard, whatever is expected there
   abbrev Others : List (Act I) → List ℕ → Standing → List ℕ → Type 0
   Others acts more last rest = (e : Expect H) (st : Standing) (bytes : List ℕ) → Stands e st bytes (bytes_came acts ++ more)
-      → IsRun k is_bare st bytes acts last rest → Gives e acts more
+      → IsRun k is_bare st bytes acts last rest → Gives rest e acts more
 
   -- a codec that is as before stands where it stood
   same_stands : (e : Expect H) (old new : Standing) (bytes behind future : List ℕ) → new ≡ old → behind ≡ bytes → Stands e old bytes future → Stands e new behind future
@@ -95,30 +95,30 @@ module _ {I : Type 0} (k : Kind I) (one : IsOneReading k) (is_bare : Bool) (limi
 
       -- what is refused now is refused where all bytes are there
       refused_so : (hs : List H) (stop : Option Fault) (fault : Fault) → Stops k limit bytes (refused fault) → Says (bytes ++ future) hs stop
-          → (error : ParseError) → fault_of error ≡ fault → given_items.CauseFrom k one is_bare limit (between hs stop) nothing error
-      refused_so hs stop fault (inl (long, is)) says error named =
-          let longer : IsTooLong limit (bytes ++ future) =
-          (omega (arith, long.0, length-append bytes future), subst HasNoHeadPiece (sym (take-append-le limit bytes future long.0)) long.1) in
-          inr ((hs, bytes ++ future, ([], tt, refl, tt), says, longer), named ∙ is)
-      refused_so [] None fault (inr (s, e, found, reading)) says error named = absurd (says s e (head_piece_append bytes future s e found.piece))
-      refused_so [] (Some f) fault (inr (s, e, found, reading)) (s', e', piece, inl (long, large)) error named =
+          → rest ≡ bytes ++ bytes_came acts → (error : ParseError) → fault_of error ≡ fault → given_items.CauseFrom k one is_bare limit rest (between hs stop) nothing error
+      refused_so hs stop fault (inl (long, is)) says left_is error named =
+          let longer : IsTooLong limit (bytes ++ bytes_came acts) =
+          (omega (arith, long.0, length-append bytes (bytes_came acts)), subst HasNoHeadPiece (sym (take-append-le limit bytes (bytes_came acts) long.0)) long.1) in
+          inr ((hs, ([], tt, refl, tt), subst (IsTooLong limit) (sym left_is) longer), named ∙ is)
+      refused_so [] None fault (inr (s, e, found, reading)) says left_is error named = absurd (says s e (head_piece_append bytes future s e found.piece))
+      refused_so [] (Some f) fault (inr (s, e, found, reading)) (s', e', piece, inl (long, large)) left_is error named =
           let same = (head_piece_unique (bytes ++ future) s e s' e' (head_piece_append bytes future s e found.piece) piece).1 in
           absurd (omega (arith, found.within, long, same))
-      refused_so [] (Some f) fault (inr (s, e, found, reading)) (s', e', piece, inr reading') error named =
+      refused_so [] (Some f) fault (inr (s, e, found, reading)) (s', e', piece, inr reading') left_is error named =
           let same : ◌≡◌ {A = Reading k.Head} (says_fault fault) (says_fault f) =
           (one_next k one is_bare limit bytes future s e s' e' (says_fault fault) (says_fault f) found.piece piece reading reading').0 in
           let faults : fault ≡ f = cc same in
           inl (([], tt, refl, tt), inr (ap Some (sym faults ∙ sym named)))
-      refused_so (h ∷ hs) stop fault (inr (s, e, found, reading)) (s', e', piece, reading', part) error named =
+      refused_so (h ∷ hs) stop fault (inr (s, e, found, reading)) (s', e', piece, reading', part) left_is error named =
           let same : ◌≡◌ {A = Reading k.Head} (says_fault fault) (says_head h.0) =
           (one_next k one is_bare limit bytes future s e s' e' (says_fault fault) (says_head h.0) found.piece piece reading reading').0 in
           absurd (cc same)
 
       -- an error
       idle_error : (hs : List H) (stop : Option Fault) (error : ParseError) → Says (bytes ++ future) hs stop → HasAnswered k is_bare st bytes (Err error) next behind
-          → IsIdleStep k st.search bytes (Err error) next.body behind → Gives (between hs stop) (asked (Err error) ∷ acts) more
+          → IsIdleStep k st.search bytes (Err error) next.body behind → Gives rest (between hs stop) (asked (Err error) ∷ acts) more
       idle_error hs stop error says x step = elim (is_lacking error) [
-        | inl lacks ↦ given_items.lacks_answered k one is_bare limit (between hs stop) error acts more lacks
+        | inl lacks ↦ given_items.lacks_answered k one is_bare limit rest (between hs stop) error acts more lacks
             (go (between hs stop) next behind
             (same_stands (between hs stop) st next bytes behind future (stays_idle st.body error st next none x.left.1) x.left.0 (none, limit_is, seen, says)) run)
         | inr known ↦
@@ -127,20 +127,20 @@ module _ {I : Type 0} (k : Kind I) (one : IsOneReading k) (is_bare : Bool) (limi
             subst (λ (s : Standing). IsRun k is_bare s bytes acts last rest) (stays_idle st.body error st next none x.left.1)
             (subst (λ (l : List ℕ). IsRun k is_bare next l acts last rest) x.left.0 run) in
             let stuck = refused_stuck k one is_bare limit (fault_of error) acts st bytes last rest none limit_is seen stops stays in
-            given_items.is_stuck k one is_bare limit (between hs stop) (λ e. fault_of e ≡ fault_of error) (asked (Err error) ∷ acts) more
-            (stuck_error k one is_bare limit (λ e. fault_of e ≡ fault_of error) error acts (λ known. refl) stuck)
-            (refused_so hs stop (fault_of error) stops says)
+            given_items.is_stuck k one is_bare limit rest (between hs stop) (λ e. fault_of e ≡ fault_of error) (asked (Err error) ∷ acts) more bytes
+            (stuck_error k one is_bare limit (λ e. fault_of e ≡ fault_of error) error acts bytes rest (λ known. refl) stuck)
+            (refused_so hs stop (fault_of error) stops says stuck.left)
       ]
 
       -- no item
       idle_none : (hs : List H) (stop : Option Fault) → Says (bytes ++ future) hs stop → HasAnswered k is_bare st bytes (Ok None) next behind
-          → IsIdleStep k st.search bytes (Ok None) next.body behind → Gives (between hs stop) (asked (Ok None) ∷ acts) more
+          → IsIdleStep k st.search bytes (Ok None) next.body behind → Gives rest (between hs stop) (asked (Ok None) ∷ acts) more
       idle_none hs stop says x step =
           let waiting : IsWaiting limit bytes = subst (λ (m : ℕ). IsWaiting m bytes) limit_is (step.0 now_seen) in
           let seen' = seen_behind next.body next.search behind step.1 (x.seen (looked_idle st.body st.search bytes none seen)) in
           let there : Stands (between hs stop) next behind future =
           (step.1, x.limit ∙ limit_is, seen', subst (λ (l : List ℕ). Says (l ++ future) hs stop) (sym step.2) says) in
-          given_items.none_answered k one is_bare limit (between hs stop) acts more
+          given_items.none_answered k one is_bare limit rest (between hs stop) acts more
           (λ no_acts nothing_more. nothing_there hs stop (subst (λ (l : List ℕ). Says l hs stop) (all_bytes (no_more no_acts nothing_more)) says) waiting)
           (go (between hs stop) next behind there run)
         where
@@ -148,7 +148,7 @@ module _ {I : Type 0} (k : Kind I) (one : IsOneReading k) (is_bare : Bool) (limi
           all_bytes nothing = ap (λ (l : List ℕ). bytes ++ l) nothing ∙ append-nil bytes
 
           nothing_there : (hs : List H) (stop : Option Fault) → Says bytes hs stop → IsWaiting limit bytes
-              → given_items.AllFrom k one is_bare limit (between hs stop) nothing [] × (stop ≡ None) × ¬ (given_items.BrokenFrom k one is_bare limit (between hs stop))
+              → given_items.AllFrom k one is_bare limit rest (between hs stop) nothing [] × (stop ≡ None) × ¬ (given_items.BrokenFrom k one is_bare limit rest (between hs stop))
           nothing_there [] None says waiting = (([], tt, refl, tt), refl, λ broken. broken)
           nothing_there [] (Some f) (s, e, piece, why) waiting = absurd (waiting.0 s e piece)
           nothing_there (h ∷ hs) stop (s, e, piece, reading, part) waiting = absurd (waiting.0 s e piece)
@@ -158,24 +158,24 @@ module _ {I : Type 0} (k : Kind I) (one : IsOneReading k) (is_bare : Bool) (limi
         looked : Looked st bytes
         looked = looked_idle st.body st.search bytes none seen
 
-        idle_item : (hs : List H) (stop : Option Fault) → Says (bytes ++ future) hs stop → Gives (between hs stop) (asked (Ok (Some (Item i))) ∷ acts) more
+        idle_item : (hs : List H) (stop : Option Fault) → Says (bytes ++ future) hs stop → Gives rest (between hs stop) (asked (Ok (Some (Item i))) ∷ acts) more
         idle_item hs stop says = by_heard hs stop says (x.item looked)
           where
             opened : (h : H) (hs : List H) (stop : Option Fault) → k.says i h.0 → (body : Option Decoding) → next.body ≡ body → IsWholeBody body
                 → IsHeardPart body (behind ++ future) h.1 (λ y. Says y hs stop) ((hs ≡ []) × (stop ≡ None))
-                → Gives (between (h ∷ hs) stop) (asked (Ok (Some (Item i))) ∷ acts) more
+                → Gives rest (between (h ∷ hs) stop) (asked (Ok (Some (Item i))) ∷ acts) more
             opened h hs stop says None is sound (part, on) =
-                given_items.bare_given k one is_bare limit h hs stop i acts more says part
+                given_items.bare_given k one is_bare limit rest h hs stop i acts more says part
                 (go (between hs stop) next behind (is, x.limit ∙ limit_is, seen_behind next.body next.search behind is (x.seen looked), on) run)
             opened h hs stop says (Some d) is sound (part, on) =
                 let r = reading_of d.rest (behind ++ future) in
-                given_items.head_given k one is_bare limit h r.body r.ending hs stop i acts more says part
+                given_items.head_given k one is_bare limit rest h r.body r.ending hs stop i acts more says part
                 (go (inside r.body r.ending hs stop) next behind
                 (d, is, x.limit ∙ limit_is, seen_inside next.body d next.search behind is (x.seen looked), sound.0, sound.1, refl, refl, on) run)
 
             by_heard : (hs : List H) (stop : Option Fault) → Says (bytes ++ future) hs stop
                 → (kind : PayloadType) × (next.body ≡ body_of is_bare kind) × IsNextItem k st.search.limit bytes behind (i, kind)
-                → Gives (between hs stop) (asked (Ok (Some (Item i))) ∷ acts) more
+                → Gives rest (between hs stop) (asked (Ok (Some (Item i))) ∷ acts) more
             by_heard [] None says (kind, opens, (s, e, found, is, left)) = absurd (says s e (head_piece_append bytes future s e found.piece))
             by_heard [] (Some f) (s', e', piece, inl (long, large)) (kind, opens, (s, e, found, is, left)) =
                 let same = (head_piece_unique (bytes ++ future) s e s' e' (head_piece_append bytes future s e found.piece) piece).1 in
@@ -205,7 +205,7 @@ module _ {I : Type 0} (k : Kind I) (one : IsOneReading k) (is_bare : Bool) (limi
       Answered answer = HasAnswered k is_bare st bytes answer next behind
 
       abbrev Given : Result (Option (Message I)) ParseError → Type 0
-      Given answer = Gives (inside left ending hs stop) (asked answer ∷ acts) more
+      Given answer = Gives rest (inside left ending hs stop) (asked answer ∷ acts) more
 
       by_item : (answer : Result (Option (Message I)) ParseError) (item : Result (Option PayloadItem) DecodeError) (new : Decoding) → Answered answer
           → answer ≡ message_of item → next.body ≡ open_after item new → BodyTells d bytes future item new behind → Given answer
@@ -218,8 +218,8 @@ module _ {I : Type 0} (k : Kind I) (one : IsOneReading k) (is_bare : Bool) (limi
           let there : Stands (inside r.body ending hs stop) next behind future =
           (new, open_is, x.limit ∙ limit_is, seen_inside next.body new next.search behind open_is (y.seen (looked_inside st.body d st.search bytes is seen)), sound', is_left', refl, sym ending' ∙ ending_is, on) in
           subst Given (sym answer_is)
-          (subst (λ (l : List ℕ). Gives (inside l ending hs stop) (asked (Ok (Some (Chunk (Some given_bytes)))) ∷ acts) more) (sym cut)
-          (given_items.bytes_given k one is_bare limit given_bytes r.body ending hs stop acts more some (go (inside r.body ending hs stop) next behind there run)))
+          (subst (λ (l : List ℕ). Gives rest (inside l ending hs stop) (asked (Ok (Some (Chunk (Some given_bytes)))) ∷ acts) more) (sym cut)
+          (given_items.bytes_given k one is_bare limit rest given_bytes r.body ending hs stop acts more some (go (inside r.body ending hs stop) next behind there run)))
       by_item answer item new x same opens (waited item_is sound' is_left' body ending' missing) =
           let answer_is : answer ≡ Ok None = same ∙ ap message_of item_is in
           let open_is : next.body ≡ Some new = opens ∙ ap (λ (y : Result (Option PayloadItem) DecodeError). open_after y new) item_is in
@@ -227,13 +227,13 @@ module _ {I : Type 0} (k : Kind I) (one : IsOneReading k) (is_bare : Bool) (limi
           let there : Stands (inside left ending hs stop) next behind future =
           (new, open_is, x.limit ∙ limit_is, seen_inside next.body new next.search behind open_is (y.seen (looked_inside st.body d st.search bytes is seen)), sound', is_left', sym body ∙ body_is, sym ending' ∙ ending_is, on) in
           subst Given (sym answer_is)
-          (given_items.none_answered k one is_bare limit (inside left ending hs stop) acts more
+          (given_items.none_answered k one is_bare limit rest (inside left ending hs stop) acts more
           (λ no_acts nothing_more.
           let none = missing (no_more no_acts nothing_more) in
           nothing_left (sym body_is ∙ none.0) (sym ending_is ∙ none.1))
           (go (inside left ending hs stop) next behind there run))
         where
-          nothing_left : left ≡ [] → ending ≡ goes_on → given_items.AllFrom k one is_bare limit (inside left ending hs stop) nothing [] × (stop ≡ None) × ¬ (given_items.BrokenFrom k one is_bare limit (inside left ending hs stop))
+          nothing_left : left ≡ [] → ending ≡ goes_on → given_items.AllFrom k one is_bare limit rest (inside left ending hs stop) nothing [] × (stop ≡ None) × ¬ (given_items.BrokenFrom k one is_bare limit rest (inside left ending hs stop))
           nothing_left none goes =
               let others = subst (λ (e : Ending). After e (λ l. Says l hs stop) ((hs ≡ []) × (stop ≡ None))) goes on in (
                 ([], (λ i. record { bytes = sym none i; closing = given_closing (closing_of (sym goes i)) }), others.0, tt),
@@ -241,7 +241,7 @@ module _ {I : Type 0} (k : Kind I) (one : IsOneReading k) (is_bare : Bool) (limi
                 λ broken. unbroken broken others.0,
               )
             where
-              unbroken : given_items.BrokenFrom k one is_bare limit (inside left ending hs stop) → hs ≡ [] → ⊥
+              unbroken : given_items.BrokenFrom k one is_bare limit rest (inside left ending hs stop) → hs ≡ [] → ⊥
               unbroken (inl (last, wrong)) empty = let never : goes_on ≡ is_broken = sym goes ∙ wrong in cc never
               unbroken (inr later) empty = subst (EndsBroken k is_bare limit) empty later
       by_item answer item new x same opens (has_ended ends body ending') =
@@ -253,9 +253,9 @@ module _ {I : Type 0} (k : Kind I) (one : IsOneReading k) (is_bare : Bool) (limi
           let there : Stands (between hs stop) next behind future =
           (open_is, x.limit ∙ limit_is, seen_behind next.body next.search behind open_is (y.seen (looked_inside st.body d st.search bytes is seen)), says) in
           subst Given (sym answer_is)
-          (subst (λ (l : List ℕ). Gives (inside l ending hs stop) (asked (Ok (Some (Chunk None))) ∷ acts) more) (sym (sym body_is ∙ body))
-          (subst (λ (e : Ending). Gives (inside [] e hs stop) (asked (Ok (Some (Chunk None))) ∷ acts) more) (sym is_end)
-          (given_items.end_given k one is_bare limit (behind ++ future) hs stop acts more (go (between hs stop) next behind there run))))
+          (subst (λ (l : List ℕ). Gives rest (inside l ending hs stop) (asked (Ok (Some (Chunk None))) ∷ acts) more) (sym (sym body_is ∙ body))
+          (subst (λ (e : Ending). Gives rest (inside [] e hs stop) (asked (Ok (Some (Chunk None))) ∷ acts) more) (sym is_end)
+          (given_items.end_given k one is_bare limit rest (behind ++ future) hs stop acts more (go (between hs stop) next behind there run))))
       by_item answer item new x same opens (broke item_is wrong stays body ending') =
           let answer_is : answer ≡ Err errors.Chunk = same ∙ ap message_of item_is in
           let open_is : next.body ≡ Some new = opens ∙ ap (λ (y : Result (Option PayloadItem) DecodeError). open_after y new) item_is in
@@ -263,8 +263,8 @@ module _ {I : Type 0} (k : Kind I) (one : IsOneReading k) (is_bare : Bool) (limi
           let is_end : ending ≡ is_broken = sym ending_is ∙ ending' in
           let others : (hs ≡ []) × (stop ≡ None) = subst (λ (e : Ending). After e (λ l. Says l hs stop) ((hs ≡ []) × (stop ≡ None))) is_end on in
           subst Given (sym answer_is)
-          (given_items.is_stuck k one is_bare limit (inside left ending hs stop) (λ e. e ≡ errors.Chunk) (asked (Err errors.Chunk) ∷ acts) more
-          (stuck_error k one is_bare limit (λ e. e ≡ errors.Chunk) errors.Chunk acts (λ known. refl) stuck)
+          (given_items.is_stuck k one is_bare limit rest (inside left ending hs stop) (λ e. e ≡ errors.Chunk) (asked (Err errors.Chunk) ∷ acts) more behind
+          (stuck_error k one is_bare limit (λ e. e ≡ errors.Chunk) errors.Chunk acts behind rest (λ known. refl) stuck)
           (λ error named. inl (
             ([], (λ i. record { bytes = (sym body ∙ body_is) i; closing = given_closing (closing_of (sym is_end i)) }), others.0, tt),
             inl (named, inl (others.0, is_end)),
@@ -273,7 +273,7 @@ module _ {I : Type 0} (k : Kind I) (one : IsOneReading k) (is_bare : Bool) (limi
           let answer_is : answer ≡ Err NoMemory = same ∙ ap message_of item_is in
           let y = subst Answered answer_is x in
           subst Given (sym answer_is)
-          (given_items.lacks_answered k one is_bare limit (inside left ending hs stop) NoMemory acts more refl
+          (given_items.lacks_answered k one is_bare limit rest (inside left ending hs stop) NoMemory acts more refl
           (go (inside left ending hs stop) next behind
           (same_stands (inside left ending hs stop) st next bytes behind future (stays_lacking st.body NoMemory st next refl y.left.1) y.left.0
           (d, is, limit_is, seen, sound, is_left, body_is, ending_is, on)) run))
@@ -286,18 +286,18 @@ module _ {I : Type 0} (k : Kind I) (one : IsOneReading k) (is_bare : Bool) (limi
     -- ---- any answer
 
     between_given : (hs : List H) (stop : Option Fault) (answer : Result (Option (Message I)) ParseError) → Stands (between hs stop) st bytes future
-        → HasAnswered k is_bare st bytes answer next behind → Gives (between hs stop) (asked answer ∷ acts) more
+        → HasAnswered k is_bare st bytes answer next behind → Gives rest (between hs stop) (asked answer ∷ acts) more
     between_given hs stop answer (none, limit_is, seen, says) x = by_answer answer x (subst (λ (b : Option Decoding). IsStepFrom k b st.search bytes answer next.body behind) none x.step)
       where
         by_answer : (a : Result (Option (Message I)) ParseError) → HasAnswered k is_bare st bytes a next behind → IsIdleStep k st.search bytes a next.body behind
-            → Gives (between hs stop) (asked a ∷ acts) more
+            → Gives rest (between hs stop) (asked a ∷ acts) more
         by_answer (Ok None) y step = idle_none none limit_is seen hs stop says y step
         by_answer (Ok (Some (Chunk piece))) y step = absurd step
         by_answer (Ok (Some (Item i))) y step = idle_item none limit_is seen i y hs stop says
         by_answer (Err e) y step = idle_error none limit_is seen hs stop e says y step
 
     answer_given : (e : Expect H) (answer : Result (Option (Message I)) ParseError) → Stands e st bytes future → HasAnswered k is_bare st bytes answer next behind
-        → Gives e (asked answer ∷ acts) more
+        → Gives rest e (asked answer ∷ acts) more
     answer_given (between hs stop) answer stands x = between_given hs stop answer stands x
     answer_given (inside left ending hs stop) answer (d, is, limit_is, seen, sound, is_left, body_is, ending_is, on) x =
         inside_given left ending hs stop d is limit_is seen sound is_left body_is ending_is on answer x
@@ -305,10 +305,10 @@ module _ {I : Type 0} (k : Kind I) (one : IsOneReading k) (is_bare : Bool) (limi
   -- ---- all answers
 
   pub run_gives : (acts : List (Act I)) (e : Expect H) (st : Standing) (bytes more : List ℕ) (last : Standing) (rest : List ℕ)
-      → Stands e st bytes (bytes_came acts ++ more) → IsRun k is_bare st bytes acts last rest → Gives e acts more
-  run_gives [] e st bytes more last rest stands run = given_items.no_acts k one is_bare limit e more
+      → Stands e st bytes (bytes_came acts ++ more) → IsRun k is_bare st bytes acts last rest → Gives rest e acts more
+  run_gives [] e st bytes more last rest stands run = given_items.no_acts k one is_bare limit rest e more
   run_gives (comes new ∷ acts) e st bytes more last rest stands run =
-      given_items.came_first k one is_bare limit e new acts more (run_gives acts e st (bytes ++ new) more last rest (joined e stands) run)
+      given_items.came_first k one is_bare limit rest e new acts more (run_gives acts e st (bytes ++ new) more last rest (joined e stands) run)
     where
       text_is : (bytes ++ new) ++ (bytes_came acts ++ more) ≡ bytes ++ ((new ++ bytes_came acts) ++ more)
       text_is = append_assoc bytes new (bytes_came acts ++ more) ∙ ap (λ (l : List ℕ). bytes ++ l) (sym (append_assoc new (bytes_came acts) more))

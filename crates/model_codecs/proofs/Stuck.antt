@@ -64,30 +64,34 @@ module _ {I : Type 0} (k : Kind I) (one : IsOneReading k) (is_bare : Bool) (limi
   abbrev pub Says : List ℕ → List H → Option Fault → Type 0
   Says bytes hs stop = AreHeard k is_bare limit bytes hs stop
 
-  -- nothing is given, each error is this one, and none is last that says that nothing is there
-  pub record AreStuck (P : ParseError → Type 0) (acts : List (Act I)) : Type 0 where
+  -- nothing is given, each error is this one, none is last that says that nothing is there, and all bytes are left
+  pub record AreStuck (P : ParseError → Type 0) (acts : List (Act I)) (bytes rest : List ℕ) : Type 0 where
     pub none : told acts nothing ≡ nothing
     pub causes : HaveCauses P acts
     pub never : ¬ (EndsWaiting acts)
+    pub left : rest ≡ bytes ++ bytes_came acts
 
-  pub stuck_error : (P : ParseError → Type 0) (e : ParseError) (acts : List (Act I)) → UnlessNoMemory e (P e) → AreStuck P acts → AreStuck P (asked (Err e) ∷ acts)
-  stuck_error P e acts known x = record { none = x.none; causes = (known, x.causes); never = λ waiting. x.never (after_error e acts waiting) }
+  pub stuck_error : (P : ParseError → Type 0) (e : ParseError) (acts : List (Act I)) → (bytes rest : List ℕ) → UnlessNoMemory e (P e) → AreStuck P acts bytes rest
+      → AreStuck P (asked (Err e) ∷ acts) bytes rest
+  stuck_error P e acts bytes rest known x =
+      record { none = x.none; causes = (known, x.causes); never = λ waiting. x.never (after_error e acts waiting); left = x.left }
 
   -- ---- behind a broken body
 
   pub broken_stuck : (acts : List (Act I)) (st : Standing) (d : Decoding) (bytes : List ℕ) (last : Standing) (rest : List ℕ) → st.body ≡ Some d → d.is_broken ≡ true
-      → IsRun k is_bare st bytes acts last rest → AreStuck (λ e. e ≡ errors.Chunk) acts
-  broken_stuck [] st d bytes last rest is wrong run = record { none = refl; causes = tt; never = λ waiting. waiting }
+      → IsRun k is_bare st bytes acts last rest → AreStuck (λ e. e ≡ errors.Chunk) acts bytes rest
+  broken_stuck [] st d bytes last rest is wrong run = record { none = refl; causes = tt; never = λ waiting. waiting; left = run.1 ∙ sym (append-nil bytes) }
   broken_stuck (comes new ∷ acts) st d bytes last rest is wrong run =
       let x = broken_stuck acts st d (bytes ++ new) last rest is wrong run in
-      record { none = x.none; causes = x.causes; never = λ waiting. x.never (after_bytes new acts waiting) }
+      record { none = x.none; causes = x.causes; never = λ waiting. x.never (after_bytes new acts waiting); left = x.left ∙ append_assoc bytes new (bytes_came acts) }
   broken_stuck (asked answer ∷ acts) st d bytes last rest is wrong (next, behind, x, run) =
       let step : IsOpenStep d bytes answer next.body behind = subst (λ (b : Option Decoding). IsStepFrom k b st.search bytes answer next.body behind) is x.step in
       let said = subst (λ (b : Bool). IsDecodedBy b d bytes step.0 step.1 behind) wrong step.2 in
       let answer_is : answer ≡ Err errors.Chunk = step.3 ∙ ap message_of said.0 in
       let open_is : next.body ≡ Some d = step.4 ∙ ap (λ (i : Result (Option PayloadItem) DecodeError). open_after i step.1) said.0 ∙ ap Some said.1 in
-      subst (λ (a : Result (Option (Message I)) ParseError). AreStuck (λ e. e ≡ errors.Chunk) (asked a ∷ acts)) (sym answer_is)
-      (stuck_error (λ e. e ≡ errors.Chunk) errors.Chunk acts (λ known. refl) (broken_stuck acts next d behind last rest open_is wrong run))
+      subst (λ (a : Result (Option (Message I)) ParseError). AreStuck (λ e. e ≡ errors.Chunk) (asked a ∷ acts) bytes rest) (sym answer_is)
+      (stuck_error (λ e. e ≡ errors.Chunk) errors.Chunk acts bytes rest (λ known. refl)
+      (subst (λ (l : List ℕ). AreStuck (λ e. e ≡ errors.Chunk) acts l rest) said.2 (broken_stuck acts next d behind last rest open_is wrong run)))
 
   -- ---- behind a refused head
 
@@ -112,12 +116,13 @@ module _ {I : Type 0} (k : Kind I) (one : IsOneReading k) (is_bare : Bool) (limi
   module _ (fault : Fault) where
     pub refused_stuck : (acts : List (Act I)) (st : Standing) (bytes : List ℕ) (last : Standing) (rest : List ℕ) → st.body ≡ None → st.search.limit ≡ limit
         → ((b : List ℕ) → HasSeen st.search (bytes ++ b)) → Stops k limit bytes (refused fault) → IsRun k is_bare st bytes acts last rest
-        → AreStuck (λ e. fault_of e ≡ fault) acts
-    refused_stuck [] st bytes last rest none limit_is seen stops run = record { none = refl; causes = tt; never = λ waiting. waiting }
+        → AreStuck (λ e. fault_of e ≡ fault) acts bytes rest
+    refused_stuck [] st bytes last rest none limit_is seen stops run =
+        record { none = refl; causes = tt; never = λ waiting. waiting; left = run.1 ∙ sym (append-nil bytes) }
     refused_stuck (comes new ∷ acts) st bytes last rest none limit_is seen stops run =
         let x = refused_stuck acts st (bytes ++ new) last rest none limit_is (λ b. subst (HasSeen st.search) (sym (append_assoc bytes new b)) (seen (new ++ b)))
         (stops_append k one limit bytes new fault stops) run in
-        record { none = x.none; causes = x.causes; never = λ waiting. x.never (after_bytes new acts waiting) }
+        record { none = x.none; causes = x.causes; never = λ waiting. x.never (after_bytes new acts waiting); left = x.left ∙ append_assoc bytes new (bytes_came acts) }
     refused_stuck (asked answer ∷ acts) st bytes last rest none limit_is seen stops (next, behind, x, run) =
         by_answer (λ again. refused_stuck acts st bytes last rest none limit_is seen stops again) answer x
         (subst (λ (b : Option Decoding). IsStepFrom k b st.search bytes answer next.body behind) none x.step)
@@ -125,8 +130,8 @@ module _ {I : Type 0} (k : Kind I) (one : IsOneReading k) (is_bare : Bool) (limi
         now : HasSeen st.search bytes
         now = subst (HasSeen st.search) (append-nil bytes) (seen [])
 
-        by_answer : (IsRun k is_bare st bytes acts last rest → AreStuck (λ e. fault_of e ≡ fault) acts) → (a : Result (Option (Message I)) ParseError) → HasAnswered k is_bare st bytes a next behind → IsIdleStep k st.search bytes a next.body behind
-            → AreStuck (λ e. fault_of e ≡ fault) (asked a ∷ acts)
+        by_answer : (IsRun k is_bare st bytes acts last rest → AreStuck (λ e. fault_of e ≡ fault) acts bytes rest) → (a : Result (Option (Message I)) ParseError) → HasAnswered k is_bare st bytes a next behind → IsIdleStep k st.search bytes a next.body behind
+            → AreStuck (λ e. fault_of e ≡ fault) (asked a ∷ acts) bytes rest
         by_answer go (Ok None) y step =
             let waiting : IsWaiting limit bytes = subst (λ (m : ℕ). IsWaiting m bytes) limit_is (step.0 now) in
             let never = (one_stop k one limit bytes fault [] waits stops waiting).1 in
@@ -140,7 +145,7 @@ module _ {I : Type 0} (k : Kind I) (one : IsOneReading k) (is_bare : Bool) (limi
             let stays = y.left.0 in
             let again = go
             (subst (λ (s : Standing). IsRun k is_bare s bytes acts last rest) same (subst (λ (l : List ℕ). IsRun k is_bare next l acts last rest) stays run)) in
-            stuck_error (λ x. fault_of x ≡ fault) e acts
+            stuck_error (λ x. fault_of x ≡ fault) e acts bytes rest
             (λ known.
             let named = (one_stop k one limit bytes fault [] (refused (fault_of e)) stops (subst (λ (m : ℕ). Stops k m bytes (refused (fault_of e))) limit_is (step now known))).1 in
             cc named)

@@ -146,18 +146,17 @@ module _ {I : Type 0} (k : Kind I) (is_bare : Bool) (limit : ℕ) where
   EndsBroken (h ∷ next ∷ hs) = EndsBroken (next ∷ hs)
 
   -- Why an error is answered: all was given, and then the last body is broken, or the next head is refused for the fault that the
-  -- error names. Or behind what was given stand as many bytes as the limit, in which no head ends.
-  abbrev pub IsCauseOf : ParseError → List (I × Part) → List (k.Head × Part) → Option Fault → Type 0
-  IsCauseOf error ms hs stop =
+  -- error names. Or behind what was given as many bytes as the limit are left, in which no head ends.
+  abbrev pub IsCauseOf : List ℕ → ParseError → List (I × Part) → List (k.Head × Part) → Option Fault → Type 0
+  IsCauseOf left error ms hs stop =
       (AreAllOf ms hs × (((error ≡ broken_chunk) × EndsBroken hs) ⊎ (stop ≡ Some (fault_of error))))
-      ⊎ ((front behind : List (k.Head × Part)) × (text : List ℕ) × (hs ≡ front ++ behind) × AreAllOf ms front × AreHeard text behind stop
-      × IsTooLong limit text × (fault_of error ≡ too_large))
+      ⊎ ((front behind : List (k.Head × Part)) × (hs ≡ front ++ behind) × AreAllOf ms front × IsTooLong limit left × (fault_of error ≡ too_large))
 
-  -- What was given is the beginning of what is heard, and nothing else. Where all bytes came and there was no further item, it is
-  -- all of that, and nothing is refused.
-  pub record AreGivenOf (hs : List (k.Head × Part)) (stop : Option Fault) (acts : List (Act I)) (more : List ℕ) : Type 0 where
+  -- What was given is the beginning of what is heard, and nothing else; these bytes are left unread. Where all bytes came and there
+  -- was no further item, it is all of that, and nothing is refused.
+  pub record AreGivenOf (hs : List (k.Head × Part)) (stop : Option Fault) (acts : List (Act I)) (more left : List ℕ) : Type 0 where
     pub messages : List (I × Part)
     pub are : all_told acts ≡ record { part = no_part; messages = messages; stop = waits }
     pub first : AreFirstOf messages hs
-    pub causes : HaveCauses (λ e. IsCauseOf e messages hs stop) acts
+    pub causes : HaveCauses (λ e. IsCauseOf left e messages hs stop) acts
     pub all : more ≡ [] → EndsWaiting acts → AreAllOf messages hs × (stop ≡ None) × ¬ (EndsBroken hs)

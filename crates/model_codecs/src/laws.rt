@@ -49,13 +49,13 @@ pub fn a_codec_gives_what_was_asked()
 
 /// Whatever bytes come to a server's codec that has read nothing, and in whatever pieces: what it gives is the beginning of the
 /// one parse of them, each head with the bytes of its body and its end. An error is the fault for which that refuses the next head,
-/// or a broken body, or says that as many bytes as the limit hold no head's end. Where all bytes came and there is no further item,
+/// or a broken body, or says that as many bytes as the limit are left that hold no head's end. Where all bytes came and there is no further item,
 /// all of the parse is given.
 pub fn a_codec_gives_the_parse()
     ensures { (codec : Codec) (limit : ℕ) (acts : List (Act HeadItem)) (more rest : List ℕ) (last : Standing) (ms : List parse.Message)
         → IsFresh (codec_standing codec) limit → IsRun requests false (codec_standing codec) [] acts last rest
         → parse.IsParse (record { bytes = bytes_came acts ++ more; upgraded = None; ended = false; hold_size = limit }) ms
-        → AreGivenOf requests false limit (heard (bytes_came acts ++ more) ms) (refusal ms) acts more }
+        → AreGivenOf requests false limit (heard (bytes_came acts ++ more) ms) (refusal ms) acts more rest }
 {}
 
 /// So do the codecs of a client in a turn, behind a request of this method: with the bytes that were left from before, what they
@@ -65,7 +65,7 @@ pub fn client_codecs_give_the_parse()
         (ms : List AnswerMessage) → IsIdle (client_standing (of_codec codec)) limit left
         → IsRun answers (is_head method) (client_standing (of_codec codec)) left acts last rest → length ms < count
         → AreAnswersIn counts_each (record { bytes = left ++ (bytes_came acts ++ more); ended = false; hold_size = Some limit }) (replicate count method) ms
-        → AreGivenOf answers (is_head method) limit (heard_answers (is_head method) (left ++ (bytes_came acts ++ more)) ms) (answer_refusal ms) acts more }
+        → AreGivenOf answers (is_head method) limit (heard_answers (is_head method) (left ++ (bytes_came acts ++ more)) ms) (answer_refusal ms) acts more rest }
 {}
 
 /// What a client's codec writes for a request, its head, the pieces of its body and its end, is the text of the request.
