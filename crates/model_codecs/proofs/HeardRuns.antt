@@ -316,9 +316,17 @@ module _ {I : Type 0} (k : Kind I) (one : IsOneReading k) (is_bare : Bool) (limi
       joined : (e : Expect H) → Stands e st bytes ((new ++ bytes_came acts) ++ more) → Stands e st (bytes ++ new) (bytes_came acts ++ more)
       joined (between hs stop) (none, limit_is, seen, says) =
           (none, limit_is, λ b. subst (HasSeen st.search) (sym (append_assoc bytes new b)) (seen (new ++ b)), subst (λ (l : List ℕ). Says l hs stop) (sym text_is) says)
-      joined (inside left ending hs stop) (d, is, limit_is, seen, sound, is_left, body_is, ending_is, on) =
-          (d, is, limit_is, seen, sound, is_left, ap (λ (l : List ℕ). (reading_of d.rest l).body) text_is ∙ body_is,
-          ap (λ (l : List ℕ). (reading_of d.rest l).ending) text_is ∙ ending_is, on)
+      joined (inside left ending hs stop) (d, is, limit_is, seen, sound, is_left, body_is, ending_is, on) = (
+        d,
+        is,
+        limit_is,
+        seen,
+        sound,
+        is_left,
+        ap (λ (l : List ℕ). (reading_of d.rest l).body) text_is ∙ body_is,
+        ap (λ (l : List ℕ). (reading_of d.rest l).ending) text_is ∙ ending_is,
+        on,
+      )
   run_gives (asked answer ∷ acts) e st bytes more last rest stands (next, behind, x, run) =
       answer_given acts more last rest
       (λ e' st' bytes' stands' run'. run_gives acts e' st' bytes' more last rest stands' run')

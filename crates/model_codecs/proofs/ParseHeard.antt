@@ -106,6 +106,7 @@ module _ (bytes : List ℕ) (limit : ℕ) where
               full_heard n (reading_of (fixed_rest n) text) refl
               (cond-true (leb n (length text)) (ends_before (drop n text)) goes_on (le-leb n (length text) enough)) go)) on
         ]
+
     chunks_heard : (body : Body) (chunked : Chunked) (runs : List Run) → IsChunked text chunked runs
         → body ≡ content (shifted place runs) (chunked_stop all_so_far place chunked) → Follows body → Hears body (read start text)
     chunks_heard body chunked runs x is on = subst (λ (b : Body). Follows b → Hears b (read start text)) (sym is) (by_kind chunked x) on
