@@ -10,3 +10,11 @@ pub mod Fronts
 pub mod FrameRuns
 pub mod Texts
 pub mod Received
+pub mod Standings
+pub mod Tells
+pub mod ParseHeard
+pub mod AnswersHeard
+pub mod Stuck
+pub mod HeardItems
+pub mod HeardRuns
+pub mod Parsed

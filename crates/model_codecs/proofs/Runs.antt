@@ -22,6 +22,7 @@ use Rattle.model_ends.proofs.Rests.{RestSays, body_says}
 use Rattle.model_codecs.specs.Acts.{Act, comes, asked, bytes_came, told, HaveNoFault, EndsWaiting, HasAnswered, IsRun}
 use Rattle.model_codecs.specs.Given.{kind_to, Sent, texts, whole_part, has_part, IsPartGiven, IsBodyGiven, AreBegun, part_if, part_of, AreWhole}
 use Rattle.model_codecs.proofs.Bodies.{BodyGives, gave, waited, has_ended, lacked, body_gives}
+use Rattle.model_codecs.proofs.Standings.{closes_on, stays_idle, stays_lacking, is_lacking, seen_behind, seen_inside, looked_idle, looked_inside}
 use Rattle.model_codecs.proofs.Heads.{IsHeadSent, no_head_in_none, none_refused, head_fine, IsTaken, head_taken, head_there}
 
 -- the head frames the whole body that was written
@@ -62,11 +63,6 @@ none_sent no_body text bytes none sent = sent.0
 none_sent (fixed_body n) text bytes none sent = absurd (false≢true (sym none))
 none_sent chunked_body text bytes none sent = absurd (false≢true (sym none))
 none_sent raw_body text bytes none sent = absurd sent
-
--- a chunk of one byte at least leaves what follows the body
-closes_on : (b : List ℕ) (closing : Closing) → 0 < length b → chunk_in_front b closing ≡ closing
-closes_on [] closing some = absurd (omega (arith, some))
-closes_on (x ∷ b) closing some = refl
 
 -- what is next: a head of these; or the rest of a body, and then these
 pub data Expect {I : Type 0} (k : Kind I) : Type 0 where
@@ -287,39 +283,6 @@ module _ {I : Type 0} (k : Kind I) (one : IsOneReading k) (is_bare : Bool) (limi
   same_stands : (e : Expect k) (old new : Standing) (bytes behind future : List ℕ) → new ≡ old → behind ≡ bytes → Stands e old bytes future → Stands e new behind future
   same_stands e old new bytes behind future same stays x =
       subst (λ (s : Standing). Stands e s behind future) (sym same) (subst (λ (l : List ℕ). Stands e old l future) (sym stays) x)
-
-  -- after an error, where no body is open or memory ran out
-  stays_idle : (body : Option Decoding) (error : ParseError) (old new : Standing) → body ≡ None → StaysAfter body error old new → new ≡ old
-  stays_idle None error old new none x = x
-  stays_idle (Some d) error old new none x = absurd (cc none)
-
-  stays_lacking : (body : Option Decoding) (error : ParseError) (old new : Standing) → error ≡ NoMemory → StaysAfter body error old new → new ≡ old
-  stays_lacking None error old new is x = x
-  stays_lacking (Some d) error old new is x = subst (λ (y : ParseError). StaysAfter (Some d) y old new) is x
-
-  -- an error is that memory ran out, or it isn't
-  is_lacking : (error : ParseError) → (error ≡ NoMemory) ⊎ ¬ (error ≡ NoMemory)
-  is_lacking NoMemory = inl refl
-  is_lacking error = inr (λ is. cc is)
-
-  -- what was looked at behind an answer
-  seen_behind : (body : Option Decoding) (search : Search) (bytes : List ℕ) → body ≡ None → ((more : List ℕ) → HasLooked body search (bytes ++ more))
-      → (b : List ℕ) → HasSeen search (bytes ++ b)
-  seen_behind None search bytes none looked = looked
-  seen_behind (Some d) search bytes none looked = absurd (cc none)
-
-  seen_inside : (body : Option Decoding) (d : Decoding) (search : Search) (bytes : List ℕ) → body ≡ Some d → ((more : List ℕ) → HasLooked body search (bytes ++ more))
-      → (b : List ℕ) → HasSeen search b
-  seen_inside None d search bytes is looked = absurd (cc is)
-  seen_inside (Some x) d search bytes is looked = looked []
-
-  looked_idle : (body : Option Decoding) (search : Search) (bytes : List ℕ) → body ≡ None → ((b : List ℕ) → HasSeen search (bytes ++ b)) → HasLooked body search bytes
-  looked_idle None search bytes none seen = subst (HasSeen search) (append-nil bytes) (seen [])
-  looked_idle (Some d) search bytes none seen = absurd (cc none)
-
-  looked_inside : (body : Option Decoding) (d : Decoding) (search : Search) (bytes : List ℕ) → body ≡ Some d → ((b : List ℕ) → HasSeen search b) → HasLooked body search bytes
-  looked_inside None d search bytes is seen = absurd (cc is)
-  looked_inside (Some x) d search bytes is seen = seen
 
   -- ---- while no body is open
 

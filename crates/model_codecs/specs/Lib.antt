@@ -4,3 +4,4 @@ pub mod Requests
 pub mod Answers
 pub mod Sent
 pub mod Received
+pub mod Heard

@@ -1,9 +1,11 @@
 //! What a codec gives of what the other end wrote.
 
-ghost use Rattle.std.specs.Prelude.{◌≡◌, ℕ, ◌<◌, false, List, [], ◌++◌, map, Some, None, Option, Result, IfOk, IfErr, OnOk, OnErr};
+ghost use Rattle.std.specs.Prelude.{◌≡◌, ℕ, ◌<◌, false, List, [], ◌++◌, length, map, replicate, Some, None, Option, Result, IfOk, IfErr, OnOk, OnErr};
 ghost use Rattle.std.specs.List.{AllByRecursion};
 ghost use Rattle.h1_decoder.specs.declared.decoder.HeadItem.{HeadItem};
+ghost use Rattle.model_client.specs.AnswerParse.{AnswerMessage, counts_each, AreAnswersIn};
 ghost use Rattle.model_client.specs.RequestText.{IsPlainGiven};
+ghost use Rattle.model_h1.specs.Parse as parse;
 ghost use Rattle.model_h1.specs.Setting.{Setting};
 ghost use Rattle.model_h1.specs.Sums.{Step};
 ghost use Rattle.model_h1.specs.Text.{text};
@@ -34,6 +36,7 @@ ghost use Rattle.h1_codec.specs.declared.client_codec.ClientCodec.{ClientCodec};
 ghost use Rattle.model_codecs.specs.Answers.{IsHeadAsked, IsChunkAsked, is_head, Turn, AreTurns, all_came, AreToTurns, AreRead, AreAllWhole};
 ghost use Rattle.model_codecs.specs.Acts.{Act, bytes_came, HasAnswered, IsRun};
 ghost use Rattle.model_codecs.specs.Given.{AreGiven};
+ghost use Rattle.model_codecs.specs.Heard.{heard, refusal, heard_answers, answer_refusal, IsIdle, AreGivenOf};
 ghost use Rattle.model_codecs.specs.Requests.{IsFresh, sent_of, WrittenRequest, IsWritten, given_of, text_of};
 
 /// A server's codec that has read nothing gives the requests that were sent, in whatever pieces their bytes come: each head as
@@ -42,6 +45,27 @@ pub fn a_codec_gives_what_was_asked()
     ensures { (codec : Codec) (limit : ℕ) (sent : List SentRequest) (acts : List (Act HeadItem)) (more rest : List ℕ) (last : Standing) → 0 < limit
         → IsFresh (codec_standing codec) limit → AllByRecursion (IsAsked limit) sent → IsRun requests false (codec_standing codec) [] acts last rest
         → bytes_came acts ++ more ≡ asked_text sent → AreGiven requests false (map sent_of sent) acts more }
+{}
+
+/// Whatever bytes come to a server's codec that has read nothing, and in whatever pieces: what it gives is the beginning of the
+/// one parse of them, each head with the bytes of its body and its end. An error is the fault for which that refuses the next head,
+/// or a broken body, or says that as many bytes as the limit are left that hold no head's end. Where all bytes came and there is no further item,
+/// all of the parse is given.
+pub fn a_codec_gives_the_parse()
+    ensures { (codec : Codec) (limit : ℕ) (acts : List (Act HeadItem)) (more rest : List ℕ) (last : Standing) (ms : List parse.Message)
+        → IsFresh (codec_standing codec) limit → IsRun requests false (codec_standing codec) [] acts last rest
+        → parse.IsParse (record { bytes = bytes_came acts ++ more; upgraded = None; ended = false; hold_size = limit }) ms
+        → AreGivenOf requests false limit (heard (bytes_came acts ++ more) ms) (refusal ms) acts more rest }
+{}
+
+/// So do the codecs of a client in a turn, behind a request of this method: with the bytes that were left from before, what they
+/// give is the beginning of the answers that the bytes hold, as those to requests of this method alone.
+pub fn client_codecs_give_the_parse()
+    ensures { (codec : ClientCodec) (limit count : ℕ) (method left : List ℕ) (acts : List (Act ResponseItem)) (more rest : List ℕ) (last : Standing)
+        (ms : List AnswerMessage) → IsIdle (client_standing (of_codec codec)) limit left
+        → IsRun answers (is_head method) (client_standing (of_codec codec)) left acts last rest → length ms < count
+        → AreAnswersIn counts_each (record { bytes = left ++ (bytes_came acts ++ more); ended = false; hold_size = Some limit }) (replicate count method) ms
+        → AreGivenOf answers (is_head method) limit (heard_answers (is_head method) (left ++ (bytes_came acts ++ more)) ms) (answer_refusal ms) acts more rest }
 {}
 
 /// What a client's codec writes for a request, its head, the pieces of its body and its end, is the text of the request.

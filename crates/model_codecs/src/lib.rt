@@ -10,7 +10,9 @@
 //!   head as it was sent, all bytes of its body, and its end.
 //! - [`laws::client_codecs_give_what_was_answered`]: a `ClientCodec`, and the `ClientPayloadCodec` that it changes into, give
 //!   each answer in the turn of its request. A request may be written once the answer before its own is read to its end.
-//! - The only error is that memory ran out, after which the same is asked for again.
+//! - Of these the only error is that memory ran out, after which the same is asked for again.
+//! - [`laws::a_codec_gives_the_parse`], [`laws::client_codecs_give_the_parse`]: of any bytes a codec gives the beginning of the one
+//!   parse, and each error has its cause there.
 //!
 //! # WebSocket (RFC 6455, section 5), in [`upgrade_laws`]
 //!
