@@ -10,7 +10,7 @@ use http_types::ServiceConfig;
 use input::InputWatch;
 use net_sockets::Linger;
 use serve_async::{Limits, Stop, serve};
-use site::routes;
+use site::all_routes;
 use sites::Sites;
 use std::alloc::AllocGlobal;
 use std::env;
@@ -126,7 +126,7 @@ fn is_served<R>(rt: R, listener: TcpListener, stop: Stop) -> bool
 where
     R: Wait + Clock + Net + RandomSource + AllocGlobal + Drop,
 {
-    let Ok(routes) = routes(rt.alloc()) else {
+    let Ok(routes) = all_routes(rt.alloc()) else {
         return false;
     };
     let sites = Sites::new(rt.alloc(), &routes);
