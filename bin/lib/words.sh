@@ -243,8 +243,9 @@ END
 launch_site() {
     answers_help "$@" <<'END'
 It serves a port of this machine, 0 to 65535, by 1 to 1024 threads, each with an event loop of its own, or with 0 by its first
-one alone. GET / is answered with a greeting, GET /lines with three lines in chunks, POST /echo with the bytes that came. It ends
-by a signal, with status 0, and with 1 where the port, a loop or a thread can't be had.
+one alone. GET / is answered with a greeting, GET /lines with three lines in chunks, POST /echo with the bytes that came, and in
+JSON GET /greet/NAME with a greeting, POST /sum of {"numbers": [1, 2]} with their sum. It ends by a signal, with status 0, and
+with 1 where the port, a loop or a thread can't be had.
 END
     [ $# = 2 ] && is_number "$1" 65535 && is_number "$2" 1024 || refuse_usage
     ending=input

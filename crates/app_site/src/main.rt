@@ -10,6 +10,7 @@ use http_types::ServiceConfig;
 use input::InputWatch;
 use net_sockets::Linger;
 use serve_async::{Limits, Stop, serve};
+use site::all_routes;
 use sites::Sites;
 use std::alloc::AllocGlobal;
 use std::env;
@@ -125,7 +126,10 @@ fn is_served<R>(rt: R, listener: TcpListener, stop: Stop) -> bool
 where
     R: Wait + Clock + Net + RandomSource + AllocGlobal + Drop,
 {
-    let sites = Sites::new(rt.alloc());
+    let Ok(routes) = all_routes(rt.alloc()) else {
+        return false;
+    };
+    let sites = Sites::new(rt.alloc(), &routes);
     let config = ServiceConfig::default();
     match serve(&rt, &listener, &sites, config, LIMITS, &stop) {
         Ok(()) => true,
