@@ -217,7 +217,7 @@ impl Connection {
         self.parts.eof(&self.config)
     }
 
-    /// Hands out the next request's head, or that the connection has ended. It wants no memory where it closes, and
+    /// Hands out the next request's head, or that the connection has ended. It needs no memory where it closes, and
     /// where no head is there and room for more bytes. The head stands in a block of its own, which `reuse` takes back.
     /// Where the connection closes, all that waits to be written is to be written first: after the end that this tells
     /// nothing may be, so the last answer would be lost. A request that is handed out may be answered.
@@ -326,7 +326,7 @@ impl Connection {
         self.parts.send(&self.config, message)
     }
 
-    /// Tells a client that waits for leave to send its body to go on (RFC 7231, section 5.1.1). It may still be answered.
+    /// Tells the client to send the body that it holds back (RFC 7231, section 5.1.1). The request may still be answered.
     pub fn send_continue(&mut self) -> Result<(), NoMemory>
         requires can_continue { IsAllowed self.old on.send_continue }
         ensures stands { OnOk result (GoesOn self.old on.send_continue (Is on.done) self.new) }

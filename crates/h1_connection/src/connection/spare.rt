@@ -85,7 +85,7 @@ impl Spare {
 }
 
 impl Connection {
-    /// Takes back a head that was handed out. The next one is written over it, and wants no new block. What it shares with
+    /// Takes back a head that was handed out. The next one is written over it, and needs no new block. What it shares with
     /// the input is let go.
     pub fn reuse(&mut self, item: HeadItem)
         ensures { self.new ≡ self.old }
