@@ -86,10 +86,11 @@ impl Parts {
             self.is_over = true;
             return Ok(NextHead::Closed(end));
         }
-        let Ok(item) = spare.take_item(alloc) else {
+        let Ok(room) = spare.take_room(alloc) else {
             return self.next_starved(config);
         };
-        let Ok(room) = spare.take_room(alloc) else {
+        let Ok(item) = spare.take_item(alloc) else {
+            spare.keep_room(room);
             return self.next_starved(config);
         };
         self.next_in(alloc, config, spare, item, room)
