@@ -169,11 +169,13 @@ pub fn read_head_into(
     ensures err { OnErr result (item.new ≡ without_headers item.old) }
 {
     item.clear_headers();
-    let result = read_over(alloc, item, room, piece);
-    if result.is_err() {
-        item.clear_headers();
+    match read_over(alloc, item, room, piece) {
+        Ok(()) => Ok(()),
+        Err(error) => {
+            item.clear_headers();
+            Err(error)
+        }
     }
-    result
 }
 
 /// Reads a head over one without headers, part by part, so that nothing large is moved. After an error
