@@ -20,7 +20,9 @@ use Rattle.model_client.specs.AnswerReading.{Answer, answer_is, IsAnswerReadingW
 use Rattle.model_client.specs.ClientEvent as asked
 use Rattle.model_client.specs.ClientKept.{ClientKept}
 use Rattle.model_client.specs.ClientStep.{IsClientStep}
-use Rattle.model_client.specs.ClientTrace.{Happened}
+use Rattle.model_client.specs.ClientTrace.{Happened, IsClientTrace}
+use Rattle.http_config.specs.Config.{Settings}
+use Rattle.proxy.specs.Sides.{ServerDid}
 use Rattle.model_client.proofs.Answered as reads
 use Rattle.model_h1.specs.Setting.{Setting}
 use Rattle.h1_client.specs.Answers as answers
@@ -31,7 +33,7 @@ use Rattle.h1_client.specs.declared.event.NextAnswer.{NextAnswer}
 use Rattle.h1_client.specs.declared.event.NextAnswer.TheVariants as answered
 use Rattle.model_proxy.proofs.Client.{machine_step}
 use Rattle.proxy.proofs.Sides.{stepped}
-use Rattle.proxy.specs.Puts.{Part, request_breaks, has_closed, parts_by, parts_of, Puts, HandsHead, HandsNext, HandsPulled, Handed, body_bytes, body_end, body_fault, handed_out, handed_by, handed_of, Hands, HandsNone, Tells, IsRead, HandsAnswer, HandsPiece}
+use Rattle.proxy.specs.Puts.{Part, hands, takes, takes_end, request_breaks, has_closed, parts_by, parts_of, PutsFor, Puts, HandsHead, HandsNext, HandsPulled, Handed, body_bytes, body_end, body_fault, handed_out, handed_by, handed_of, Hands, HandsNone, Tells, IsRead, HandsAnswer, HandsPiece}
 
 -- ---- one after another
 
@@ -110,16 +112,24 @@ next_hands (next.Closed end) a b settings one =
     (one_puts a on.next _ b (has_closed ∷ []) one (λ o says. ap (parts_by on.next) says), was_closing a b (end_of end) settings one)
 
 pub pulled_hands : (n : Pulled) (a b : State) → GoesOn a on.pull (SaysPulled n) b → HandsPulled n a b
-pulled_hands (pulled.Bytes bytes) a b one = one_puts a on.pull _ b [] one (λ o says. ap (parts_by on.pull) says)
+pulled_hands (pulled.Bytes bytes) a b one = one_puts a on.pull _ b (takes bytes ∷ []) one (λ o says. ap (parts_by on.pull) says)
 pulled_hands (pulled.Trailers entries) a b one = one_puts a on.pull _ b [] one (λ o says. ap (parts_by on.pull) says.1)
-pulled_hands pulled.End a b one = one_puts a on.pull _ b [] one (λ o says. ap (parts_by on.pull) says)
+pulled_hands pulled.End a b one = one_puts a on.pull _ b (takes_end ∷ []) one (λ o says. ap (parts_by on.pull) says)
 pulled_hands (pulled.Broken fault) a b one = one_puts a on.pull _ b (request_breaks (fault_of fault) ∷ []) one (λ o says. ap (parts_by on.pull) says)
 pulled_hands pulled.Pending a b one = one_puts a on.pull _ b [] one (λ o says. ap (parts_by on.pull) says)
 
--- a head that is handed out
-pub head_puts : (Is : Head → Type 0) (a b : State) → HandsHead Is a b → Puts [] a b
+-- a head that is handed out, and then these parts
+pub behind_head : (Is : Head → Type 0) (parts : List Part) (a b c : State) → HandsHead Is a b → Puts parts b c
+    → PutsFor (λ (all : List Part). (h : Head) × Is h × (all ≡ parts ++ hands h ∷ [])) a c
 unfolding parts_of
-head_puts Is a b x = λ trace stands. let y = x trace stands in (record { event = on.next; outcome = on.head y.0 } ∷ [], y.2, refl)
+behind_head Is parts a b c head puts = λ trace stands.
+    let x = head trace stands in
+    let s : Step = record { event = on.next; outcome = on.head x.0 } in
+    let y = puts (s ∷ trace) x.2 in (
+      y.0 ++ s ∷ [],
+      subst (Stands c) (sym (append_assoc y.0 (s ∷ []) trace)) y.1,
+      (x.0, x.1, parts_of_both (s ∷ []) y.0 ∙ ap (λ (ps : List Part). ps ++ hands x.0 ∷ []) y.2),
+    )
 
 -- ---- a server's side
 
@@ -164,6 +174,16 @@ hands_both some more a b c first second = λ trace stands.
 pub hands_then : (handed : List Handed) (a b c : servers.State) → HandsNone a b → Hands handed b c → Hands handed a c
 hands_then handed a b c first second = λ trace stands.
     let x = hands_both [] handed a b c first second trace stands in (x.0, x.1, x.2 ∙ append-nil handed)
+
+-- an event that was allowed and is done
+pub did_hands : (event : asked.ClientEvent) (a b : servers.State) (handed : List Handed) → ServerDid event a b → handed_by event asked.done ≡ handed → Hands handed a b
+unfolding handed_of
+did_hands event a b handed did is = λ trace stands.
+    let s : Happened = record { event = event; outcome = asked.done } in (
+      s ∷ [],
+      subst (λ (t : Settings). IsClientTrace (asking.setting_of t) (s ∷ trace) b.kept) (sym did.settings) (a.kept, stands, did.allowed, did.step),
+      append-nil (handed_by event asked.done) ∙ is,
+    )
 
 -- the answer that was told isn't to be passed on
 pub tells_none : (o : asked.ClientOutcome) (a b : servers.State) → handed_out o ≡ [] → Tells o a b → HandsNone a b

@@ -18,6 +18,7 @@ use Rattle.h1_client.specs.HeadMeaning as heads
 use Rattle.model_client.specs.AnswerParse.{is_interim}
 use Rattle.model_client.specs.AnswerReading.{Answer, answer_is, IsAnswerReading}
 use Rattle.model_client.specs.ClientEvent as asked
+use Rattle.model_client.specs.ClientEvent.{ClientRequest}
 use Rattle.model_client.specs.ClientKept.{client_allows, client_closing}
 use Rattle.model_client.specs.ClientTrace.{Happened}
 use Rattle.h1_client.specs.ClientMeaning as asking
@@ -33,16 +34,23 @@ pub record Put : Type 0 where
   pub size : BodySize
 
 -- What the client's connection is told of a reply: its head, a piece of its body, its end, or that it is cut. And what else counts of what is
--- done there: that the client was told to go on; that the request's body was found broken, or cut; that its rest was left; that the connection
--- told that it has closed; and any event that isn't one of a forwarder's calls in between, as bytes that are read, or an upgrade.
+-- done there: that a head was handed out, bytes of its request's body, or its end; that the client was told to go on; that the request's body was
+-- found broken, or cut; that its rest was left; that the connection told that it has closed; and any event that isn't one of a forwarder's calls in
+-- between, as bytes that are read, or an upgrade.
 pub data Part : Type 0 where
   begins : Put → Part
   continues : List ℕ → Part
   ends breaks_off goes_on : Part
+  hands : Head → Part
+  takes : List ℕ → Part
+  takes_end : Part
   request_breaks : on.BodyFault → Part
   leaves_rest has_closed other_event : Part
 
 abbrev pub parts_told : on.Outcome → List Part
+parts_told (on.head h) = hands h ∷ []
+parts_told (on.bytes bytes) = takes bytes ∷ []
+parts_told on.body_ended = takes_end ∷ []
 parts_told (on.broken_by fault) = request_breaks fault ∷ []
 parts_told (on.closed end) = has_closed ∷ []
 parts_told o = []
@@ -64,9 +72,13 @@ unfoldable pub parts_of : List Step → List Part
 parts_of [] = []
 parts_of (s ∷ before) = parts_by s.event s.outcome ++ parts_of before
 
--- More happened on the client's connection: these parts, the newest first, and no others. So no events came but a forwarder's own.
+-- More happened on the client's connection: parts that are so, the newest first, and no others. So no events came but a forwarder's own.
+abbrev pub PutsFor : (List Part → Type 0) → State → State → Type 0
+PutsFor Are old new = (trace : List Step) → Stands old trace → (more : List Step) × Stands new (more ++ trace) × Are (parts_of more)
+
+-- these parts
 abbrev pub Puts : List Part → State → State → Type 0
-Puts parts old new = (trace : List Step) → Stands old trace → (more : List Step) × Stands new (more ++ trace) × (parts_of more ≡ parts)
+Puts parts old new = PutsFor (λ all. all ≡ parts) old new
 
 -- the event by which a part of a reply is put
 abbrev pub event_of : Part → on.Event
@@ -102,9 +114,9 @@ HandsNext (next.Closed end) old new =
     Puts (has_closed ∷ []) old new × ((trace : List Step) → Stands old trace → is_some (closing_by (setting_of old.settings) old.kept) ≡ true)
 
 abbrev pub HandsPulled : Pulled → State → State → Type 0
-HandsPulled (pulled.Bytes bytes) old new = Puts [] old new
+HandsPulled (pulled.Bytes bytes) old new = Puts (takes bytes ∷ []) old new
 HandsPulled (pulled.Trailers entries) old new = Puts [] old new
-HandsPulled pulled.End old new = Puts [] old new
+HandsPulled pulled.End old new = Puts (takes_end ∷ []) old new
 HandsPulled (pulled.Broken fault) old new = Puts (request_breaks (fault_of fault) ∷ []) old new
 HandsPulled pulled.Pending old new = Puts [] old new
 
@@ -119,9 +131,12 @@ abbrev pub is_good : Answer → Bool
 is_good a = not (is_refused a) && not (is_interim a.status)
 
 -- What a server's connection hands out of its answers: the head of one to be passed on, or of one that never is; bytes of a body, its end, or
--- its fault; a fault instead of a head, or that it has closed. And any event on it that isn't one of a forwarder's calls in between, as bytes
--- that are read, or a request that is given up.
+-- its fault; a fault instead of a head, or that it has closed. What it is asked: a request, more of its body, and its end. And any event on it that
+-- isn't one of a forwarder's calls in between, as bytes that are read, or a request that is given up.
 pub data Handed : Type 0 where
+  asks : ClientRequest → BodySize → Handed
+  sends : List ℕ → Handed
+  sends_end : Handed
   good_answer refused_answer : Answer → Handed
   body_bytes : List ℕ → Handed
   body_end : Handed
@@ -141,13 +156,13 @@ handed_out asked.body_ended = body_end ∷ []
 handed_out (asked.broken_by fault) = body_fault fault ∷ []
 handed_out o = []
 
--- a request that is asked, more of its body or its end, and a moment that is told, hand out nothing
+-- a moment that is told counts for nothing
 abbrev pub handed_by : asked.ClientEvent → asked.ClientOutcome → List Handed
 handed_by asked.next o = handed_out o
 handed_by asked.pull o = handed_out o
-handed_by (asked.ask request size) o = []
-handed_by (asked.chunk bytes) o = []
-handed_by asked.body_end o = []
+handed_by (asked.ask request size) o = asks request size ∷ []
+handed_by (asked.chunk bytes) o = sends bytes ∷ []
+handed_by asked.body_end o = sends_end ∷ []
 handed_by (asked.tick moment) o = []
 handed_by event o = other_server_event ∷ []
 

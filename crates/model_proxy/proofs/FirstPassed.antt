@@ -1,0 +1,72 @@
+-- An answer whose head was handed out is passed on as the one that is found.
+use Rattle.std.proofs.Common.{◌≡◌, ℕ, ◌+◌, ◌≤◌, Bool, true, false, cond, List, [], ◌∷◌, ◌++◌, length, codes, bytes_eq, Option, Some, None, refl, sym, ap, ◌∙◌, subst, arith}
+use Rattle.std.specs.Prelude.{◌||◌, if◌then◌else◌}
+use Rattle.std.proofs.lemmas.Bool.{false≢true, eqb-true, le-ltb}
+use Rattle.model_h1.specs.Answer.{BodySize, is_at_once}
+use Rattle.model_h1.specs.Handed.{Begins}
+use Rattle.model_h1.specs.Request.{BodyKind, no_body, fixed_body, chunked_body, raw_body}
+use Rattle.model_h1.specs.Parse.{Body, content, ended_at, IsBodyOf}
+use Rattle.model_h1.proofs.BodyGrowth.{fixed_whole}
+use Rattle.model_h1.specs.Laws.Exchanges.{AnswerGiven, answer_given, is_whole}
+use Rattle.model_client.specs.RequestText.{joined}
+use Rattle.model_client.specs.AnswerReading.{Answer}
+use Rattle.model_client.specs.AnswerParse.{Received}
+use Rattle.model_client.specs.ReadOut.{ReadAnswer}
+use Rattle.model_proxy.specs.Answers.{whole_at, Found, found_body, reply_head, reply_size}
+use Rattle.model_proxy.specs.Forwarding.{IsWhole, IsPassedOn}
+use Rattle.model_proxy.proofs.FoundHanded.{IsFoundSo}
+
+-- ---- a reply that ends with its head
+
+pub record EndsAtOnce (b : Body) : Type 0 where
+  pub end : ℕ
+  pub are : b ≡ content [] (ended_at end [])
+
+ends_by : (bytes : List ℕ) (ended is_head : Bool) (kind : BodyKind) (a : Answer) (place : ℕ) (b : Body) → place ≤ length bytes
+    → is_at_once (reply_size is_head (record a { body = kind })) ≡ true
+    → IsBodyOf (record { bytes = bytes; upgraded = None; ended = ended; hold_size = 0 }) (if is_head then no_body else kind) place b → EndsAtOnce b
+ends_by bytes ended true kind a place b within at x = record { end = place; are = x }
+ends_by bytes ended false no_body a place b within at x = record { end = place; are = x }
+ends_by bytes ended false (fixed_body n) a place b within at x =
+    let none : n ≡ 0 = eqb-true n 0 at in
+    let fits : place + n ≤ length bytes = omega (arith, within, none) in
+    let low : place + n ≤ place = omega (arith, none) in
+    record {
+      end = place + n;
+      are =
+          x ∙ fixed_whole bytes None ended 0 place n fits
+          ∙ ap (λ (t : Bool). content (cond t (record { start = place; end = place + n } ∷ []) []) (ended_at (place + n) [])) (le-ltb place (place + n) low);
+    }
+ends_by bytes ended false chunked_body a place b within at x = absurd (false≢true at)
+ends_by bytes ended false raw_body a place b within at x = absurd (false≢true at)
+
+pub ends_at_once : (s : Received) (method : List ℕ) (h : ReadAnswer) (a : Answer) (found : Found) (x : IsFoundSo s method h a found)
+    → is_at_once (reply_size (bytes_eq method (codes "HEAD")) a) ≡ true → EndsAtOnce x.message.body
+ends_at_once s method h a found x at =
+    ends_by s.bytes s.ended (bytes_eq method (codes "HEAD")) a.body a x.message.body_start x.message.body x.of.within at x.of.is
+
+-- ---- its head is passed on
+
+or_first : (t u : Bool) → (t || u) ≡ true → u ≡ false → t ≡ true
+or_first true u is none = refl
+or_first false u is none = absurd (false≢true (sym none ∙ is))
+
+pub head_is_found : (s : Received) (method : List ℕ) (h : ReadAnswer) (a : Answer) (found : Found) → IsFoundSo s method h a found → found.response ≡ Some a
+head_is_found s method h a found x = ap (λ (f : Found). f.response) (x.is ∙ ap (found_body s a) x.of.has.are)
+
+pub first_passed : (s : Received) (method : List ℕ) (h : ReadAnswer) (a : Answer) (found : Found) (g : AnswerGiven) → IsFoundSo s method h a found
+    → g.answered.head ≡ reply_head a → g.answered.size ≡ reply_size (bytes_eq method (codes "HEAD")) a → g.pieces ≡ [] → g.is_ended ≡ false
+    → IsPassedOn method g found a
+first_passed s method h a found g x head size none goes = record {
+  response = head_is_found s method h a found x;
+  head = head;
+  size = size;
+  bytes = subst (λ (ps : List (List ℕ)). Begins (joined ps) found.bytes) (sym none) (found.bytes, refl);
+  end = λ whole.
+      let at = or_first (is_at_once g.answered.size) g.is_ended whole goes in
+      let ends = ends_at_once s method h a found x (ap is_at_once (sym size) ∙ at) in
+      let is : found ≡ found_body s a (content [] (ended_at ends.end [])) = x.is ∙ ap (found_body s a) ends.are in (
+        subst (λ (f : Found). IsWhole f.fate) (sym is) tt,
+        ap joined none ∙ sym (ap (λ (f : Found). f.bytes) is),
+      );
+}
