@@ -26,7 +26,7 @@ use Rattle.model_proxy.specs.Forwarding.{IsWhole}
 use Rattle.model_proxy.proofs.PlacesKept.{first_all}
 use Rattle.model_proxy.proofs.FoundAnswers.{answer_found}
 use Rattle.model_proxy.proofs.FoundHanded.{IsPassedOver, is_out, IsFoundSo, handed_is_found, asked_leads}
-use Rattle.model_proxy.proofs.PiecesPut.{IsBehind, pieces_passed}
+use Rattle.model_proxy.proofs.PiecesPut.{PutsOn, put_passed}
 use Rattle.model_proxy.proofs.MovedSteps.{PassesOn}
 
 -- ---- where it was asked
@@ -118,17 +118,9 @@ module _ (theirs ours : Setting) (held : theirs.hold_size ≡ ours.hold_size) (h
       )
 
   -- so a reply of the pieces that were handed out passes it on
-  pub since_passed : (c : ClientKept) (news : List ReadAnswer) (h : ReadAnswer) (a : Answer) (g : AnswerGiven) (tail : List Item) → IsClientTrace ours l.happened c
+  pub since_passed : (c : ClientKept) (news : List ReadAnswer) (h : ReadAnswer) (a : Answer) (g : AnswerGiven) → IsClientTrace ours l.happened c
       → (read_out l.happened).answers ≡ (h ∷ news) ++ (read_out w.before).answers → AllByRecursion IsPassedOver news → h.reading ≡ answer_is a → is_out a ≡ false
-      → is_interim a.status ≡ false → h.items ≡ map item_bytes g.pieces ++ tail → AllByRecursion IsBehind tail → g.answered.head ≡ reply_head a
-      → g.answered.size ≡ reply_size (bytes_eq x.pulled.head.method (codes "HEAD")) a
-      → ((found : Found) → IsFoundSo since x.pulled.head.method h a found → g.is_ended ≡ true → IsWhole found.fate × (joined g.pieces ≡ found.bytes))
-      → PassesOn theirs history x k (length history) g
-  since_passed c news h a g tail ran answers passed reading good final items behind head size ended =
+      → is_interim a.status ≡ false → PutsOn x.pulled.head.method a h.items g → PassesOn theirs history x k (length history) g
+  since_passed c news h a g ran answers passed reading good final put =
       let f = since_found c news h a ran answers passed reading good final in
-      record {
-        found = f.0;
-        is = f.1;
-        answer = a;
-        passed = pieces_passed since x.pulled.head.method h a f.0 g tail f.2 items behind head size (ended f.0 f.2);
-      }
+      record { found = f.0; is = f.1; answer = a; passed = put_passed since x.pulled.head.method h a f.0 g f.2 put }

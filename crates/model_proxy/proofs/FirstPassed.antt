@@ -47,26 +47,5 @@ ends_at_once s method h a found x at =
 
 -- ---- its head is passed on
 
-or_first : (t u : Bool) → (t || u) ≡ true → u ≡ false → t ≡ true
-or_first true u is none = refl
-or_first false u is none = absurd (false≢true (sym none ∙ is))
-
 pub head_is_found : (s : Received) (method : List ℕ) (h : ReadAnswer) (a : Answer) (found : Found) → IsFoundSo s method h a found → found.response ≡ Some a
 head_is_found s method h a found x = ap (λ (f : Found). f.response) (x.is ∙ ap (found_body s a) x.of.has.are)
-
-pub first_passed : (s : Received) (method : List ℕ) (h : ReadAnswer) (a : Answer) (found : Found) (g : AnswerGiven) → IsFoundSo s method h a found
-    → g.answered.head ≡ reply_head a → g.answered.size ≡ reply_size (bytes_eq method (codes "HEAD")) a → g.pieces ≡ [] → g.is_ended ≡ false
-    → IsPassedOn method g found a
-first_passed s method h a found g x head size none goes = record {
-  response = head_is_found s method h a found x;
-  head = head;
-  size = size;
-  bytes = subst (λ (ps : List (List ℕ)). Begins (joined ps) found.bytes) (sym none) (found.bytes, refl);
-  end = λ whole.
-      let at = or_first (is_at_once g.answered.size) g.is_ended whole goes in
-      let ends = ends_at_once s method h a found x (ap is_at_once (sym size) ∙ at) in
-      let is : found ≡ found_body s a (content [] (ended_at ends.end [])) = x.is ∙ ap (found_body s a) ends.are in (
-        subst (λ (f : Found). IsWhole f.fate) (sym is) tt,
-        ap joined none ∙ sym (ap (λ (f : Found). f.bytes) is),
-      );
-}

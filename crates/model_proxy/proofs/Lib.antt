@@ -33,6 +33,14 @@ pub mod PiecesPut
 pub mod PartsForward
 pub mod AskedSince
 pub mod AloneSince
+pub mod ReadsOn
+pub mod LastSent
+pub mod OnLinks
+pub mod LinkSteps
+pub mod Serves
+pub mod ServesTurns
+pub mod ServesBodies
+pub mod ServesReplies
 pub mod GivenRequests
 pub mod Places
 pub mod StepByStep

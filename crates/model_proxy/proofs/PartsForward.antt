@@ -64,31 +64,31 @@ module _ (edge : Edge) (setting : Setting) (history : List ProxyStep) (x : reque
 
 -- ---- what a part makes of the newest exchange
 
-head_put : (trace : List Step) (head : AnswerHead) (size : BodySize) (f : Exchange)
+pub head_put : (trace : List Step) (head : AnswerHead) (size : BodySize) (f : Exchange)
     → changed_by trace (on.answer head size) on.done f ≡ record f { reply = newly_given (record { head = head; size = size; drained = is_draining trace }) (now trace) }
 unfolding changed_by
 head_put trace head size f = refl
 
-piece_put : (trace : List Step) (bytes : List ℕ) (f : Exchange) → changed_by trace (on.chunk bytes) on.done f ≡ record f { reply = with_piece bytes f.reply }
+pub piece_put : (trace : List Step) (bytes : List ℕ) (f : Exchange) → changed_by trace (on.chunk bytes) on.done f ≡ record f { reply = with_piece bytes f.reply }
 unfolding changed_by
 piece_put trace bytes f = refl
 
-end_put : (trace : List Step) (f : Exchange) → changed_by trace on.body_end on.done f ≡ record f { reply = with_end f.reply }
+pub end_put : (trace : List Step) (f : Exchange) → changed_by trace on.body_end on.done f ≡ record f { reply = with_end f.reply }
 unfolding changed_by
 end_put trace f = refl
 
-told_put : (trace : List Step) (f : Exchange) → changed_by trace on.send_continue on.done f ≡ record f { was_told = true }
+pub told_put : (trace : List Step) (f : Exchange) → changed_by trace on.send_continue on.done f ≡ record f { was_told = true }
 unfolding changed_by
 told_put trace f = refl
 
 module _ (edge : Edge) (theirs ours : Setting) (s : ProxyStep) (history : List ProxyStep) where
-  told_now : (kept : ForwarderKept) (all : Happenings) (xs : List requests.Exchange) (f : Exchange) (fs : List Exchange) → exchanges all.client ≡ f ∷ fs
+  pub told_now : (kept : ForwarderKept) (all : Happenings) (xs : List requests.Exchange) (f : Exchange) (fs : List Exchange) → exchanges all.client ≡ f ∷ fs
       → Tells edge theirs ours kept (s ∷ history) all xs → IsToldRightly edge f
   told_now kept all xs f fs are t =
       (subst (λ (gs : List Exchange). AllByRecursion (IsToldRightly edge) gs) are (judged_now edge theirs ours kept (s ∷ history) all xs t).told).0
 
   -- the exchange after it is this
-  puts_as : (event : on.Event) (kept : ForwarderKept) (client : Kept) (all : Happenings) (x : requests.Exchange) (xs : List requests.Exchange) (f g : Exchange) (fs : List Exchange)
+  pub puts_as : (event : on.Event) (kept : ForwarderKept) (client : Kept) (all : Happenings) (x : requests.Exchange) (xs : List requests.Exchange) (f g : Exchange) (fs : List Exchange)
       → is_drain event ≡ false → is_body_error event ≡ false → exchanges all.client ≡ f ∷ fs
       → changed_by all.client event on.done f ≡ g → g.head ≡ f.head → IsToldRightly edge g → IsReply edge theirs (s ∷ history) [] x g.reply
       → StandsFor theirs client (record { event = event; outcome = on.done } ∷ all.client)

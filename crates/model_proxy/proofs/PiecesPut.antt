@@ -1,16 +1,18 @@
 -- A reply whose pieces are those that were handed out passes on the answer that is found.
-use Rattle.std.proofs.Common.{◌≡◌, ℕ, ◌<◌, Bool, true, false, List, [], ◌∷◌, ◌++◌, length, map, codes, bytes_eq, Some, refl, sym, ap, ◌∙◌, subst, arith, length-append}
+use Rattle.std.proofs.Common.{◌≡◌, ◌⊎◌, ℕ, ◌<◌, Bool, true, false, List, [], ◌∷◌, ◌++◌, length, map, codes, bytes_eq, Some, refl, sym, ap, ap₂, ◌∙◌, subst, inl, inr, arith}
 use Rattle.std.specs.Prelude.{◌||◌, ⊤}
 use Rattle.std.specs.List.{AllByRecursion}
-use Rattle.model_h1.specs.Event.{corrupted, incomplete}
+use Rattle.std.proofs.lemmas.Bool.{false≢true}
+use Rattle.model_h1.specs.Event.{BodyFault, corrupted, incomplete}
 use Rattle.model_h1.specs.Answer.{is_at_once}
 use Rattle.model_h1.specs.Handed.{Item, item_bytes, item_trailers, item_end, item_fault, item_frame, trailer_items, stop_items, last_items, body_bytes, Begins}
-use Rattle.model_h1.specs.Request.{Header}
-use Rattle.model_h1.specs.Parse.{Body, content, Stop, ended_at, still_open, broken, cut}
-use Rattle.model_h1.specs.Laws.Exchanges.{AnswerGiven, answer_given, is_whole}
+use Rattle.model_h1.specs.Request.{Header, BodyKind, no_body}
+use Rattle.model_h1.specs.Parse.{Body, content, Stop, ended_at, still_open, broken, cut, IsBodyOf}
+use Rattle.model_h1.specs.Laws.Exchanges.{AnswerGiven, Reply, no_reply, answer_given, session, is_whole}
 use Rattle.model_client.specs.RequestText.{joined}
+use Rattle.model_client.specs.AnswerTable.{body_to}
 use Rattle.model_client.specs.AnswerReading.{Answer}
-use Rattle.model_client.specs.AnswerParse.{Received}
+use Rattle.model_client.specs.AnswerParse.{Received, body_input}
 use Rattle.model_client.specs.ReadOut.{ReadAnswer}
 use Rattle.model_proxy.specs.Answers.{fate_of, Found, found_body, reply_head, reply_size}
 use Rattle.model_proxy.specs.Forwarding.{IsWhole, IsPassedOn}
@@ -20,7 +22,7 @@ use Rattle.model_proxy.proofs.FirstPassed.{head_is_found, ends_at_once}
 -- ---- which items are bytes
 
 -- it comes behind the bytes of a body
-abbrev pub IsBehind : Item → Type 0
+abbrev IsBehind : Item → Type 0
 IsBehind (item_bytes bytes) = ⊥
 IsBehind (item_trailers lines) = ⊤
 IsBehind item_end = ⊤
@@ -41,125 +43,178 @@ stop_behind still_open = tt
 stop_behind broken = (tt, tt)
 stop_behind cut = (tt, tt)
 
-not_bytes : (bytes : List ℕ) (i : Item) (l m : List Item) → AllByRecursion IsBehind (i ∷ l) → item_bytes bytes ∷ m ≡ i ∷ l → ⊥
-not_bytes bytes i l m all e =
-    let same : item_bytes bytes ≡ i = cc in
-    subst IsBehind (sym same) all.0
+-- the pieces of bytes among these items
+abbrev pub bytes_in : List Item → List (List ℕ)
+bytes_in [] = []
+bytes_in (item_bytes bytes ∷ items) = bytes ∷ bytes_in items
+bytes_in (item_trailers lines ∷ items) = bytes_in items
+bytes_in (item_end ∷ items) = bytes_in items
+bytes_in (item_fault fault ∷ items) = bytes_in items
+bytes_in (item_frame f ∷ items) = bytes_in items
 
-none_behind : (bytes : List ℕ) (m : List Item) → [] ≡ item_bytes bytes ∷ m → ⊥
-none_behind bytes m e = cc
+-- the end of a body is among them
+abbrev pub has_end : List Item → Bool
+has_end [] = false
+has_end (item_bytes bytes ∷ items) = has_end items
+has_end (item_trailers lines ∷ items) = has_end items
+has_end (item_end ∷ items) = true
+has_end (item_fault fault ∷ items) = has_end items
+has_end (item_frame f ∷ items) = has_end items
 
-pub record SameParts (p q : List (List ℕ)) (l m : List Item) : Type 0 where
-  pub pieces : p ≡ q
-  pub last : l ≡ m
+pub bytes_more : (l m : List Item) → bytes_in (l ++ m) ≡ bytes_in l ++ bytes_in m
+bytes_more [] m = refl
+bytes_more (item_bytes bytes ∷ l) m = ap (λ (ps : List (List ℕ)). bytes ∷ ps) (bytes_more l m)
+bytes_more (item_trailers lines ∷ l) m = bytes_more l m
+bytes_more (item_end ∷ l) m = bytes_more l m
+bytes_more (item_fault fault ∷ l) m = bytes_more l m
+bytes_more (item_frame f ∷ l) m = bytes_more l m
 
-behind_first : (bytes : List ℕ) (q : List (List ℕ)) (l m : List Item) → AllByRecursion IsBehind l → l ≡ map item_bytes (bytes ∷ q) ++ m → ⊥
-behind_first bytes q [] m all e = none_behind bytes (map item_bytes q ++ m) e
-behind_first bytes q (i ∷ l) m all e = not_bytes bytes i l (map item_bytes q ++ m) all (sym e)
+pub end_stays : (l m : List Item) → has_end l ≡ true → has_end (l ++ m) ≡ true
+end_stays [] m is = absurd (false≢true is)
+end_stays (item_bytes bytes ∷ l) m is = end_stays l m is
+end_stays (item_trailers lines ∷ l) m is = end_stays l m is
+end_stays (item_end ∷ l) m is = refl
+end_stays (item_fault fault ∷ l) m is = end_stays l m is
+end_stays (item_frame f ∷ l) m is = end_stays l m is
 
--- pieces, and what comes behind them, are told in one way
-pub same_parts : (p q : List (List ℕ)) (l m : List Item) → AllByRecursion IsBehind l → AllByRecursion IsBehind m → map item_bytes p ++ l ≡ map item_bytes q ++ m
-    → SameParts p q l m
-same_parts [] [] l m a b e = record { pieces = refl; last = e }
-same_parts [] (bytes ∷ q) l m a b e = absurd (behind_first bytes q l m a e)
-same_parts (bytes ∷ p) [] l m a b e = absurd (behind_first bytes p m l b (sym e))
-same_parts (bytes ∷ p) (more ∷ q) l m a b e =
-    let whole : item_bytes bytes ∷ (map item_bytes p ++ l) ≡ item_bytes more ∷ (map item_bytes q ++ m) = e in
-    let first : bytes ≡ more = cc in
-    let rest : map item_bytes p ++ l ≡ map item_bytes q ++ m = cc in
-    let further = same_parts p q l m a b rest in
-    record { pieces = ap (λ (b : List ℕ). b ∷ p) first ∙ ap (λ (ps : List (List ℕ)). more ∷ ps) further.pieces; last = further.last }
+pub end_comes : (l : List Item) → has_end (l ++ item_end ∷ []) ≡ true
+end_comes [] = refl
+end_comes (item_bytes bytes ∷ l) = end_comes l
+end_comes (item_trailers lines ∷ l) = end_comes l
+end_comes (item_end ∷ l) = refl
+end_comes (item_fault fault ∷ l) = end_comes l
+end_comes (item_frame f ∷ l) = end_comes l
+
+none_of : (l : List Item) → AllByRecursion IsBehind l → bytes_in l ≡ []
+none_of [] all = refl
+none_of (item_bytes bytes ∷ l) all = absurd all.0
+none_of (item_trailers lines ∷ l) all = none_of l all.1
+none_of (item_end ∷ l) all = none_of l all.1
+none_of (item_fault fault ∷ l) all = none_of l all.1
+none_of (item_frame f ∷ l) all = none_of l all.1
+
+parts_bytes : (ps : List (List ℕ)) (last : List Item) → AllByRecursion IsBehind last → bytes_in (map item_bytes ps ++ last) ≡ ps
+parts_bytes [] last all = none_of last all
+parts_bytes (p ∷ ps) last all = ap (λ (qs : List (List ℕ)). p ∷ qs) (parts_bytes ps last all)
+
+parts_end : (ps : List (List ℕ)) (last : List Item) → has_end (map item_bytes ps ++ last) ≡ has_end last
+parts_end [] last = refl
+parts_end (p ∷ ps) last = parts_end ps last
 
 -- ---- what was handed out of a body
 
-last_behind : (s : Received) (method : List ℕ) (h : ReadAnswer) (a : Answer) (found : Found) (x : IsFoundSo s method h a found) → AllByRecursion IsBehind x.last
-last_behind s method h a found x =
-    let all : AllByRecursion IsBehind (last_items x.message.body) =
-    subst (λ (b : Body). AllByRecursion IsBehind (last_items b)) (sym x.of.has.are) (stop_behind x.of.has.stop) in
-    front_behind x.last x.follow.0 (subst (AllByRecursion IsBehind) x.follow.1 all)
+module _ (s : Received) (method : List ℕ) (h : ReadAnswer) (a : Answer) (found : Found) (x : IsFoundSo s method h a found) where
+  last_behind : AllByRecursion IsBehind x.last
+  last_behind =
+      let all : AllByRecursion IsBehind (last_items x.message.body) =
+      subst (λ (b : Body). AllByRecursion IsBehind (last_items b)) (sym x.of.has.are) (stop_behind x.of.has.stop) in
+      front_behind x.last x.follow.0 (subst (AllByRecursion IsBehind) x.follow.1 all)
 
--- the pieces that were handed out, and what was behind them, are those that the answer has
-pub handed_parts : (s : Received) (method : List ℕ) (h : ReadAnswer) (a : Answer) (found : Found) (x : IsFoundSo s method h a found) (ps : List (List ℕ)) (tail : List Item)
-    → h.items ≡ map item_bytes ps ++ tail → AllByRecursion IsBehind tail → SameParts ps x.pieces tail x.last
-handed_parts s method h a found x ps tail are behind =
-    same_parts ps x.pieces tail x.last behind (last_behind s method h a found x) (sym are ∙ x.are)
+  found_pieces : bytes_in h.items ≡ x.pieces
+  found_pieces = ap bytes_in x.are ∙ parts_bytes x.pieces x.last last_behind
 
-found_bytes : (s : Received) (method : List ℕ) (h : ReadAnswer) (a : Answer) (found : Found) (x : IsFoundSo s method h a found)
-    → found.bytes ≡ body_bytes s.bytes x.message.body
-found_bytes s method h a found x =
-    ap (λ (f : Found). f.bytes) (x.is ∙ ap (found_body s a) x.of.has.are) ∙ sym (ap (body_bytes s.bytes) x.of.has.are)
+  found_bytes : found.bytes ≡ body_bytes s.bytes x.message.body
+  found_bytes = ap (λ (f : Found). f.bytes) (x.is ∙ ap (found_body s a) x.of.has.are) ∙ sym (ap (body_bytes s.bytes) x.of.has.are)
 
--- the end is among what was handed out
-abbrev pub EndWasHanded : List Item → Type 0
-EndWasHanded tail = (front : List Item) × (tail ≡ front ++ item_end ∷ [])
+-- ---- where the end was handed out
 
-not_empty : (front rest : List Item) → [] ≡ (front ++ item_end ∷ []) ++ rest → ⊥
-not_empty [] rest e = cc
-not_empty (i ∷ front) rest e = cc
+nothing_of : (l rest : List Item) → [] ≡ l ++ rest → l ≡ []
+nothing_of [] rest e = refl
+nothing_of (i ∷ l) rest e = let no : [] ≡ i ∷ (l ++ rest) = e in absurd (cc no)
 
-not_fault : (i : Item) (front rest : List Item) → (i ≡ item_end → ⊥) → i ∷ [] ≡ (front ++ item_end ∷ []) ++ rest → ⊥
-not_fault i [] rest other e =
-    let whole : i ∷ [] ≡ item_end ∷ rest = e in
-    let same : i ≡ item_end = cc in
-    other same
-not_fault i (j ∷ front) rest other e =
-    let whole : i ∷ [] ≡ j ∷ ((front ++ item_end ∷ []) ++ rest) = e in
-    let none : [] ≡ (front ++ item_end ∷ []) ++ rest = cc in
-    not_empty front rest none
+one_fault : (fault : BodyFault) (l rest : List Item) → item_fault fault ∷ [] ≡ l ++ rest → has_end l ≡ true → ⊥
+one_fault fault [] rest e is = false≢true is
+one_fault fault (i ∷ l) rest e is =
+    let whole : item_fault fault ∷ [] ≡ i ∷ (l ++ rest) = e in
+    let same : item_fault fault ≡ i = cc in
+    let none : [] ≡ l ++ rest = cc in
+    false≢true (ap₂ (λ (i : Item) (l : List Item). has_end (i ∷ l)) same (sym (nothing_of l rest none)) ∙ is)
 
-whole_stop : (front rest : List Item) (stop : Stop) → stop_items stop ≡ (front ++ item_end ∷ []) ++ rest → IsWhole (fate_of stop)
-whole_stop front rest (ended_at place lines) e = tt
-whole_stop front rest still_open e = absurd (not_empty front rest e)
-whole_stop front rest broken e = absurd (not_fault (item_fault corrupted) front rest (λ is. let no : item_fault corrupted ≡ item_end = is in cc no) e)
-whole_stop front rest cut e = absurd (not_fault (item_fault incomplete) front rest (λ is. let no : item_fault incomplete ≡ item_end = is in cc no) e)
+whole_stop : (l rest : List Item) (stop : Stop) → stop_items stop ≡ l ++ rest → has_end l ≡ true → IsWhole (fate_of stop)
+whole_stop l rest (ended_at place lines) e is = tt
+whole_stop l rest still_open e is = absurd (false≢true (ap has_end (sym (nothing_of l rest e)) ∙ is))
+whole_stop l rest broken e is = absurd (one_fault corrupted l rest e is)
+whole_stop l rest cut e is = absurd (one_fault incomplete l rest e is)
 
-some_items : (front : List Item) → 0 < length (front ++ item_end ∷ [])
-some_items front = let sum = length-append front (item_end ∷ []) in omega (arith, sum)
+some_items : (l : List Item) → has_end l ≡ true → 0 < length l
+some_items [] is = absurd (false≢true is)
+some_items (i ∷ l) is = omega arith
 
 -- the answer is whole, and all its bytes were handed out
-pub ended_whole : (s : Received) (method : List ℕ) (h : ReadAnswer) (a : Answer) (found : Found) (x : IsFoundSo s method h a found) (ps : List (List ℕ)) (tail : List Item)
-    → h.items ≡ map item_bytes ps ++ tail → AllByRecursion IsBehind tail → EndWasHanded tail → IsWhole found.fate × (joined ps ≡ found.bytes)
-ended_whole s method h a found x ps tail are behind (front, ends) =
-    let parts = handed_parts s method h a found x ps tail are behind in
-    let last : x.last ≡ front ++ item_end ∷ [] = sym parts.last ∙ ends in
-    let stop : stop_items x.of.has.stop ≡ (front ++ item_end ∷ []) ++ x.follow.0 =
-    sym (ap last_items x.of.has.are) ∙ x.follow.1 ∙ ap (λ (l : List Item). l ++ x.follow.0) last in
+abbrev IsAllOf : Found → List (List ℕ) → Type 0
+IsAllOf found pieces = IsWhole found.fate × (joined pieces ≡ found.bytes)
+
+ended_whole : (s : Received) (method : List ℕ) (h : ReadAnswer) (a : Answer) (found : Found) → IsFoundSo s method h a found → has_end h.items ≡ true
+    → IsAllOf found (bytes_in h.items)
+ended_whole s method h a found x is =
+    let ended : has_end x.last ≡ true = sym (ap has_end x.are ∙ parts_end x.pieces x.last) ∙ is in
+    let stop : stop_items x.of.has.stop ≡ x.last ++ x.follow.0 = sym (ap last_items x.of.has.are) ∙ x.follow.1 in
     let fate : found.fate ≡ fate_of x.of.has.stop = ap (λ (f : Found). f.fate) (x.is ∙ ap (found_body s a) x.of.has.are) in (
-      subst IsWhole (sym fate) (whole_stop front x.follow.0 x.of.has.stop stop),
-      ap joined parts.pieces ∙ x.behind (subst (λ (l : List Item). 0 < length l) (sym last) (some_items front)) ∙ sym (found_bytes s method h a found x),
+      subst IsWhole (sym fate) (whole_stop x.last x.follow.0 x.of.has.stop stop ended),
+      ap joined (found_pieces s method h a found x) ∙ x.behind (some_items x.last ended) ∙ sym (found_bytes s method h a found x),
+    )
+
+-- so it is where there is no body
+none_before : (front rest : List ℕ) → [] ≡ front ++ rest → front ≡ []
+none_before [] rest e = refl
+none_before (b ∷ front) rest e = let no : [] ≡ b ∷ (front ++ rest) = e in absurd (cc no)
+
+bodiless_whole : (s : Received) (method : List ℕ) (h : ReadAnswer) (a : Answer) (found : Found) → IsFoundSo s method h a found → body_to method a.body ≡ no_body
+    → IsAllOf found (bytes_in h.items)
+bodiless_whole s method h a found x none =
+    let body : x.message.body ≡ content [] (ended_at x.message.body_start []) =
+    subst (λ (kind : BodyKind). IsBodyOf (body_input s) kind x.message.body_start x.message.body) none x.of.is in
+    let is : found ≡ found_body s a (content [] (ended_at x.message.body_start [])) = x.is ∙ ap (found_body s a) body in
+    let empty : found.bytes ≡ [] = ap (λ (f : Found). f.bytes) is in
+    let begins : [] ≡ joined x.pieces ++ x.begins.0 = sym (found_bytes s method h a found x ∙ x.begins.1) ∙ empty in (
+      subst (λ (f : Found). IsWhole f.fate) (sym is) tt,
+      ap joined (found_pieces s method h a found x) ∙ none_before (joined x.pieces) x.begins.0 begins ∙ sym empty,
     )
 
 -- ---- the reply
 
-none_before : (front rest : List ℕ) → [] ≡ front ++ rest → front ≡ []
-none_before [] rest e = refl
-none_before (b ∷ front) rest e = let no : [] ≡ b ∷ (front ++ rest) = e in absurd (cc no)
+-- The reply has the answer's head, and the pieces that were handed out; and it is ended only where the end was handed out, or there is no body.
+pub record PutsOn (method : List ℕ) (a : Answer) (items : List Item) (g : AnswerGiven) : Type 0 where
+  pub head : g.answered.head ≡ reply_head a
+  pub size : g.answered.size ≡ reply_size (bytes_eq method (codes "HEAD")) a
+  pub pieces : g.pieces ≡ bytes_in items
+  pub ended : g.is_ended ≡ true → (has_end items ≡ true) ⊎ (body_to method a.body ≡ no_body)
+
+-- where its head was put; that isn't where it may not be
+abbrev pub IsPutOf : List ℕ → Answer → List Item → Reply → Type 0
+IsPutOf method a items no_reply = ⊤
+IsPutOf method a items (answer_given g) = PutsOn method a items g
+IsPutOf method a items (session w) = ⊥
 
 either : (t u : Bool) (P : Type 0) → (t || u) ≡ true → (t ≡ true → P) → (u ≡ true → P) → P
 either true u P is first second = first refl
 either false u P is first second = second is
 
-pub pieces_passed : (s : Received) (method : List ℕ) (h : ReadAnswer) (a : Answer) (found : Found) (g : AnswerGiven) (tail : List Item) → IsFoundSo s method h a found
-    → h.items ≡ map item_bytes g.pieces ++ tail → AllByRecursion IsBehind tail → g.answered.head ≡ reply_head a
-    → g.answered.size ≡ reply_size (bytes_eq method (codes "HEAD")) a → (g.is_ended ≡ true → IsWhole found.fate × (joined g.pieces ≡ found.bytes))
-    → IsPassedOn method g found a
-pieces_passed s method h a found g tail x are behind head size ended =
-    let parts = handed_parts s method h a found x g.pieces tail are behind in
+by_reason : (s : Received) (method : List ℕ) (h : ReadAnswer) (a : Answer) (found : Found) → IsFoundSo s method h a found
+    → (has_end h.items ≡ true) ⊎ (body_to method a.body ≡ no_body) → IsAllOf found (bytes_in h.items)
+by_reason s method h a found x (inl ended) = ended_whole s method h a found x ended
+by_reason s method h a found x (inr none) = bodiless_whole s method h a found x none
+
+pub put_passed : (s : Received) (method : List ℕ) (h : ReadAnswer) (a : Answer) (found : Found) (g : AnswerGiven) → IsFoundSo s method h a found
+    → PutsOn method a h.items g → IsPassedOn method g found a
+put_passed s method h a found g x put =
+    let pieces : g.pieces ≡ x.pieces = put.pieces ∙ found_pieces s method h a found x in
     let text = found_bytes s method h a found x in
     let begins : Begins (joined g.pieces) found.bytes =
-    (x.begins.0, text ∙ x.begins.1 ∙ ap (λ (ps : List (List ℕ)). joined ps ++ x.begins.0) (sym parts.pieces)) in
+    (x.begins.0, text ∙ x.begins.1 ∙ ap (λ (ps : List (List ℕ)). joined ps ++ x.begins.0) (sym pieces)) in
     record {
       response = head_is_found s method h a found x;
-      head = head;
-      size = size;
+      head = put.head;
+      size = put.size;
       bytes = begins;
       end = λ whole.
-          either (is_at_once g.answered.size) g.is_ended (IsWhole found.fate × (joined g.pieces ≡ found.bytes)) whole
+          either (is_at_once g.answered.size) g.is_ended (IsAllOf found g.pieces) whole
           (λ at.
-          let ends = ends_at_once s method h a found x (ap is_at_once (sym size) ∙ at) in
+          let ends = ends_at_once s method h a found x (ap is_at_once (sym put.size) ∙ at) in
           let is : found ≡ found_body s a (content [] (ended_at ends.end [])) = x.is ∙ ap (found_body s a) ends.are in
           let none : found.bytes ≡ [] = ap (λ (f : Found). f.bytes) is in (
             subst (λ (f : Found). IsWhole f.fate) (sym is) tt,
             none_before (joined g.pieces) begins.0 (sym none ∙ begins.1) ∙ sym none,
-          )) ended;
+          ))
+          (λ ended. subst (IsAllOf found) (sym put.pieces) (by_reason s method h a found x (put.ended ended)));
     }

@@ -23,7 +23,7 @@ use Rattle.model_proxy.proofs.TurnsForward.{all_same, tells_turn}
 
 -- ---- what a part makes of the replies
 
-put_exchanges : (event : on.Event) (trace : List Step) (f : Exchange) (fs : List Exchange) → exchanges trace ≡ f ∷ fs
+pub put_exchanges : (event : on.Event) (trace : List Step) (f : Exchange) (fs : List Exchange) → exchanges trace ≡ f ∷ fs
     → exchanges (record { event = event; outcome = on.done } ∷ trace) ≡ changed_by trace event on.done f ∷ fs
 unfolding exchanges
 put_exchanges event trace f fs are = ap (newest_changed (changed_by trace event on.done)) are

@@ -113,7 +113,7 @@ module _ (setting : Setting) (history : List ProxyStep) where
 
 -- ---- none was sent on one that is new
 
-none_there : (history : List ProxyStep) (count k : ℕ) (rs : List Request) (xs : List Exchange) → count ≤ k → AreSame history count rs xs → filter (is_on k) xs ≡ []
+pub none_there : (history : List ProxyStep) (count k : ℕ) (rs : List Request) (xs : List Exchange) → count ≤ k → AreSame history count rs xs → filter (is_on k) xs ≡ []
 none_there history count k [] [] high same = refl
 none_there history count k [] (x ∷ xs) high same = absurd same
 none_there history count k (r ∷ rs) [] high same = absurd same

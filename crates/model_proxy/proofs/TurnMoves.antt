@@ -85,7 +85,7 @@ module _ (edge : Edge) (setting : Setting) (history : List ProxyStep) where
 
   -- ---- its head is handed out
 
-  head_exchanges : (h : Head) (trace : List Step) → exchanges (record { event = on.next; outcome = on.head h } ∷ trace) ≡ begun h ∷ exchanges trace
+  pub head_exchanges : (h : Head) (trace : List Step) → exchanges (record { event = on.next; outcome = on.head h } ∷ trace) ≡ begun h ∷ exchanges trace
   unfolding exchanges changed_by
   head_exchanges h trace = ap (λ (fs : List replies.Exchange). begun h ∷ fs) (none_changed (λ (e : replies.Exchange). e) (λ e. refl) (exchanges trace))
 
