@@ -25,7 +25,7 @@ use Rattle.model_proxy.specs.Happenings.{Link, is_eof, server_of}
 use Rattle.model_proxy.specs.Forwarding.{IsWhole}
 use Rattle.model_proxy.proofs.PlacesKept.{first_all}
 use Rattle.model_proxy.proofs.FoundAnswers.{answer_found}
-use Rattle.model_proxy.proofs.FoundHanded.{IsPassedOver, is_out, IsFoundSo, handed_is_found, asked_leads}
+use Rattle.model_proxy.proofs.FoundHanded.{IsPassedOver, is_out, IsFoundSo, IsBadReading, IsFoundBad, handed_is_found, handed_is_bad, asked_leads}
 use Rattle.model_proxy.proofs.PiecesPut.{PutsOn, put_passed}
 use Rattle.model_proxy.proofs.MovedSteps.{PassesOn}
 
@@ -113,7 +113,7 @@ module _ (theirs ours : Setting) (held : theirs.hold_size ≡ ours.hold_size) (h
       let found = answer_found since x.pulled.head.method in (
         found.0,
         subst (λ (r : Received). IsAnswer r x.pulled.head.method found.0) (sym since_input) found.1,
-        handed_is_found ours l.happened c (read_out w.before).answers news h (length (taken w.before)) x.pulled.head.method a found.0 ran since_leads since_within answers passed
+        handed_is_found ours l.happened c (read_out w.before).answers news h (length (taken w.before)) x.pulled.head.method ran since_leads since_within answers passed a found.0
             reading good final found.1,
       )
 
@@ -124,3 +124,15 @@ module _ (theirs ours : Setting) (held : theirs.hold_size ≡ ours.hold_size) (h
   since_passed c news h a g ran answers passed reading good final put =
       let f = since_found c news h a ran answers passed reading good final in
       record { found = f.0; is = f.1; answer = a; passed = put_passed since x.pulled.head.method h a f.0 g f.2 put }
+
+  -- where that is bad, nothing is found that could be passed on, and nothing will be
+  pub since_bad : (c : ClientKept) (news : List ReadAnswer) (h : ReadAnswer) → IsClientTrace ours l.happened c
+      → (read_out l.happened).answers ≡ (h ∷ news) ++ (read_out w.before).answers → AllByRecursion IsPassedOver news → IsBadReading h.reading
+      → (found : Found) × IsAnswer (answer_input theirs history k x.sent_at (length history)) x.pulled.head.method found × IsFoundBad found
+  since_bad c news h ran answers passed out =
+      let found = answer_found since x.pulled.head.method in (
+        found.0,
+        subst (λ (r : Received). IsAnswer r x.pulled.head.method found.0) (sym since_input) found.1,
+        handed_is_bad ours l.happened c (read_out w.before).answers news h (length (taken w.before)) x.pulled.head.method ran since_leads since_within answers passed found.0 out
+            found.1,
+      )

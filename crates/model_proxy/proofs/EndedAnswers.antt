@@ -1,9 +1,9 @@
 -- A server connection that has read an answer to its end, and of which nothing is left to read: the bytes since the request was sent are that
 -- answer, and no others.
-use Rattle.std.proofs.Common.{◌≡◌, ℕ, ◌+◌, ◌≤◌, Bool, true, false, List, [], ◌∷◌, ◌++◌, length, map, drop, Option, Some, None, MatchOption, option_map, unwrap_or, refl, sym, ap, ◌∙◌, subst, append_assoc, arith, length-drop}
+use Rattle.std.proofs.Common.{◌≡◌, ℕ, ◌+◌, ◌≤◌, Bool, true, false, List, [], ◌∷◌, ◌++◌, length, map, drop, Option, Some, None, MatchOption, option_map, unwrap_or, refl, sym, ap, ◌∙◌, subst, append_assoc, append-nil, arith, length-drop}
 use Rattle.std.specs.Prelude.{⊤}
 use Rattle.std.specs.List.{AllByRecursion}
-use Rattle.model_h1.specs.Setting.{Setting}
+use Rattle.model_h1.specs.HeadPiece.{HasNoHeadPiece}
 use Rattle.model_h1.specs.Parse.{Body, no_content, content, frames, Stop, ended_at, still_open, broken, cut, next_start}
 use Rattle.model_h1.specs.Laws.Moved.{moved_body}
 use Rattle.model_h1.proofs.MovedLemmas.{moved_next}
@@ -16,7 +16,7 @@ use Rattle.model_client.specs.ReadOut.{ReadAnswer}
 use Rattle.model_client.proofs.AnswerExistence.{answers_exist_from}
 use Rattle.model_client.proofs.AnswerMoved.{answers_are_of_rest}
 use Rattle.model_client.proofs.Chain.{IsRead, Leads, first_is}
-use Rattle.model_proxy.specs.Answers.{whole_at, Found, found_body, found_by, found_from, IsAnswer}
+use Rattle.model_proxy.specs.Answers.{whole_at, Found, found_nothing, found_body, found_by, found_from, IsAnswer}
 use Rattle.model_proxy.proofs.FoundAnswers.{answer_unique}
 use Rattle.model_proxy.proofs.FoundHanded.{Behind, split_at, IsPassedOver, is_out, chosen_later, chosen_here}
 
@@ -165,6 +165,32 @@ passes_all s at (m ∷ ms) tail all =
       ap (λ (reading : AnswerReading). found_by s reading m.body (found_from s next (ms ++ tail))) all.0.reading
           ∙ chosen_later (is_out all.0.answer) (is_interim all.0.answer.status) (found_from s next (ms ++ tail)) (found_body s all.0.answer m.body) all.0.good all.0.interim
           ∙ further.1,
+    )
+
+-- ---- none is found
+
+none_there : (r : Received) (place : ℕ) (left : List (List ℕ)) (ms : List AnswerMessage) → HasNoHeadPiece (drop place r.bytes)
+    → AreAnswersFrom is_interim r place left ms → ms ≡ []
+none_there r place left [] bare are = refl
+none_there r place [] (m ∷ ms) bare are = let no : m ∷ ms ≡ [] = are in absurd (cc no)
+none_there r place (method ∷ left) (m ∷ ms) bare are = absurd (bare are.0.start are.0.end are.0.piece)
+
+-- where only such were handed out that are passed over, and no whole head stands behind them
+pub nothing_found : (r : Received) (size : ℕ) (methods : List (List ℕ)) (outs news : List ReadAnswer) (from to : ℕ) (method : List ℕ) (left : List (List ℕ)) (found : Found)
+    → from ≤ length r.bytes → Leads r methods outs from (method ∷ []) → Leads r methods (news ++ outs) to left → AllByRecursion IsPassedOver news
+    → HasNoHeadPiece (drop to r.bytes) → IsAnswer (record r { bytes = drop from r.bytes }) method found
+    → (at : ℕ) × (found ≡ found_nothing (record r { bytes = drop from r.bytes }) at)
+nothing_found r size methods outs news from to method left found within x leads passed bare y =
+    let s : Received = record r { bytes = drop from r.bytes } in
+    let sp = span r size methods news outs from to (method ∷ []) left x leads in
+    let none = none_there r to left sp.rest bare sp.are_rest in
+    let local = answers_are_of_rest is_interim r from (method ∷ []) sp.first within sp.are_first in
+    let are : map (moved_answer from) local.0 ≡ sp.messages =
+    sym local.2 ∙ sp.split ∙ ap (λ (l : List AnswerMessage). sp.messages ++ l) none ∙ append-nil sp.messages in
+    let passes = passes_all s 0 local.0 [] (interims_back from local.0 sp.messages are (sp.interims passed)) in (
+      passes.0,
+      answer_unique s method found (found_from s 0 local.0) y (local.0, local.1, refl)
+          ∙ ap (found_from s 0) (sym (append-nil local.0)) ∙ passes.1,
     )
 
 -- it is whole, and ends there

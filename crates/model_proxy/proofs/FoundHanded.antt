@@ -1,8 +1,8 @@
 -- What a server's connection handed out since a request was sent is the answer that its bytes since then hold.
-use Rattle.std.proofs.Common.{◌≡◌, ℕ, ◌+◌, ◌<◌, ◌≤◌, Bool, true, false, cond, List, [], ◌∷◌, ◌++◌, length, map, drop, reverse, flat_map, Option, Some, None, MatchOption, unwrap_or, refl, sym, ap, ◌∙◌, subst, append_assoc, arith, length-drop}
-use Rattle.std.specs.Prelude.{◌||◌, ◌==◌, if◌then◌else◌, ⊤}
+use Rattle.std.proofs.Common.{◌≡◌, ℕ, ◌+◌, ◌-◌, ◌<◌, ◌≤◌, Bool, true, false, cond, List, [], ◌∷◌, ◌++◌, length, map, drop, reverse, flat_map, Option, Some, None, MatchOption, option_map, unwrap_or, refl, sym, ap, ◌∙◌, subst, append_assoc, arith, length-drop}
+use Rattle.std.specs.Prelude.{◌||◌, ◌==◌, nat_le, if◌then◌else◌, ⊤}
 use Rattle.std.specs.List.{AllByRecursion}
-use Rattle.std.proofs.lemmas.Bool.{false≢true}
+use Rattle.std.proofs.lemmas.Bool.{false≢true, le-leb}
 use Rattle.std.proofs.lemmas.Grind.{reverse_onto}
 use Rattle.std.proofs.lemmas.List.{reverse-append}
 use Rattle.model_h1.specs.Runs.{Run}
@@ -11,6 +11,7 @@ use Rattle.model_h1.specs.Request.{too_large}
 use Rattle.model_h1.specs.Parse.{Body, no_content, content, frames, Stop, ended_at, still_open, broken, cut, next_start, IsBodyOf}
 use Rattle.model_h1.specs.Handed.{Item, item_bytes, AreItemsOf, body_bytes, last_items, Begins}
 use Rattle.model_h1.specs.Laws.Moved.{moved_body}
+use Rattle.model_h1.proofs.MovedLemmas.{moved_next}
 use Rattle.model_h1.proofs.RunLemmas.{run_bytes_shifted}
 use Rattle.model_h1.proofs.MessageGrowth.{piece_long}
 use Rattle.model_client.specs.AnswerTable.{body_to}
@@ -28,7 +29,7 @@ use Rattle.model_client.proofs.Chain.{Leads, first_is}
 use Rattle.model_client.proofs.Holds.{waiting_methods, IsBetween}
 use Rattle.model_client.proofs.NextAnswers.{between_of}
 use Rattle.model_client.proofs.Told.{IsMore}
-use Rattle.model_proxy.specs.Answers.{Found, found_bad, found_body, found_by, found_from, IsAnswer}
+use Rattle.model_proxy.specs.Answers.{unfinished, bad, Found, is_given_up, found_nothing, found_bad, found_body, found_by, found_from, IsAnswer}
 use Rattle.model_proxy.proofs.FoundAnswers.{answer_unique}
 use Rattle.model_proxy.proofs.FoundGrows.{HasContent, body_content}
 
@@ -153,24 +154,34 @@ chosen_here false false later here a b = refl
 record Left (s : Received) (method : List ℕ) (size : ℕ) (bytes : List ℕ) (place : ℕ) (tail : List ReadAnswer) (found : Found) : Type 0 where
   at : ℕ
   start : ℕ
+  starts : start ≡ place + at
   rest : List AnswerMessage
   contents : AllByRecursion (IsToIt s method) rest
   begins : IsPrefixFrom size bytes start tail (map (moved_answer place) rest)
   is : found ≡ found_from s at rest
 
+next_there : (place start at : ℕ) (b : Body) → start ≡ place + at → unwrap_or (next_start (moved_body place b)) start ≡ place + unwrap_or (next_start b) at
+next_there place start at b starts =
+    ap (λ (o : Option ℕ). unwrap_or o start) (moved_next place b) ∙ by_next (next_start b)
+  where
+    by_next : (o : Option ℕ) → unwrap_or (option_map (λ (n : ℕ). place + n) o) start ≡ place + unwrap_or o at
+    by_next None = starts
+    by_next (Some n) = refl
+
 passes : (s : Received) (method : List ℕ) (size : ℕ) (bytes : List ℕ) (place start at : ℕ) (news tail : List ReadAnswer) (h : ReadAnswer) (rest : List AnswerMessage)
-    → AllByRecursion IsPassedOver news → AllByRecursion (IsToIt s method) rest → IsPrefixFrom size bytes start (news ++ h ∷ tail) (map (moved_answer place) rest)
+    → start ≡ place + at → AllByRecursion IsPassedOver news → AllByRecursion (IsToIt s method) rest → IsPrefixFrom size bytes start (news ++ h ∷ tail) (map (moved_answer place) rest)
     → Left s method size bytes place (h ∷ tail) (found_from s at rest)
-passes s method size bytes place start at [] tail h rest all contents x = record { at = at; start = start; rest = rest; contents = contents; begins = x; is = refl }
-passes s method size bytes place start at (n ∷ []) tail h [] all contents x = absurd x
-passes s method size bytes place start at (n ∷ m ∷ news) tail h [] all contents x = absurd x
-passes s method size bytes place start at (n ∷ news) tail h (m ∷ rest) all contents x =
+passes s method size bytes place start at [] tail h rest starts all contents x = record { at = at; start = start; starts = starts; rest = rest; contents = contents; begins = x; is = refl }
+passes s method size bytes place start at (n ∷ []) tail h [] starts all contents x = absurd x
+passes s method size bytes place start at (n ∷ m ∷ news) tail h [] starts all contents x = absurd x
+passes s method size bytes place start at (n ∷ news) tail h (m ∷ rest) starts all contents x =
     let next = unwrap_or (next_start m.body) at in
-    let further = passes s method size bytes place (unwrap_or (next_start (moved_body place m.body)) start) next news tail h rest all.1 contents.1 x.2 in
+    let further = passes s method size bytes place (unwrap_or (next_start (moved_body place m.body)) start) next news tail h rest (next_there place start at m.body starts) all.1 contents.1 x.2 in
     let reading : m.reading ≡ answer_is all.0.answer = sym x.0.reading ∙ all.0.reading in
     record {
       at = further.at;
       start = further.start;
+      starts = further.starts;
       rest = further.rest;
       contents = further.contents;
       begins = further.begins;
@@ -233,28 +244,96 @@ in_turn : (h : ReadAnswer) (news outs : List ReadAnswer) → reverse ((h ∷ new
 in_turn h news outs =
     reverse-append (h ∷ news) outs ∙ ap (λ (l : List ReadAnswer). reverse outs ++ l) (reverse-append (h ∷ []) news)
 
--- What was handed out behind what came earlier: answers that are passed over, and then this one. It is what is found in the bytes from there.
-pub handed_is_found : (setting : Setting) (trace : List Happened) (k : ClientKept) (outs news : List ReadAnswer) (h : ReadAnswer) (place : ℕ) (method : List ℕ) (a : Answer)
-    (found : Found) → IsClientTrace setting trace k → Leads (received_of setting trace) (methods_of trace) outs place (method ∷ []) → place ≤ length (taken trace)
-    → (read_out trace).answers ≡ (h ∷ news) ++ outs → AllByRecursion IsPassedOver news → h.reading ≡ answer_is a → is_out a ≡ false
-    → is_interim a.status ≡ false
-    → IsAnswer (record { bytes = drop place (taken trace); ended = has_ended trace; hold_size = Some setting.hold_size }) method found
-    → IsFoundSo (record { bytes = drop place (taken trace); ended = has_ended trace; hold_size = Some setting.hold_size }) method h a found
-handed_is_found setting trace k outs news h place method a found ran leads within answers passed reading good final x =
-    let r = received_of setting trace in
-    let s : Received = record { bytes = drop place (taken trace); ended = has_ended trace; hold_size = Some setting.hold_size } in
-    let parse = answers_exist_from is_interim r 0 (methods_of trace) in
-    let split = split_at r setting.hold_size (methods_of trace) outs place (method ∷ []) parse.0 leads parse.1 in
-    let local = answers_are_of_rest is_interim r place (method ∷ []) split.rest within split.are in
-    let handed = (all_is_parsed setting trace k parse.0 ran parse.1).1 in
-    let turned : reverse (read_out trace).answers ≡ reverse outs ++ (reverse news ++ h ∷ []) = ap reverse answers ∙ in_turn h news outs in
-    let here = split.begins (reverse news ++ h ∷ []) (subst (λ (l : List ReadAnswer). IsPrefixFrom setting.hold_size (taken trace) 0 l parse.0) turned handed) in
-    let there = subst (IsPrefixFrom setting.hold_size (taken trace) place (reverse news ++ h ∷ [])) local.2 here in
-    let left = passes s method setting.hold_size (taken trace) place place 0 (reverse news) [] h local.0 (all_turned IsPassedOver news passed)
-    (all_of s 0 method local.0 local.1) there in
-    let same : found ≡ found_from s 0 local.0 = answer_unique s method found (found_from s 0 local.0) x (local.0, local.1, refl) in
-    let it = first_found s method setting.hold_size (taken trace) place left.start left.at h a left.rest refl reading good final left.contents left.begins in
-    subst (IsFoundSo s method h a) (sym (same ∙ left.is)) it
+-- ---- one that isn't passed on
+
+-- it is refused, or an answer that is never passed on
+abbrev pub IsBadReading : AnswerReading → Type 0
+IsBadReading (answer_is a) = is_out a ≡ true
+IsBadReading (refused f) = ⊤
+
+-- no head that is passed on, and none will come
+pub record IsFoundBad (found : Found) : Type 0 where
+  pub none : found.response ≡ None
+  pub spoiled : found.fate ≡ bad
+
+chosen_out : (t : Bool) (other : Found) → t ≡ true → (if t then found_bad else other) ≡ found_bad
+chosen_out true other is = refl
+chosen_out false other is = absurd (false≢true is)
+
+reading_bad : (s : Received) (reading : AnswerReading) (b : Body) (later : Found) → IsBadReading reading → IsFoundBad (found_by s reading b later)
+reading_bad s (refused f) b later out = record { none = refl; spoiled = refl }
+reading_bad s (answer_is a) b later out =
+    subst IsFoundBad (sym (chosen_out (is_out a) (if is_interim a.status then later else found_body s a b) out)) (record { none = refl; spoiled = refl })
+
+-- too many bytes hold no whole head
+given_up : (s : Received) (size : ℕ) (bytes : List ℕ) (place start at : ℕ) → s.bytes ≡ drop place bytes → s.hold_size ≡ Some size → start ≡ place + at
+    → size ≤ length (drop start bytes) → IsFoundBad (found_nothing s at)
+given_up s size bytes place start at same held starts long =
+    let left = length-drop start bytes in
+    let here = length-drop place bytes in
+    let count = ap (λ (l : List ℕ). length l) same in
+    let full : size ≤ length s.bytes - at = omega (arith, left, here, count, starts, long) in
+    let is : is_given_up s at s.hold_size ≡ true =
+    ap (is_given_up s at) held ∙ ap (λ (t : Bool). s.ended || t) (le-leb size (length s.bytes - at) full) ∙ or_so s.ended in
+    record { none = refl; spoiled = ap (λ (t : Bool). if t then bad else unfinished) is }
+  where
+    or_so : (t : Bool) → (t || true) ≡ true
+    or_so true = refl
+    or_so false = refl
+
+bad_found : (s : Received) (size : ℕ) (bytes : List ℕ) (place start at : ℕ) (h : ReadAnswer) (rest : List AnswerMessage) → s.bytes ≡ drop place bytes
+    → s.hold_size ≡ Some size → start ≡ place + at → IsBadReading h.reading → IsPrefixFrom size bytes start (h ∷ []) (map (moved_answer place) rest)
+    → IsFoundBad (found_from s at rest)
+bad_found s size bytes place start at h [] same held starts out x = given_up s size bytes place start at same held starts x.1
+bad_found s size bytes place start at h (m ∷ rest) same held starts out x =
+    reading_bad s m.reading m.body (found_from s (unwrap_or (next_start m.body) at) rest) (subst IsBadReading x.0.reading out)
+
+-- ---- what was handed out since
+
+-- What was handed out behind what came earlier: answers that are passed over, and then this one.
+module _ (setting : Setting) (trace : List Happened) (k : ClientKept) (outs news : List ReadAnswer) (h : ReadAnswer) (place : ℕ) (method : List ℕ)
+    (ran : IsClientTrace setting trace k) (leads : Leads (received_of setting trace) (methods_of trace) outs place (method ∷ [])) (within : place ≤ length (taken trace))
+    (answers : (read_out trace).answers ≡ (h ∷ news) ++ outs) (passed : AllByRecursion IsPassedOver news) where
+  abbrev since : Received
+  since = record { bytes = drop place (taken trace); ended = has_ended trace; hold_size = Some setting.hold_size }
+
+  last_left : (found : Found) → IsAnswer since method found → Left since method setting.hold_size (taken trace) place (h ∷ []) found
+  last_left found x =
+      let r = received_of setting trace in
+      let parse = answers_exist_from is_interim r 0 (methods_of trace) in
+      let split = split_at r setting.hold_size (methods_of trace) outs place (method ∷ []) parse.0 leads parse.1 in
+      let local = answers_are_of_rest is_interim r place (method ∷ []) split.rest within split.are in
+      let handed = (all_is_parsed setting trace k parse.0 ran parse.1).1 in
+      let turned : reverse (read_out trace).answers ≡ reverse outs ++ (reverse news ++ h ∷ []) = ap reverse answers ∙ in_turn h news outs in
+      let here = split.begins (reverse news ++ h ∷ []) (subst (λ (l : List ReadAnswer). IsPrefixFrom setting.hold_size (taken trace) 0 l parse.0) turned handed) in
+      let there = subst (IsPrefixFrom setting.hold_size (taken trace) place (reverse news ++ h ∷ [])) local.2 here in
+      let left = passes since method setting.hold_size (taken trace) place place 0 (reverse news) [] h local.0 (omega arith) (all_turned IsPassedOver news passed)
+      (all_of since 0 method local.0 local.1) there in
+      let same : found ≡ found_from since 0 local.0 = answer_unique since method found (found_from since 0 local.0) x (local.0, local.1, refl) in
+      record {
+        at = left.at;
+        start = left.start;
+        starts = left.starts;
+        rest = left.rest;
+        contents = left.contents;
+        begins = left.begins;
+        is = same ∙ left.is;
+      }
+
+  -- it is what is found in the bytes from there
+  pub handed_is_found : (a : Answer) (found : Found) → h.reading ≡ answer_is a → is_out a ≡ false → is_interim a.status ≡ false → IsAnswer since method found
+      → IsFoundSo since method h a found
+  handed_is_found a found reading good final x =
+      let left = last_left found x in
+      subst (IsFoundSo since method h a) (sym left.is)
+      (first_found since method setting.hold_size (taken trace) place left.start left.at h a left.rest refl reading good final left.contents left.begins)
+
+  -- and where it is bad, nothing else is
+  pub handed_is_bad : (found : Found) → IsBadReading h.reading → IsAnswer since method found → IsFoundBad found
+  handed_is_bad found out x =
+      let left = last_left found x in
+      subst IsFoundBad (sym left.is)
+      (bad_found since setting.hold_size (taken trace) place left.start left.at h left.rest refl refl left.starts out left.begins)
 
 -- ---- where a request was asked while nothing of an earlier answer was left
 

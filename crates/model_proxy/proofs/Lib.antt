@@ -37,6 +37,7 @@ pub mod ReadsOn
 pub mod LastSent
 pub mod OnLinks
 pub mod LinkSteps
+pub mod BadAnswers
 pub mod Serves
 pub mod ServesTurns
 pub mod ServesBodies

@@ -7,12 +7,14 @@ use Rattle.model_h1.specs.Laws.Exchanges.{Reply, no_reply, answer_given, session
 use Rattle.model_h1.specs.Laws.Exchanges as replies
 use Rattle.model_client.specs.AnswerReading.{Answer}
 use Rattle.model_client.specs.AnswerParse.{is_interim}
+use Rattle.model_client.specs.ClientEvent as asked
 use Rattle.model_client.specs.ClientKept.{Waiting, ClientKept, is_free, client_allows}
 use Rattle.model_client.specs.ClientStep.{IsClientStep}
 use Rattle.model_client.specs.ClientTrace.{Happened, IsClientTrace, taken, taken_by, requests_by, requests_of}
 use Rattle.model_client.specs.Parsed.{methods_of}
 use Rattle.model_client.specs.ReadOut.{read_out}
 use Rattle.model_client.proofs.OneStep.{one_state}
+use Rattle.model_proxy.specs.Forward.{Sent}
 use Rattle.model_proxy.specs.Past.{ProxyStep, Server, servers, numbered, server_at, first_of}
 use Rattle.model_proxy.specs.Exchange.{Exchange}
 use Rattle.model_proxy.specs.Forwarding.{IsAlone}
@@ -23,8 +25,8 @@ use Rattle.model_proxy.proofs.MovedSteps.{PassesOn, IsPassedReply}
 use Rattle.model_proxy.proofs.PiecesPut.{IsPutOf}
 use Rattle.model_proxy.proofs.AskedSince.{WasAsked, since_passed}
 use Rattle.model_proxy.proofs.AloneSince.{since_alone}
-use Rattle.model_proxy.proofs.ReadsOn.{drops}
-use Rattle.model_proxy.proofs.OnLinks.{Stage, before_head, over, behind_head, HasHead, IsAt, AddsLittle, little_at}
+use Rattle.model_proxy.proofs.ReadsOn.{drops, fails, free_passes, stays_so}
+use Rattle.model_proxy.proofs.OnLinks.{Stage, before_head, over, answering, HasHead, IsAt, AddsLittle, keeps_on, sound_by, little_at}
 
 -- what happened is kept in one way
 pub one_trace : (setting : Setting) (trace : List Happened) (k m : ClientKept) → IsClientTrace setting trace k → IsClientTrace setting trace m → k ≡ m
@@ -42,7 +44,7 @@ pub record OnLink (ours : Setting) (history : List ProxyStep) (l : Link) (n : �
 -- ---- as more happens
 
 -- it is asked where it was, however much came since
-abbrev asked_on : (ours : Setting) (old new : List ProxyStep) (l m : Link) (x y : Exchange) (n : ℕ) (more : List ℕ) → WasAsked ours old l x n
+abbrev pub asked_on : (ours : Setting) (old new : List ProxyStep) (l m : Link) (x y : Exchange) (n : ℕ) (more : List ℕ) → WasAsked ours old l x n
     → taken m.happened ≡ taken l.happened ++ more → methods_of m.happened ≡ methods_of l.happened → y.pulled.head.method ≡ x.pulled.head.method
     → (server_at n (first_of y.sent_at new)).came ≡ (server_at n (first_of x.sent_at old)).came → WasAsked ours new m y n
 asked_on ours old new l m x y n more w came methods method place = record {
@@ -97,6 +99,7 @@ link_step ours history s l m n stage next x y r q are none method at z step = re
 -- after one that hands out little
 pub record IsLittle (s : Happened) : Type 0 where
   pub calm : drops s.event ≡ false
+  pub sound : fails s.event ≡ false
   pub none : requests_by s.event ≡ []
   pub little : AddsLittle s.outcome
 
@@ -105,7 +108,27 @@ pub little_link : (ours : Setting) (history : List ProxyStep) (s : Happened) (l 
     → OnLink ours history m n stage y r
 little_link ours history s l m n stage x y r is are method at z =
     link_step ours history s l m n stage stage x y r r are is.none method at z
-    (λ c d ran allowed did here. little_at ours l.happened s c d ran allowed did is.calm is.none (read_out z.asked.before).answers x.pulled.head.method stage r is.little here)
+    (λ c d ran allowed did here.
+    little_at ours l.happened s c d ran allowed did is.calm is.none (read_out z.asked.before).answers x.pulled.head.method stage r is.little
+    (sound_by ours l.happened s c d ran allowed did is.calm is.none (read_out z.asked.before).answers x.pulled.head.method (keeps_on s.outcome is.little) is.sound) here)
+
+-- after the end of the request's body, which isn't too short
+pub end_link : (ours : Setting) (history : List ProxyStep) (l m : Link) (n : ℕ) (stage : Stage) (x y : Exchange) (r : Reply) (a b : ClientKept)
+    → m.happened ≡ record { event = asked.body_end; outcome = asked.done } ∷ l.happened → y.pulled.head.method ≡ x.pulled.head.method → y.sent_at ≡ x.sent_at
+    → IsClientTrace ours l.happened a → IsClientStep ours a asked.body_end asked.done b → (a.failed ≡ None → b.failed ≡ None) → OnLink ours history l n stage x r
+    → OnLink ours history m n stage y r
+end_link ours history l m n stage x y r a b are method at first last fine z =
+    let s : Happened = record { event = asked.body_end; outcome = asked.done } in
+    link_step ours history s l m n stage stage x y r r are refl method at z
+    (λ c d ran allowed did here.
+    little_at ours l.happened s c d ran allowed did refl refl (read_out z.asked.before).answers x.pulled.head.method stage r tt
+    (λ kept f. by_same c d did (one_trace ours l.happened c a ran first) f) here)
+  where
+    by_same : (c d : ClientKept) → IsClientStep ours c asked.body_end asked.done d → c ≡ a → c.failed ≡ None → d.failed ≡ None
+    by_same c d did same f =
+        let also = subst (λ (k : ClientKept). IsClientStep ours k asked.body_end asked.done d) same did in
+        ap (λ (k : ClientKept). k.failed) (one_state ours a asked.body_end asked.done asked.done d b also last)
+        ∙ fine (sym (ap (λ (k : ClientKept). k.failed) same) ∙ f)
 
 -- whatever was sent, and whatever was taken of the request
 pub same_link : (ours : Setting) (history : List ProxyStep) (l m : Link) (n : ℕ) (stage : Stage) (x y : Exchange) (r : Reply) → m.happened ≡ l.happened
@@ -127,6 +150,39 @@ quiet_link ours history (s ∷ more) l m n stage x r all are z =
     little_link ours history s (record l { happened = more ++ l.happened }) m n stage x x r all.0 are refl refl
     (quiet_link ours history more l (record l { happened = more ++ l.happened }) n stage x r all.1 refl z)
 
+-- ---- one on which no request was sent
+
+-- nothing is to be read of an answer, and nothing but what comes closes it
+pub record IsUnused (c : ClientKept) : Type 0 where
+  pub free : is_free c ≡ true
+  pub runs : c.is_over ≡ false
+  pub stays : c.closes ≡ false
+  pub fine : c.failed ≡ None
+
+abbrev pub UnusedOn : Setting → Link → Type 0
+UnusedOn ours l = (c : ClientKept) → IsClientTrace ours l.happened c → IsUnused c
+
+pub fresh_unused : (ours : Setting) (sent : List Sent) → UnusedOn ours (record { happened = []; sent = sent })
+fresh_unused ours sent = λ c is. subst IsUnused (sym is) (record { free = refl; runs = refl; stays = refl; fine = refl })
+
+pub little_unused : (ours : Setting) (s : Happened) (l m : Link) → IsLittle s → m.happened ≡ s ∷ l.happened → UnusedOn ours l → UnusedOn ours m
+little_unused ours s l m is are z = λ d ran. by_ran d (subst (λ (h : List Happened). IsClientTrace ours h d) are ran)
+  where
+    by_ran : (d : ClientKept) → IsClientTrace ours (s ∷ l.happened) d → IsUnused d
+    by_ran d (c, before, allowed, step) =
+        let y = z c before in
+        let t = stays_so ours c d s.event s.outcome allowed step is.calm (keeps_on s.outcome is.little) (free_passes c y.free) in
+        record { free = t.free ∙ y.free; runs = t.over ∙ y.runs; stays = t.closes ∙ y.stays; fine = t.failed is.sound ∙ y.fine }
+
+pub same_unused : (ours : Setting) (l m : Link) → m.happened ≡ l.happened → UnusedOn ours l → UnusedOn ours m
+same_unused ours l m are z = λ d ran. z d (subst (λ (h : List Happened). IsClientTrace ours h d) are ran)
+
+pub quiet_unused : (ours : Setting) (more : List Happened) (l m : Link) → AllByRecursion IsLittle more → m.happened ≡ more ++ l.happened → UnusedOn ours l → UnusedOn ours m
+quiet_unused ours [] l m all are z = same_unused ours l m are z
+quiet_unused ours (s ∷ more) l m all are z =
+    little_unused ours s (record l { happened = more ++ l.happened }) m all.0 are
+    (quiet_unused ours more l (record l { happened = more ++ l.happened }) all.1 refl z)
+
 -- ---- what follows of it
 
 -- what came of the newest connection
@@ -147,7 +203,7 @@ module _ (theirs ours : Setting) (held : theirs.hold_size ≡ ours.hold_size) (h
   -- a reply that was put passes the answer on
   pub link_passed : (stage : Stage) (x : Exchange) (r : Reply) → OnLink ours history l n stage x r → IsPassedReply theirs history x n r
   link_passed before_head x r z = subst (IsPassedReply theirs history x n) (sym (z.at c ran).unput) tt
-  link_passed (behind_head a) x r z = has_passed x r z.asked a (z.at c ran)
+  link_passed (answering a) x r z = has_passed x r z.asked a (z.at c ran)
   link_passed over x r z = let y = z.at c ran in has_passed x r z.asked y.0 y.1
 
   -- and where the answer is over, and nothing is left to read, all that came is that answer

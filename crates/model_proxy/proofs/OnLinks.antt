@@ -23,7 +23,7 @@ use Rattle.model_client.proofs.Answered.{told_without, answered}
 use Rattle.model_proxy.specs.Answers.{says_close}
 use Rattle.model_proxy.proofs.FoundHanded.{IsPassedOver, is_out}
 use Rattle.model_proxy.proofs.PiecesPut.{bytes_in, has_end, bytes_more, end_stays, end_comes, PutsOn, IsPutOf}
-use Rattle.model_proxy.proofs.ReadsOn.{KeepsOn, drops, is_passed_by, free_passes, StaysSo, busy, stays_so, pull_stays, waits_same, headed}
+use Rattle.model_proxy.proofs.ReadsOn.{KeepsOn, drops, fails, is_passed_by, free_passes, StaysSo, busy, stays_so, end_pulls, waits_same, headed}
 
 -- ---- which event it was
 
@@ -115,9 +115,10 @@ not_unasked setting k next event a step none =
 -- how far the last answer is: its head wasn't handed out; this one was; or it is read to its end and the connection is kept
 pub data Stage : Type 0 where
   before_head over : Stage
-  behind_head : Answer → Stage
+  answering : Answer → Stage
 
--- Behind what was handed out earlier only answers came that are passed over; the request alone waits, and has no reply.
+-- Behind what was handed out earlier only answers came that are passed over; the request alone waits, and has no reply. The connection isn't over,
+-- and neither a side nor a fault closes it.
 pub record AwaitsHead (outs now : List ReadAnswer) (method : List ℕ) (c : ClientKept) (r : Reply) : Type 0 where
   pub news : List ReadAnswer
   pub answers : now ≡ news ++ outs
@@ -126,6 +127,9 @@ pub record AwaitsHead (outs now : List ReadAnswer) (method : List ℕ) (c : Clie
   pub waits : c.waiting ≡ waiting ∷ []
   pub method_is : waiting.method ≡ method
   pub free : is_free c ≡ true
+  pub runs : c.is_over ≡ false
+  pub stays : c.closes ≡ false
+  pub fine : c.failed ≡ None
   pub unput : r ≡ no_reply
 
 -- Then this answer's head came, and what is put of it is what was handed out; nobody waits, and where nothing is left to do of it its end was
@@ -140,12 +144,14 @@ pub record HasHead (outs now : List ReadAnswer) (method : List ℕ) (c : ClientK
   pub final : is_interim a.status ≡ false
   pub waits : c.waiting ≡ []
   pub kept : is_passed_by c.reading ≡ false
+  pub runs : c.is_over ≡ false
+  pub fine : c.failed ≡ None
   pub done : is_free c ≡ true → (has_end newest.items ≡ true) ⊎ (body_to method a.body ≡ no_body)
   pub put : IsPutOf method a newest.items r
 
 abbrev pub IsAt : Stage → List ReadAnswer → List ReadAnswer → List ℕ → ClientKept → Reply → Type 0
 IsAt before_head outs now method c r = AwaitsHead outs now method c r
-IsAt (behind_head a) outs now method c r = HasHead outs now method c a r
+IsAt (answering a) outs now method c r = HasHead outs now method c a r
 IsAt over outs now method c r = (a : Answer) × HasHead outs now method c a r × (says_close a ≡ false)
 
 -- ---- steps that hand out little
@@ -160,7 +166,7 @@ AddsLittle on.body_ended = ⊥
 AddsLittle (on.broken_by f) = ⊥
 AddsLittle o = ⊤
 
-keeps_on : (o : ClientOutcome) → AddsLittle o → KeepsOn o
+pub keeps_on : (o : ClientOutcome) → AddsLittle o → KeepsOn o
 keeps_on (on.answer a) x = x.1
 keeps_on (on.fault f) x = absurd x
 keeps_on (on.closed end) x = absurd x
@@ -224,7 +230,7 @@ no_more_bytes : (items : List Item) (i : Item) → bytes_in (i ∷ []) ≡ [] �
 no_more_bytes items i none = bytes_more items (i ∷ []) ∙ ap (λ (ps : List (List ℕ)). bytes_in items ++ ps) none ∙ append-nil (bytes_in items)
 
 -- the newest answer has one more item
-item_on : (item : Item) (out : ReadOut) (h : ReadAnswer) (rest : List ReadAnswer) → out.answers ≡ h ∷ rest
+pub item_on : (item : Item) (out : ReadOut) (h : ReadAnswer) (rest : List ReadAnswer) → out.answers ≡ h ∷ rest
     → (with_item item out).answers ≡ record h { items = h.items ++ item ∷ [] } ∷ rest
 item_on item out h rest are = ap (λ (l : List ReadAnswer). (with_item_of item out.stray l).answers) are
 
@@ -242,13 +248,18 @@ module _ (setting : Setting) (before : List Happened) (s : Happened) (c d : Clie
 
   -- with an outcome by which the last answer goes on
   module _ (keeps : KeepsOn s.outcome) where
-    still : is_passed_by c.reading ≡ false → StaysSo c d
+    still : is_passed_by c.reading ≡ false → StaysSo (fails s.event) c d
     still kept = stays_so setting c d s.event s.outcome allowed step calm keeps kept
 
+    -- no request's body fails by it
+    pub sound_by : fails s.event ≡ false → is_passed_by c.reading ≡ false → c.failed ≡ None → d.failed ≡ None
+    sound_by sound kept fine = (still kept).failed sound ∙ fine
+
+  module _ (keeps : KeepsOn s.outcome) (fine : is_passed_by c.reading ≡ false → c.failed ≡ None → d.failed ≡ None) where
     awaits_by : (now next : List ReadAnswer) (r : Reply) → AwaitsHead outs now method c r → (more : List ReadAnswer) → next ≡ more ++ outs
         → AllByRecursion IsPassedOver more → AwaitsHead outs next method d r
     awaits_by now next r x more answers passed =
-        let y = still (free_passes c x.free) in
+        let y = still keeps (free_passes c x.free) in
         record {
           news = more;
           answers = answers;
@@ -257,13 +268,16 @@ module _ (setting : Setting) (before : List Happened) (s : Happened) (c d : Clie
           waits = still_waits (answers_none s.outcome keeps) ∙ x.waits;
           method_is = x.method_is;
           free = y.free ∙ x.free;
+          runs = y.over ∙ x.runs;
+          stays = y.closes ∙ x.stays;
+          fine = fine (free_passes c x.free) x.fine;
           unput = x.unput;
         }
 
     has_by : (now next : List ReadAnswer) (a : Answer) (r q : Reply) → (x : HasHead outs now method c a r) → (h : ReadAnswer) → h.reading ≡ x.newest.reading
         → (has_end x.newest.items ≡ true → has_end h.items ≡ true) → next ≡ (h ∷ x.news) ++ outs → IsPutOf method a h.items q → HasHead outs next method d a q
     has_by now next a r q x h reads ends answers put =
-        let y = still x.kept in
+        let y = still keeps x.kept in
         record {
           newest = h;
           news = x.news;
@@ -274,6 +288,8 @@ module _ (setting : Setting) (before : List Happened) (s : Happened) (c d : Clie
           final = x.final;
           waits = still_waits (answers_none s.outcome keeps) ∙ x.waits;
           kept = y.kept;
+          runs = y.over ∙ x.runs;
+          fine = fine x.kept x.fine;
           done = λ free. by_done (x.done (sym y.free ∙ free));
           put = put;
         }
@@ -285,7 +301,7 @@ module _ (setting : Setting) (before : List Happened) (s : Happened) (c d : Clie
     -- nothing more was handed out
     same_at : (stage : Stage) (now : List ReadAnswer) (r : Reply) → IsAt stage outs now method c r → IsAt stage outs now method d r
     same_at before_head now r x = awaits_by now now r x x.news x.answers x.passed
-    same_at (behind_head a) now r x = has_by now now a r r x x.newest refl (λ is. is) x.answers x.put
+    same_at (answering a) now r x = has_by now now a r r x x.newest refl (λ is. is) x.answers x.put
     same_at over now r x = (x.0, has_by now now x.0 r r x.1 x.1.newest refl (λ is. is) x.1.answers x.1.put, x.2)
 
     trailers_has : (lines : List Header) (out : ReadOut) (a : Answer) (r : Reply) → HasHead outs out.answers method c a r
@@ -303,7 +319,7 @@ module _ (setting : Setting) (before : List Happened) (s : Happened) (c d : Clie
     trailers_at : (lines : List Header) (out : ReadOut) (stage : Stage) (r : Reply) → s.outcome ≡ on.trailers lines → IsAt stage outs out.answers method c r
         → IsAt stage outs (with_item (item_trailers lines) out).answers method d r
     trailers_at lines out before_head r is x = absurd (false≢true (sym (busy_now (subst IsOfBody (sym is) tt)) ∙ x.free))
-    trailers_at lines out (behind_head a) r is x = trailers_has lines out a r x
+    trailers_at lines out (answering a) r is x = trailers_has lines out a r x
     trailers_at lines out over r is x = (x.0, trailers_has lines out x.0 r x.1, x.2)
 
     interim_at : (a : Answer) (out : ReadOut) (stage : Stage) (r : Reply) → s.outcome ≡ on.answer a → (is_out a ≡ false) × (is_interim a.status ≡ true)
@@ -312,7 +328,7 @@ module _ (setting : Setting) (before : List Happened) (s : Happened) (c d : Clie
         awaits_by out.answers (newly_read (answer_is a) ∷ out.answers) r x (newly_read (answer_is a) ∷ x.news)
         (ap (λ (l : List ReadAnswer). newly_read (answer_is a) ∷ l) x.answers)
         (record { answer = a; reading = refl; good = little.0; interim = little.1 }, x.passed)
-    interim_at a out (behind_head b) r is little x =
+    interim_at a out (answering b) r is little x =
         absurd (not_unasked setting c d s.event a (subst (λ (o : ClientOutcome). IsClientStep setting c s.event o d) is step) x.waits)
     interim_at a out over r is little x =
         absurd (not_unasked setting c d s.event a (subst (λ (o : ClientOutcome). IsClientStep setting c s.event o d) is step) x.1.waits)
@@ -331,10 +347,10 @@ module _ (setting : Setting) (before : List Happened) (s : Happened) (c d : Clie
     little_by (on.gave bytes) out stage r is little x = same_at stage out.answers r x
     little_by on.done out stage r is little x = same_at stage out.answers r x
 
-  pub little_at : (stage : Stage) (r : Reply) → AddsLittle s.outcome → IsAt stage outs (read_out before).answers method c r
+  pub little_at : (stage : Stage) (r : Reply) → AddsLittle s.outcome → (is_passed_by c.reading ≡ false → c.failed ≡ None → d.failed ≡ None) → IsAt stage outs (read_out before).answers method c r
       → IsAt stage outs (read_out (s ∷ before)).answers method d r
   unfolding read_out
-  little_at stage r little x = little_by (keeps_on s.outcome little) s.outcome (read_out before) stage r refl little x
+  little_at stage r little fine x = little_by (keeps_on s.outcome little) fine s.outcome (read_out before) stage r refl little x
 
   -- ---- a final answer's head, bytes of its body, its end
 
@@ -361,6 +377,8 @@ module _ (setting : Setting) (before : List Happened) (s : Happened) (c d : Clie
         final = final;
         waits = y.left ∙ others;
         kept = y.kept;
+        runs = y.over ∙ x.runs;
+        fine = y.failed ∙ x.fine;
         done = λ free. inr (ap (λ (m : List ℕ). body_to m a.body) (sym named) ∙ bodiless_kind (body_to y.first.method a.body) (sym y.free ∙ free));
         put = put;
       }
@@ -369,7 +387,8 @@ module _ (setting : Setting) (before : List Happened) (s : Happened) (c d : Clie
       → HasHead outs (read_out (s ∷ before)).answers method d a (with_piece bytes r)
   unfolding read_out
   bytes_at a bytes r is x =
-      has_by (subst KeepsOn (sym is) tt) (read_out before).answers (reading_out s.outcome (read_out before)).answers a r (with_piece bytes r) x
+      has_by (subst KeepsOn (sym is) tt)
+      (sound_by (subst KeepsOn (sym is) tt) (ap fails (pulls_only setting c d s.event s.outcome step (subst IsOfBody (sym is) tt)))) (read_out before).answers (reading_out s.outcome (read_out before)).answers a r (with_piece bytes r) x
       (record x.newest { items = x.newest.items ++ item_bytes bytes ∷ [] }) refl (end_stays x.newest.items (item_bytes bytes ∷ []))
       (ap (λ (o : ClientOutcome). (reading_out o (read_out before)).answers) is ∙ item_on (item_bytes bytes) (read_out before) x.newest (x.news ++ outs) x.answers)
       (put_piece method a x.newest.items bytes r x.put)
@@ -380,6 +399,8 @@ module _ (setting : Setting) (before : List Happened) (s : Happened) (c d : Clie
   end_at a r is x =
       let pull : s.event ≡ on.pull = pulls_only setting c d s.event s.outcome step (subst IsOfBody (sym is) tt) in
       let items = x.newest.items ++ item_end ∷ [] in
+      let y = end_pulls setting c d (subst (λ (e : ClientEvent). IsTrue (client_allows setting c e)) pull allowed)
+      (subst (λ (o : ClientOutcome). IsClientStep setting c on.pull o d) is (subst (λ (e : ClientEvent). IsClientStep setting c e s.outcome d) pull step)) in
       record {
         newest = record x.newest { items = items };
         news = x.news;
@@ -391,8 +412,9 @@ module _ (setting : Setting) (before : List Happened) (s : Happened) (c d : Clie
         good = x.good;
         final = x.final;
         waits = still_waits (ap answers_one is) ∙ x.waits;
-        kept = pull_stays setting c d s.outcome (subst (λ (e : ClientEvent). IsTrue (client_allows setting c e)) pull allowed)
-            (subst (λ (e : ClientEvent). IsClientStep setting c e s.outcome d) pull step);
+        kept = y.kept;
+        runs = y.over ∙ x.runs;
+        fine = y.failed ∙ x.fine;
         done = λ free. inl (end_comes x.newest.items);
         put = put_end method a items r (inl (end_comes x.newest.items))
             (put_as method a x.newest.items items r (no_more_bytes x.newest.items item_end refl) (end_stays x.newest.items (item_end ∷ [])) x.put);
@@ -411,6 +433,8 @@ read_up outs now method c a r free x = record {
   final = x.final;
   waits = x.waits;
   kept = x.kept;
+  runs = x.runs;
+  fine = x.fine;
   done = x.done;
   put = put_end method a x.newest.items r (x.done free) x.put;
 }

@@ -166,7 +166,7 @@ bodiless_whole s method h a found x none =
     subst (λ (kind : BodyKind). IsBodyOf (body_input s) kind x.message.body_start x.message.body) none x.of.is in
     let is : found ≡ found_body s a (content [] (ended_at x.message.body_start [])) = x.is ∙ ap (found_body s a) body in
     let empty : found.bytes ≡ [] = ap (λ (f : Found). f.bytes) is in
-    let begins : [] ≡ joined x.pieces ++ x.begins.0 = sym (found_bytes s method h a found x ∙ x.begins.1) ∙ empty in (
+    let begins : [] ≡ joined x.pieces ++ x.begins.0 = sym empty ∙ found_bytes s method h a found x ∙ x.begins.1 in (
       subst (λ (f : Found). IsWhole f.fate) (sym is) tt,
       ap joined (found_pieces s method h a found x) ∙ none_before (joined x.pieces) x.begins.0 begins ∙ sym empty,
     )

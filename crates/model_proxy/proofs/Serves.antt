@@ -34,7 +34,7 @@ use Rattle.model_proxy.proofs.ServersForward.{none_there, tells_connected, tells
 use Rattle.model_proxy.proofs.RefusedForward.{tells_refused}
 use Rattle.model_proxy.proofs.LastSent.{LastOn, last_map, last_each, last_none, last_passed}
 use Rattle.model_proxy.proofs.OnLinks.{Stage}
-use Rattle.model_proxy.proofs.LinkSteps.{OnLink, later_link, IsLittle, little_link, newest_server, link_passed}
+use Rattle.model_proxy.proofs.LinkSteps.{OnLink, later_link, IsLittle, little_link, UnusedOn, fresh_unused, little_unused, newest_server, link_passed}
 
 -- ---- what is known
 
@@ -42,7 +42,7 @@ use Rattle.model_proxy.proofs.LinkSteps.{OnLink, later_link, IsLittle, little_li
 abbrev pub OnServer : Setting → List ProxyStep → Option ClientKept → List Link → Stage → List Exchange → List replies.Exchange → Type 0
 OnServer ours history None links stage xs fs = ⊤
 OnServer ours history (Some c) [] stage xs fs = ⊥
-OnServer ours history (Some c) (l ∷ links) stage xs fs = LastOn (length links) (OnLink ours history l (length links) stage) xs fs
+OnServer ours history (Some c) (l ∷ links) stage xs fs = LastOn (length links) (OnLink ours history l (length links) stage) (UnusedOn ours l) xs fs
 
 abbrev pub HasNoReply : List replies.Exchange → Type 0
 HasNoReply [] = ⊥
@@ -74,7 +74,7 @@ on_later ours s history None links stage xs fs all y = tt
 on_later ours s history (Some c) [] stage xs fs all y = absurd y
 on_later ours s history (Some c) (l ∷ links) stage xs fs all y =
     last_map (length links) (IsSentBy (length history)) (OnLink ours history l (length links) stage) (OnLink ours (s ∷ history) l (length links) stage)
-    (λ x r by at z. later_link ours s history l (length links) stage x r (by (length links) at) z) xs fs all y
+    (UnusedOn ours l) (UnusedOn ours l) (λ x r by at z. later_link ours s history l (length links) stage x r (by (length links) at) z) (λ z. z) xs fs all y
 
 -- whatever the server connection does, and whatever is kept of it
 pub in_link : (u : UnderWay) (a b : ClientKept) (l m : Link) (links : List Link) (xs : List Exchange) (fs : List replies.Exchange) → IsIn u (Some a) (l ∷ links) xs fs
@@ -85,12 +85,13 @@ in_link (is_sent whole broken) a b l m links [] fs y = y
 in_link (is_sent whole broken) a b l m links (x ∷ xs) fs y = y
 
 little_on : (ours : Setting) (history : List ProxyStep) (e : Happened) (l : Link) (links : List Link) (stage : Stage) (xs : List Exchange) (fs : List replies.Exchange)
-    → IsLittle e → LastOn (length links) (OnLink ours history l (length links) stage) xs fs
-    → LastOn (length links) (OnLink ours history (record { happened = e ∷ l.happened; sent = l.sent }) (length links) stage) xs fs
+    → IsLittle e → LastOn (length links) (OnLink ours history l (length links) stage) (UnusedOn ours l) xs fs
+    → LastOn (length links) (OnLink ours history (record { happened = e ∷ l.happened; sent = l.sent }) (length links) stage)
+    (UnusedOn ours (record { happened = e ∷ l.happened; sent = l.sent })) xs fs
 little_on ours history e l links stage xs fs little y =
     let m : Link = record { happened = e ∷ l.happened; sent = l.sent } in
-    last_each (length links) (OnLink ours history l (length links) stage) (OnLink ours history m (length links) stage)
-    (λ x r at z. little_link ours history e l m (length links) stage x x r little refl refl refl z) xs fs y
+    last_each (length links) (OnLink ours history l (length links) stage) (OnLink ours history m (length links) stage) (UnusedOn ours l) (UnusedOn ours m)
+    (λ x r at z. little_link ours history e l m (length links) stage x x r little refl refl refl z) (λ z. little_unused ours e l m little refl z) xs fs y
 
 module _ (edge : Edge) (theirs ours : Setting) (held : theirs.hold_size ≡ ours.hold_size) where
   -- ---- an event of the client's connection, or none
@@ -137,7 +138,8 @@ module _ (edge : Edge) (theirs ours : Setting) (held : theirs.hold_size ≡ ours
       let l : Link = record { happened = []; sent = [] } in
       record {
         tells = tells_connected edge theirs ours q size whole broken client history all xs x.tells;
-        last = last_none edge theirs history (length all.links) (OnLink ours (s ∷ history) l (length all.links) stage) [] xs (exchanges all.client)
+        last = last_none edge theirs history (length all.links) (OnLink ours (s ∷ history) l (length all.links) stage) (UnusedOn ours l)
+            (fresh_unused ours []) [] xs (exchanges all.client)
             (judged_now edge theirs ours old history all xs x.tells).replied
             (none_there history (length all.links) (length all.links) all.requests xs (omega arith) x.tells.same);
         state = x.state;
@@ -157,7 +159,7 @@ module _ (edge : Edge) (theirs ours : Setting) (held : theirs.hold_size ≡ ours
       let e : Happened = record { event = asked.write n; outcome = asked.gave bytes } in
       record {
         tells = tells_written edge theirs ours n bytes kept a b adds says changes does first history all l links xs are x.tells;
-        last = little_on ours (s ∷ history) e l links stage xs (exchanges all.client) (record { calm = refl; none = refl; little = tt })
+        last = little_on ours (s ∷ history) e l links stage xs (exchanges all.client) (record { calm = refl; sound = refl; none = refl; little = tt })
             (on_later ours s history (Some a) (l ∷ links) stage xs (exchanges all.client) (sent_so_far edge theirs ours (record kept { server = Some a }) history all xs x.tells)
             (subst (λ (ls : List Link). OnServer ours history (Some a) ls stage xs (exchanges all.client)) are x.last));
         state = in_link kept.under_way a b l (record { happened = e ∷ l.happened; sent = l.sent }) links xs (exchanges all.client)
@@ -170,7 +172,7 @@ module _ (edge : Edge) (theirs ours : Setting) (held : theirs.hold_size ≡ ours
       → NewestIsPassed theirs history (length links) [] xs (exchanges all.client)
   passing_now stage kept a history all l links xs are ran x =
       let these : map server_of (l ∷ links) ≡ servers history = sym (ap (map server_of) are) ∙ x.tells.carries.forwarded.sums.servers in
-      last_passed theirs history (length links) (OnLink ours history l (length links) stage)
+      last_passed theirs history (length links) (OnLink ours history l (length links) stage) (UnusedOn ours l)
       (λ y r at z. link_passed theirs ours held history l (length links) (newest_server history l links these) a ran stage y r z) [] xs (exchanges all.client)
       (subst (λ (ls : List Link). OnServer ours history (Some a) ls stage xs (exchanges all.client)) are x.last)
 

@@ -25,7 +25,7 @@ use Rattle.model_proxy.proofs.SilentSteps.{IsSilent, silent_exchanges}
 use Rattle.model_proxy.proofs.BodiesForward.{tells_piece, tells_end, tells_broken}
 use Rattle.model_proxy.proofs.LastSent.{LastOn, on_newest}
 use Rattle.model_proxy.proofs.OnLinks.{Stage}
-use Rattle.model_proxy.proofs.LinkSteps.{OnLink, IsLittle, little_link, same_link}
+use Rattle.model_proxy.proofs.LinkSteps.{OnLink, IsLittle, little_link, end_link, same_link, UnusedOn}
 use Rattle.model_proxy.proofs.Serves.{OnServer, IsIn, Serves}
 
 module _ (edge : Edge) (theirs ours : Setting) (s : ProxyStep) (history : List ProxyStep) where
@@ -36,16 +36,17 @@ module _ (edge : Edge) (theirs ours : Setting) (s : ProxyStep) (history : List P
     at : x.server ≡ Some (length links)
     at = subst (λ (ls : List Link). IsIn (is_sent whole broken) (Some c) ls (x ∷ xs) (exchanges all.client)) links_are t.state
 
-    last : LastOn (length links) (OnLink ours (s ∷ history) l (length links) stage) (x ∷ xs) (exchanges (more ++ all.client))
+    last : LastOn (length links) (OnLink ours (s ∷ history) l (length links) stage) (UnusedOn ours l) (x ∷ xs) (exchanges (more ++ all.client))
     last =
-        subst (LastOn (length links) (OnLink ours (s ∷ history) l (length links) stage) (x ∷ xs)) (sym (silent_exchanges more all.client silent))
+        subst (LastOn (length links) (OnLink ours (s ∷ history) l (length links) stage) (UnusedOn ours l) (x ∷ xs)) (sym (silent_exchanges more all.client silent))
         (subst (λ (ls : List Link). OnServer ours (s ∷ history) (Some c) ls stage (x ∷ xs) (exchanges all.client)) links_are t.last)
 
     -- with what is made of what was taken of it, and a step on the server connection
     moved : (change : Pulled → Pulled) (e : Happened) (m : Link) → IsLittle e → m.happened ≡ e ∷ l.happened → (change x.pulled).head.method ≡ x.pulled.head.method
-        → LastOn (length links) (OnLink ours (s ∷ history) m (length links) stage) (record x { pulled = change x.pulled } ∷ xs) (exchanges (more ++ all.client))
+        → LastOn (length links) (OnLink ours (s ∷ history) m (length links) stage) (UnusedOn ours m) (record x { pulled = change x.pulled } ∷ xs) (exchanges (more ++ all.client))
     moved change e m little are method =
-        on_newest (length links) (OnLink ours (s ∷ history) l (length links) stage) (OnLink ours (s ∷ history) m (length links) stage) x
+        on_newest (length links) (OnLink ours (s ∷ history) l (length links) stage) (OnLink ours (s ∷ history) m (length links) stage) (UnusedOn ours l)
+        (UnusedOn ours m) x
         (record x { pulled = change x.pulled }) xs (exchanges (more ++ all.client)) at at
         (λ r z. little_link ours (s ∷ history) e l m (length links) stage x (record x { pulled = change x.pulled }) r little are method refl z) last
 
@@ -65,11 +66,12 @@ module _ (edge : Edge) (theirs ours : Setting) (s : ProxyStep) (history : List P
           (record {
             happened = record { event = asked.chunk bytes; outcome = asked.done } ∷ l.happened;
             sent = happened.sent_of edge (record r.pulled { pieces = r.pulled.pieces ++ bytes ∷ [] }) u.moment ∷ u.before;
-          }) (record { calm = refl; none = refl; little = tt }) refl refl;
+          }) (record { calm = refl; sound = refl; none = refl; little = tt }) refl refl;
       state = at;
     }
 
     pub serves_end : (d : ClientKept) → IsTrue (client_allows ours c asked.body_end) → IsClientStep ours c asked.body_end asked.done d
+        → (c.failed ≡ None → d.failed ≡ None)
         → HasBrought on.body_ended all.client (more ++ all.client)
         → Serves edge theirs ours (record { client = b; server = Some d; under_way = is_sent true broken }) stage (s ∷ history) (record {
           client = more ++ all.client;
@@ -79,13 +81,22 @@ module _ (edge : Edge) (theirs ours : Setting) (s : ProxyStep) (history : List P
             sent = happened.sent_of edge (record r.pulled { is_ended = true }) u.moment ∷ u.before;
           } ∷ links;
         }) (record x { pulled = record x.pulled { is_ended = true } } ∷ xs)
-    serves_end d allowed step did = record {
+    serves_end d allowed step fine did = record {
       tells = tells_end edge theirs ours s history whole broken a b c d allowed step all more r rs l links x xs rs_are links_are at driven u silent stands did t.tells;
-      last = moved (λ (p : Pulled). record p { is_ended = true }) (record { event = asked.body_end; outcome = asked.done })
-          (record {
+      last = on_newest (length links) (OnLink ours (s ∷ history) l (length links) stage)
+          (OnLink ours (s ∷ history) (record {
             happened = record { event = asked.body_end; outcome = asked.done } ∷ l.happened;
             sent = happened.sent_of edge (record r.pulled { is_ended = true }) u.moment ∷ u.before;
-          }) (record { calm = refl; none = refl; little = tt }) refl refl;
+          }) (length links) stage) (UnusedOn ours l)
+          (UnusedOn ours (record {
+            happened = record { event = asked.body_end; outcome = asked.done } ∷ l.happened;
+            sent = happened.sent_of edge (record r.pulled { is_ended = true }) u.moment ∷ u.before;
+          })) x (record x { pulled = record x.pulled { is_ended = true } }) xs (exchanges (more ++ all.client)) at at
+          (λ q z.
+          end_link ours (s ∷ history) l (record {
+            happened = record { event = asked.body_end; outcome = asked.done } ∷ l.happened;
+            sent = happened.sent_of edge (record r.pulled { is_ended = true }) u.moment ∷ u.before;
+          }) (length links) stage x (record x { pulled = record x.pulled { is_ended = true } }) q c d refl refl refl driven step fine z) last;
       state = at;
     }
 
@@ -99,7 +110,8 @@ module _ (edge : Edge) (theirs ours : Setting) (s : ProxyStep) (history : List P
         let m : Link = record { happened = l.happened; sent = happened.sent_of edge (record r.pulled { is_broken = true }) u.moment ∷ u.before } in
         record {
           tells = tells_broken edge theirs ours s history fault whole broken a b c all more r rs l links x xs rs_are links_are at driven u silent stands did t.tells;
-          last = on_newest (length links) (OnLink ours (s ∷ history) l (length links) stage) (OnLink ours (s ∷ history) m (length links) stage) x
+          last = on_newest (length links) (OnLink ours (s ∷ history) l (length links) stage) (OnLink ours (s ∷ history) m (length links) stage) (UnusedOn ours l)
+        (UnusedOn ours m) x
               (record x { pulled = record x.pulled { is_broken = true } }) xs (exchanges (more ++ all.client)) at at
               (λ q z. same_link ours (s ∷ history) l m (length links) stage x (record x { pulled = record x.pulled { is_broken = true } }) q refl refl refl z) last;
           state = at;

@@ -37,8 +37,8 @@ use Rattle.model_proxy.proofs.RepliesForward.{put_exchanges, tells_cut}
 use Rattle.model_proxy.proofs.PartsForward.{server_reply, told_put, told_now, puts_as, tells_answer, tells_continue}
 use Rattle.model_proxy.proofs.PiecesPut.{IsPutOf}
 use Rattle.model_proxy.proofs.LastSent.{LastOn, is_on_it, last_each, of_newest, to_newest, of_older, to_older, now_filled}
-use Rattle.model_proxy.proofs.OnLinks.{Stage, before_head, over, behind_head, head_at, bytes_at, end_at, read_up}
-use Rattle.model_proxy.proofs.LinkSteps.{one_trace, OnLink, link_step, newest_server, link_passed}
+use Rattle.model_proxy.proofs.OnLinks.{Stage, before_head, over, answering, head_at, bytes_at, end_at, read_up}
+use Rattle.model_proxy.proofs.LinkSteps.{one_trace, OnLink, link_step, UnusedOn, newest_server, link_passed}
 use Rattle.model_proxy.proofs.Serves.{OnServer, HasNoReply, IsIn, Serves}
 use Rattle.model_proxy.proofs.ServesTurns.{newest_number, used_by}
 
@@ -48,33 +48,33 @@ module _ (ours : Setting) (history : List ProxyStep) (l : Link) (n : ℕ) (x : E
   -- its head is handed out, and put or not
   pub answer_link : (a : Answer) (q : Reply) → is_interim a.status ≡ false → (a.is_lax || (a.status == 101)) ≡ false → IsPutOf x.pulled.head.method a [] q
       → OnLink ours history l n before_head x r
-      → OnLink ours history (record l { happened = record { event = asked.next; outcome = asked.answer a } ∷ l.happened }) n (behind_head a) x q
+      → OnLink ours history (record l { happened = record { event = asked.next; outcome = asked.answer a } ∷ l.happened }) n (answering a) x q
   answer_link a q final good put z =
       let e : Happened = record { event = asked.next; outcome = asked.answer a } in
-      link_step ours history e l (record l { happened = e ∷ l.happened }) n before_head (behind_head a) x x r q refl refl refl refl z
+      link_step ours history e l (record l { happened = e ∷ l.happened }) n before_head (answering a) x x r q refl refl refl refl z
       (λ c d ran allowed did here.
       head_at ours l.happened e c d ran allowed did refl refl (read_out z.asked.before).answers x.pulled.head.method a r q refl good final put here)
 
   -- bytes of its body
-  pub bytes_link : (a : Answer) (bytes : List ℕ) → OnLink ours history l n (behind_head a) x r
-      → OnLink ours history (record l { happened = record { event = asked.pull; outcome = asked.bytes bytes } ∷ l.happened }) n (behind_head a) x (replies.with_piece bytes r)
+  pub bytes_link : (a : Answer) (bytes : List ℕ) → OnLink ours history l n (answering a) x r
+      → OnLink ours history (record l { happened = record { event = asked.pull; outcome = asked.bytes bytes } ∷ l.happened }) n (answering a) x (replies.with_piece bytes r)
   bytes_link a bytes z =
       let e : Happened = record { event = asked.pull; outcome = asked.bytes bytes } in
-      link_step ours history e l (record l { happened = e ∷ l.happened }) n (behind_head a) (behind_head a) x x r (replies.with_piece bytes r) refl refl refl refl z
+      link_step ours history e l (record l { happened = e ∷ l.happened }) n (answering a) (answering a) x x r (replies.with_piece bytes r) refl refl refl refl z
       (λ c d ran allowed did here.
       bytes_at ours l.happened e c d ran allowed did refl refl (read_out z.asked.before).answers x.pulled.head.method a bytes r refl here)
 
   -- its end
-  pub end_link : (a : Answer) → OnLink ours history l n (behind_head a) x r
-      → OnLink ours history (record l { happened = record { event = asked.pull; outcome = asked.body_ended } ∷ l.happened }) n (behind_head a) x (with_end r)
+  pub end_link : (a : Answer) → OnLink ours history l n (answering a) x r
+      → OnLink ours history (record l { happened = record { event = asked.pull; outcome = asked.body_ended } ∷ l.happened }) n (answering a) x (with_end r)
   end_link a z =
       let e : Happened = record { event = asked.pull; outcome = asked.body_ended } in
-      link_step ours history e l (record l { happened = e ∷ l.happened }) n (behind_head a) (behind_head a) x x r (with_end r) refl refl refl refl z
+      link_step ours history e l (record l { happened = e ∷ l.happened }) n (answering a) (answering a) x x r (with_end r) refl refl refl refl z
       (λ c d ran allowed did here.
       end_at ours l.happened e c d ran allowed did refl refl (read_out z.asked.before).answers x.pulled.head.method a r refl here)
 
-  pub read_up_link : (a : Answer) (c : ClientKept) → IsClientTrace ours l.happened c → is_free c ≡ true → OnLink ours history l n (behind_head a) x r
-      → OnLink ours history l n (behind_head a) x (with_end r)
+  pub read_up_link : (a : Answer) (c : ClientKept) → IsClientTrace ours l.happened c → is_free c ≡ true → OnLink ours history l n (answering a) x r
+      → OnLink ours history l n (answering a) x (with_end r)
   read_up_link a c ran free z = record {
     asked = z.asked;
     at = λ d also.
@@ -83,13 +83,13 @@ module _ (ours : Setting) (history : List ProxyStep) (l : Link) (n : ℕ) (x : E
   }
 
   -- the connection is kept behind it
-  pub over_link : (a : Answer) → says_close a ≡ false → OnLink ours history l n (behind_head a) x r → OnLink ours history l n over x r
+  pub over_link : (a : Answer) → says_close a ≡ false → OnLink ours history l n (answering a) x r → OnLink ours history l n over x r
   over_link a stays z = record { asked = z.asked; at = λ d ran. (a, z.at d ran, stays) }
 
   -- no WebSocket is put
   no_session : (stage : Stage) (w : replies.Session) (c : ClientKept) → r ≡ session w → IsClientTrace ours l.happened c → OnLink ours history l n stage x r → ⊥
   no_session before_head w c is ran z = let no : no_reply ≡ session w = sym (z.at c ran).unput ∙ is in cc no
-  no_session (behind_head a) w c is ran z =
+  no_session (answering a) w c is ran z =
       let y = z.at c ran in subst (IsPutOf x.pulled.head.method a y.newest.items) is y.put
   no_session over w c is ran z =
       let y = z.at c ran in subst (IsPutOf x.pulled.head.method y.0 y.1.newest.items) is y.1.put
@@ -122,8 +122,8 @@ module _ (edge : Edge) (theirs ours : Setting) (held : theirs.hold_size ≡ ours
     -- where it is before
     pub here : OnLink ours (s ∷ history) l (length links) stage x f.reply
     here =
-        of_newest (length links) (OnLink ours (s ∷ history) l (length links) stage) x xs f fs at
-        (subst (LastOn (length links) (OnLink ours (s ∷ history) l (length links) stage) (x ∷ xs)) fs_are
+        of_newest (length links) (OnLink ours (s ∷ history) l (length links) stage) (UnusedOn ours l) x xs f fs at
+        (subst (LastOn (length links) (OnLink ours (s ∷ history) l (length links) stage) (UnusedOn ours l) (x ∷ xs)) fs_are
         (subst (λ (ls : List Link). OnServer ours (s ∷ history) (Some c) ls stage (x ∷ xs) (exchanges all.client)) links_are t.last))
 
     told : Tells edge theirs ours (record { client = a; server = Some d; under_way = is_sent whole broken }) (s ∷ history) moved (x ∷ xs)
@@ -142,8 +142,8 @@ module _ (edge : Edge) (theirs ours : Setting) (held : theirs.hold_size ≡ ours
         → Serves edge theirs ours (record { client = a; server = Some d; under_way = is_sent whole broken }) next (s ∷ history) moved (x ∷ xs)
     serves_moved z = record {
       tells = told;
-      last = subst (LastOn (length links) (OnLink ours (s ∷ history) m (length links) next) (x ∷ xs)) (sym fs_are)
-          (to_newest (length links) (OnLink ours (s ∷ history) m (length links) next) x xs f fs at z);
+      last = subst (LastOn (length links) (OnLink ours (s ∷ history) m (length links) next) (UnusedOn ours m) (x ∷ xs)) (sym fs_are)
+          (to_newest (length links) (OnLink ours (s ∷ history) m (length links) next) (UnusedOn ours m) x xs f fs at z);
       state = at;
     }
 
@@ -162,8 +162,8 @@ module _ (edge : Edge) (theirs ours : Setting) (held : theirs.hold_size ≡ ours
               no_drain no_error fs_are is refl
               (told_now edge theirs ours s history (record { client = a; server = Some d; under_way = is_sent whole broken }) moved (x ∷ xs) f fs fs_are told) (reply_of q z)
               stands did told;
-          last = subst (LastOn (length links) (OnLink ours (s ∷ history) m (length links) next) (x ∷ xs)) (sym after)
-              (to_newest (length links) (OnLink ours (s ∷ history) m (length links) next) x xs (record f { reply = q }) fs at z);
+          last = subst (LastOn (length links) (OnLink ours (s ∷ history) m (length links) next) (UnusedOn ours m) (x ∷ xs)) (sym after)
+              (to_newest (length links) (OnLink ours (s ∷ history) m (length links) next) (UnusedOn ours m) x xs (record f { reply = q }) fs at z);
           state = at;
         }
 
@@ -172,7 +172,7 @@ module _ (edge : Edge) (theirs ours : Setting) (held : theirs.hold_size ≡ ours
   -- the server connection is kept
   pub serves_over : (broken : Bool) (client : Kept) (c : ClientKept) (a : Answer) (all : Happenings) (l : Link) (links : List Link) (x : Exchange) (xs : List Exchange)
       → all.links ≡ l ∷ links → says_close a ≡ false
-      → Serves edge theirs ours (record { client = client; server = Some c; under_way = is_sent true broken }) (behind_head a) (s ∷ history) all (x ∷ xs)
+      → Serves edge theirs ours (record { client = client; server = Some c; under_way = is_sent true broken }) (answering a) (s ∷ history) all (x ∷ xs)
       → Serves edge theirs ours (record { client = client; server = Some c; under_way = nothing }) over (s ∷ history) all (x ∷ xs)
   serves_over broken client c a all l links x xs are stays t =
       let n = length links in
@@ -185,9 +185,10 @@ module _ (edge : Edge) (theirs ours : Setting) (held : theirs.hold_size ≡ ours
           is = t.tells.is;
         };
         last = subst (λ (ls : List Link). OnServer ours (s ∷ history) (Some c) ls over (x ∷ xs) (exchanges all.client)) (sym are)
-            (last_each n (OnLink ours (s ∷ history) l n (behind_head a)) (OnLink ours (s ∷ history) l n over) (λ y r here z. over_link ours (s ∷ history) l n y r a stays z)
+            (last_each n (OnLink ours (s ∷ history) l n (answering a)) (OnLink ours (s ∷ history) l n over) (UnusedOn ours l) (UnusedOn ours l)
+            (λ y r here z. over_link ours (s ∷ history) l n y r a stays z) (λ z. z)
             (x ∷ xs) (exchanges all.client)
-            (subst (λ (ls : List Link). OnServer ours (s ∷ history) (Some c) ls (behind_head a) (x ∷ xs) (exchanges all.client)) are t.last));
+            (subst (λ (ls : List Link). OnServer ours (s ∷ history) (Some c) ls (answering a) (x ∷ xs) (exchanges all.client)) are t.last));
         state = subst (λ (ls : List Link). IsIn nothing (Some c) ls (x ∷ xs) (exchanges all.client)) (sym are) (now_filled n x xs (is_on_it n x at));
       }
 
@@ -251,8 +252,8 @@ module _ (edge : Edge) (theirs ours : Setting) (held : theirs.hold_size ≡ ours
   on_told None links stage x xs f g fs none y = tt
   on_told (Some c) [] stage x xs f g fs none y = absurd y
   on_told (Some c) (l ∷ links) stage x xs f g fs none y =
-      to_older (length links) (OnLink ours (s ∷ history) l (length links) stage) x xs g fs none
-      (of_older (length links) (OnLink ours (s ∷ history) l (length links) stage) x xs f fs none y)
+      to_older (length links) (OnLink ours (s ∷ history) l (length links) stage) (UnusedOn ours l) x xs g fs none
+      (of_older (length links) (OnLink ours (s ∷ history) l (length links) stage) (UnusedOn ours l) x xs f fs none y)
 
   pub serves_continue : (stage : Stage) (q : ClientRequest) (size : BodySize) (whole broken : Bool) (a b : Kept) (server : Option ClientKept) (all : Happenings) (x : Exchange)
       (xs : List Exchange) (f : replies.Exchange) (fs : List replies.Exchange) → exchanges all.client ≡ f ∷ fs → x.server ≡ None → is_forwardable edge f.head ≡ true
