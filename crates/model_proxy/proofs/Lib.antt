@@ -37,11 +37,15 @@ pub mod ReadsOn
 pub mod LastSent
 pub mod OnLinks
 pub mod LinkSteps
+pub mod OwnSteps
+pub mod PartSteps
 pub mod BadAnswers
+pub mod WholeBodies
 pub mod Serves
 pub mod ServesTurns
 pub mod ServesBodies
 pub mod ServesReplies
+pub mod HandedSteps
 pub mod GivenRequests
 pub mod Places
 pub mod StepByStep

@@ -5,7 +5,8 @@ use Rattle.std.specs.List.{AllByRecursion}
 use Rattle.std.proofs.lemmas.Bool.{false≢true}
 use Rattle.model_h1.specs.Event.{BodyFault, corrupted, incomplete}
 use Rattle.model_h1.specs.Answer.{is_at_once}
-use Rattle.model_h1.specs.Handed.{Item, item_bytes, item_trailers, item_end, item_fault, item_frame, trailer_items, stop_items, last_items, body_bytes, Begins}
+use Rattle.model_h1.specs.Handed.{Item, item_bytes, item_trailers, item_end, item_fault, item_frame, trailer_items, stop_items, last_items, body_bytes, AreItemsOf, Begins}
+use Rattle.model_h1.specs.Runs.{Run}
 use Rattle.model_h1.specs.Request.{Header, BodyKind, no_body}
 use Rattle.model_h1.specs.Parse.{Body, content, Stop, ended_at, still_open, broken, cut, IsBodyOf}
 use Rattle.model_h1.specs.Laws.Exchanges.{AnswerGiven, Reply, no_reply, answer_given, session, is_whole}
@@ -22,7 +23,7 @@ use Rattle.model_proxy.proofs.FirstPassed.{head_is_found, ends_at_once}
 -- ---- which items are bytes
 
 -- it comes behind the bytes of a body
-abbrev IsBehind : Item → Type 0
+abbrev pub IsBehind : Item → Type 0
 IsBehind (item_bytes bytes) = ⊥
 IsBehind (item_trailers lines) = ⊤
 IsBehind item_end = ⊤
@@ -42,6 +43,10 @@ stop_behind (ended_at place lines) = trailers_behind lines
 stop_behind still_open = tt
 stop_behind broken = (tt, tt)
 stop_behind cut = (tt, tt)
+
+-- behind the pieces of a body only such come
+pub content_behind : (bytes : List ℕ) (runs : List Run) (stop : Stop) (items : List Item) → (x : AreItemsOf bytes (content runs stop) items) → AllByRecursion IsBehind x.last
+content_behind bytes runs stop items x = front_behind x.last x.follow.0 (subst (AllByRecursion IsBehind) x.follow.1 (stop_behind stop))
 
 -- the pieces of bytes among these items
 abbrev pub bytes_in : List Item → List (List ℕ)
@@ -93,11 +98,11 @@ none_of (item_end ∷ l) all = none_of l all.1
 none_of (item_fault fault ∷ l) all = none_of l all.1
 none_of (item_frame f ∷ l) all = none_of l all.1
 
-parts_bytes : (ps : List (List ℕ)) (last : List Item) → AllByRecursion IsBehind last → bytes_in (map item_bytes ps ++ last) ≡ ps
+pub parts_bytes : (ps : List (List ℕ)) (last : List Item) → AllByRecursion IsBehind last → bytes_in (map item_bytes ps ++ last) ≡ ps
 parts_bytes [] last all = none_of last all
 parts_bytes (p ∷ ps) last all = ap (λ (qs : List (List ℕ)). p ∷ qs) (parts_bytes ps last all)
 
-parts_end : (ps : List (List ℕ)) (last : List Item) → has_end (map item_bytes ps ++ last) ≡ has_end last
+pub parts_end : (ps : List (List ℕ)) (last : List Item) → has_end (map item_bytes ps ++ last) ≡ has_end last
 parts_end [] last = refl
 parts_end (p ∷ ps) last = parts_end ps last
 
@@ -130,13 +135,13 @@ one_fault fault (i ∷ l) rest e is =
     let none : [] ≡ l ++ rest = cc in
     false≢true (ap₂ (λ (i : Item) (l : List Item). has_end (i ∷ l)) same (sym (nothing_of l rest none)) ∙ is)
 
-whole_stop : (l rest : List Item) (stop : Stop) → stop_items stop ≡ l ++ rest → has_end l ≡ true → IsWhole (fate_of stop)
+pub whole_stop : (l rest : List Item) (stop : Stop) → stop_items stop ≡ l ++ rest → has_end l ≡ true → IsWhole (fate_of stop)
 whole_stop l rest (ended_at place lines) e is = tt
 whole_stop l rest still_open e is = absurd (false≢true (ap has_end (sym (nothing_of l rest e)) ∙ is))
 whole_stop l rest broken e is = absurd (one_fault corrupted l rest e is)
 whole_stop l rest cut e is = absurd (one_fault incomplete l rest e is)
 
-some_items : (l : List Item) → has_end l ≡ true → 0 < length l
+pub some_items : (l : List Item) → has_end l ≡ true → 0 < length l
 some_items [] is = absurd (false≢true is)
 some_items (i ∷ l) is = omega arith
 

@@ -23,6 +23,7 @@ use Rattle.model_proxy.specs.Carried.{ForwarderKept, is_sent, IsSentOn}
 use Rattle.model_proxy.specs.Moves.{HasBrought}
 use Rattle.model_proxy.proofs.SilentSteps.{IsSilent, silent_exchanges}
 use Rattle.model_proxy.proofs.BodiesForward.{tells_piece, tells_end, tells_broken}
+use Rattle.model_proxy.proofs.WholeBodies.{HasAll, sound_end}
 use Rattle.model_proxy.proofs.LastSent.{LastOn, on_newest}
 use Rattle.model_proxy.proofs.OnLinks.{Stage}
 use Rattle.model_proxy.proofs.LinkSteps.{OnLink, IsLittle, little_link, end_link, same_link, UnusedOn}
@@ -71,7 +72,7 @@ module _ (edge : Edge) (theirs ours : Setting) (s : ProxyStep) (history : List P
     }
 
     pub serves_end : (d : ClientKept) → IsTrue (client_allows ours c asked.body_end) → IsClientStep ours c asked.body_end asked.done d
-        → (c.failed ≡ None → d.failed ≡ None)
+        → HasAll r.pulled
         → HasBrought on.body_ended all.client (more ++ all.client)
         → Serves edge theirs ours (record { client = b; server = Some d; under_way = is_sent true broken }) stage (s ∷ history) (record {
           client = more ++ all.client;
@@ -81,7 +82,7 @@ module _ (edge : Edge) (theirs ours : Setting) (s : ProxyStep) (history : List P
             sent = happened.sent_of edge (record r.pulled { is_ended = true }) u.moment ∷ u.before;
           } ∷ links;
         }) (record x { pulled = record x.pulled { is_ended = true } } ∷ xs)
-    serves_end d allowed step fine did = record {
+    serves_end d allowed step full did = record {
       tells = tells_end edge theirs ours s history whole broken a b c d allowed step all more r rs l links x xs rs_are links_are at driven u silent stands did t.tells;
       last = on_newest (length links) (OnLink ours (s ∷ history) l (length links) stage)
           (OnLink ours (s ∷ history) (record {
@@ -96,7 +97,8 @@ module _ (edge : Edge) (theirs ours : Setting) (s : ProxyStep) (history : List P
           end_link ours (s ∷ history) l (record {
             happened = record { event = asked.body_end; outcome = asked.done } ∷ l.happened;
             sent = happened.sent_of edge (record r.pulled { is_ended = true }) u.moment ∷ u.before;
-          }) (length links) stage x (record x { pulled = record x.pulled { is_ended = true } }) q c d refl refl refl driven step fine z) last;
+          }) (length links) stage x (record x { pulled = record x.pulled { is_ended = true } }) q c d refl refl refl driven step
+          (sound_end edge ours whole broken r l c d u full driven step) z) last;
       state = at;
     }
 
