@@ -5,7 +5,8 @@ use Rattle.std.specs.List.{AllByRecursion}
 use Rattle.std.proofs.lemmas.Bool.{false≢true}
 use Rattle.model_h1.specs.Setting.{Setting}
 use Rattle.model_h1.specs.Event.{BodyFault}
-use Rattle.model_h1.specs.Laws.Exchanges.{Reply, with_piece, with_end}
+use Rattle.model_h1.specs.Handed.{Item}
+use Rattle.model_h1.specs.Laws.Exchanges.{Reply, with_piece}
 use Rattle.model_client.specs.AnswerReading.{Answer}
 use Rattle.model_client.specs.AnswerParse.{is_interim}
 use Rattle.model_client.specs.ClientEvent as on
@@ -18,6 +19,7 @@ use Rattle.model_proxy.specs.Exchange.{Exchange}
 use Rattle.model_proxy.specs.Happenings.{Link}
 use Rattle.model_proxy.specs.Moves.{IsQuiet}
 use Rattle.model_proxy.specs.Parts.{is_refused, Handed, asks, sends, sends_end, good_answer, refused_answer, body_bytes, body_end, body_fault, head_fault, server_closed, other_server_event, handed_out, handed_by, handed_of}
+use Rattle.model_proxy.proofs.PiecesPut.{has_end, IsPutOf}
 use Rattle.model_proxy.proofs.OnLinks.{answering, IsOfBody, AddsLittle, pulls_only}
 use Rattle.model_proxy.proofs.LinkSteps.{OnLink, IsLittle, quiet_link}
 use Rattle.model_proxy.proofs.OwnSteps.{is_own, own_quiet, own_little}
@@ -245,6 +247,6 @@ module _ (ours : Setting) (history : List ProxyStep) (l : Link) (n : ℕ) (x : E
   bytes_behind bytes y =
       behind_one (body_bytes bytes) (on.bytes bytes) (with_piece bytes r) refl tt y (λ m w. bytes_link ours history m n x r a bytes w)
 
-  pub end_behind : HandsOne body_end more l.happened k ours
-      → OnLink ours history (record l { happened = more ++ l.happened }) n (answering a) x (with_end r)
-  end_behind y = behind_one body_end on.body_ended (with_end r) refl tt y (λ m w. end_link ours history m n x r a w)
+  pub end_behind : (q : Reply) → ((items : List Item) → has_end items ≡ true → IsPutOf x.pulled.head.method a items r → IsPutOf x.pulled.head.method a items q)
+      → HandsOne body_end more l.happened k ours → OnLink ours history (record l { happened = more ++ l.happened }) n (answering a) x q
+  end_behind q so y = behind_one body_end on.body_ended q refl tt y (λ m w. end_link ours history m n x r a q so w)

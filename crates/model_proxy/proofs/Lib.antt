@@ -46,6 +46,9 @@ pub mod ServesTurns
 pub mod ServesBodies
 pub mod ServesReplies
 pub mod HandedSteps
+pub mod Served
+pub mod ServedTurns
+pub mod ServedReplies
 pub mod GivenRequests
 pub mod Places
 pub mod StepByStep

@@ -220,7 +220,7 @@ put_piece method a items bytes (answer_given g) x = record {
     by_reason (inr bodiless) = inr bodiless
 put_piece method a items bytes (session w) x = absurd x
 
-put_end : (method : List ℕ) (a : Answer) (items : List Item) (r : Reply) → (has_end items ≡ true) ⊎ (body_to method a.body ≡ no_body) → IsPutOf method a items r
+pub put_end : (method : List ℕ) (a : Answer) (items : List Item) (r : Reply) → (has_end items ≡ true) ⊎ (body_to method a.body ≡ no_body) → IsPutOf method a items r
     → IsPutOf method a items (with_end r)
 put_end method a items no_reply reason x = tt
 put_end method a items (answer_given g) reason x = record { head = x.head; size = x.size; pieces = x.pieces; ended = λ is. reason }
@@ -393,10 +393,11 @@ module _ (setting : Setting) (before : List Happened) (s : Happened) (c d : Clie
       (ap (λ (o : ClientOutcome). (reading_out o (read_out before)).answers) is ∙ item_on (item_bytes bytes) (read_out before) x.newest (x.news ++ outs) x.answers)
       (put_piece method a x.newest.items bytes r x.put)
 
-  pub end_at : (a : Answer) (r : Reply) → s.outcome ≡ on.body_ended → HasHead outs (read_out before).answers method c a r
-      → HasHead outs (read_out (s ∷ before)).answers method d a (with_end r)
+  -- the end of the reply may be put, or not
+  pub end_at : (a : Answer) (r q : Reply) → ((items : List Item) → has_end items ≡ true → IsPutOf method a items r → IsPutOf method a items q) → s.outcome ≡ on.body_ended
+      → HasHead outs (read_out before).answers method c a r → HasHead outs (read_out (s ∷ before)).answers method d a q
   unfolding read_out
-  end_at a r is x =
+  end_at a r q so is x =
       let pull : s.event ≡ on.pull = pulls_only setting c d s.event s.outcome step (subst IsOfBody (sym is) tt) in
       let items = x.newest.items ++ item_end ∷ [] in
       let y = end_pulls setting c d (subst (λ (e : ClientEvent). IsTrue (client_allows setting c e)) pull allowed)
@@ -416,7 +417,7 @@ module _ (setting : Setting) (before : List Happened) (s : Happened) (c d : Clie
         runs = y.over ∙ x.runs;
         fine = y.failed ∙ x.fine;
         done = λ free. inl (end_comes x.newest.items);
-        put = put_end method a items r (inl (end_comes x.newest.items))
+        put = so items (end_comes x.newest.items)
             (put_as method a x.newest.items items r (no_more_bytes x.newest.items item_end refl) (end_stays x.newest.items (item_end ∷ [])) x.put);
       }
 

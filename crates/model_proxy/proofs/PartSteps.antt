@@ -1,8 +1,7 @@
 -- What the steps of a client's connection bring, by the parts of replies and requests that they are.
-use Rattle.std.proofs.Common.{◌≡◌, ℕ, Bool, true, false, List, [], ◌∷◌, ◌++◌, Option, Some, None, refl, sym, ap, ◌∙◌, subst}
+use Rattle.std.proofs.Common.{◌≡◌, ℕ, Bool, true, false, List, [], ◌∷◌, ◌++◌, Option, Some, None, refl, sym, ap, ◌∙◌, subst, append_assoc}
 use Rattle.std.specs.List.{AllByRecursion}
 use Rattle.model_h1.specs.Setting.{Setting}
-use Rattle.model_h1.specs.Answer.{AnswerHead, BodySize}
 use Rattle.model_h1.specs.Event as on
 use Rattle.model_h1.specs.OutcomeTable.{outcome_of}
 use Rattle.model_h1.specs.Past.{ParsedStep}
@@ -207,73 +206,169 @@ none_of (s ∷ more) before e =
       brought = then_brought on.pending before (more ++ before) (s ∷ (more ++ before)) earlier.brought one.brought;
     }
 
-pub one_of : (more before : List Step) (q : Part) (o : on.Outcome) → told_by q ≡ Some o → parts_of more ≡ q ∷ [] → AllBring o more before
+-- among them is one that is this part; the others are none
+pub record PutsOne (q : Part) (more : List Step) : Type 0 where
+  pub after : List Step
+  pub step : Step
+  pub first : List Step
+  pub are : more ≡ after ++ step ∷ first
+  pub one : parts_by step.event step.outcome ≡ q ∷ []
+  pub afterwards : parts_of after ≡ []
+  pub earlier : parts_of first ≡ []
+
+pub puts_one : (q : Part) (more : List Step) → parts_of more ≡ q ∷ [] → PutsOne q more
 unfolding parts_of
-one_of [] before q o told e = absurd (never_none q e)
-one_of (s ∷ more) before q o told e = by_parts (parts_by s.event s.outcome) refl e (λ rest. one_of more before q o told rest)
+puts_one q [] e = absurd (never_none q e)
+puts_one q (s ∷ more) e = by_parts (parts_by s.event s.outcome) refl e (λ rest. puts_one q more rest)
   where
-    by_parts : (l : List Part) → parts_by s.event s.outcome ≡ l → l ++ parts_of more ≡ q ∷ [] → (parts_of more ≡ q ∷ [] → AllBring o more before)
-        → AllBring o (s ∷ more) before
-    by_parts [] is all earlier =
-        let first = earlier all in
-        let one = none_by s.event s.outcome (more ++ before) is in
+    by_parts : (l : List Part) → parts_by s.event s.outcome ≡ l → l ++ parts_of more ≡ q ∷ [] → (parts_of more ≡ q ∷ [] → PutsOne q more) → PutsOne q (s ∷ more)
+    by_parts [] is all further =
+        let x = further all in
         record {
-          silent = (one.silent, first.silent);
-          brought = brought_then o before (more ++ before) (s ∷ (more ++ before)) first.brought one.brought;
+          after = s ∷ x.after;
+          step = x.step;
+          first = x.first;
+          are = ap (λ (l : List Step). s ∷ l) x.are;
+          one = x.one;
+          afterwards = ap (λ (l : List Part). l ++ parts_of x.after) is ∙ x.afterwards;
+          earlier = x.earlier;
         }
-    by_parts (p ∷ l) is all earlier =
+    by_parts (p ∷ l) is all further =
         let whole : p ∷ (l ++ parts_of more) ≡ q ∷ [] = all in
         let same : p ≡ q = cc in
         let none : l ++ parts_of more ≡ [] = cc in
         let both = back_empty l (parts_of more) none in
-        let first = none_of more before both.1 in
-        let here : parts_by s.event s.outcome ≡ q ∷ [] = is ∙ ap (λ (r : Part). r ∷ l) same ∙ ap (λ (m : List Part). q ∷ m) both.0 in
-        let one = one_by s.event s.outcome q o (more ++ before) here told in
         record {
-          silent = (one.silent, first.silent);
-          brought = then_brought o before (more ++ before) (s ∷ (more ++ before)) first.brought one.brought;
+          after = [];
+          step = s;
+          first = more;
+          are = refl;
+          one = is ∙ ap (λ (r : Part). r ∷ l) same ∙ ap (λ (m : List Part). q ∷ m) both.0;
+          afterwards = refl;
+          earlier = both.1;
         }
 
--- ---- a step that puts a part
+silent_then : (after first : List Step) (s : Step) → AllByRecursion IsSilent after → IsSilent s → AllByRecursion IsSilent first → AllByRecursion IsSilent (after ++ s ∷ first)
+silent_then [] first s x here y = (here, y)
+silent_then (a ∷ after) first s x here y = (x.0, silent_then after first s x.1 here y)
+
+-- so all of them bring what that one does
+pub brings_one : (q : Part) (more before : List Step) (o : on.Outcome) → (x : PutsOne q more) → BringsSo o x.step (x.first ++ before) → AllBring o more before
+brings_one q more before o x one =
+    let first = none_of x.first before x.earlier in
+    let after = none_of x.after (x.step ∷ (x.first ++ before)) x.afterwards in
+    let all : x.after ++ (x.step ∷ (x.first ++ before)) ≡ more ++ before =
+    sym (ap (λ (m : List Step). m ++ before) x.are ∙ append_assoc x.after (x.step ∷ x.first) before) in
+    record {
+      silent = subst (AllByRecursion IsSilent) (sym x.are) (silent_then x.after x.first x.step after.silent one.silent first.silent);
+      brought = subst (HasBrought o before) all
+          (brought_then o before (x.step ∷ (x.first ++ before)) (x.after ++ (x.step ∷ (x.first ++ before)))
+          (then_brought o before (x.first ++ before) (x.step ∷ (x.first ++ before)) first.brought one.brought) after.brought);
+    }
+
+pub one_of : (more before : List Step) (q : Part) (o : on.Outcome) → told_by q ≡ Some o → parts_of more ≡ q ∷ [] → AllBring o more before
+one_of more before q o told e =
+    let x = puts_one q more e in
+    brings_one q more before o x (one_by x.step.event x.step.outcome q o (x.first ++ before) x.one told)
+
+-- a part of a later trace
+pub part_traced : (setting : Setting) (more before : List Step) → IsTrace setting (more ++ before) → IsTrace setting before
+part_traced setting [] before traced = traced
+part_traced setting (s ∷ more) before traced = part_traced setting more before traced.2
+
+-- ---- which step a part is
+
+-- the event of a part that is put, or that leaves the rest of a body
+abbrev pub event_of : Part → Option on.Event
+event_of (begins put) = Some (on.answer put.head put.size)
+event_of (continues bytes) = Some (on.chunk bytes)
+event_of ends = Some on.body_end
+event_of breaks_off = Some on.body_error
+event_of goes_on = Some on.send_continue
+event_of leaves_rest = Some on.drop_body
+event_of part = None
+
+other_event_of : (p q : Part) (e : on.Event) → p ∷ [] ≡ q ∷ [] → event_of p ≡ None → event_of q ≡ Some e → ⊥
+other_event_of p q e same none some =
+    let is : p ≡ q = cc same in
+    let no : ◌≡◌ {A = Option on.Event} None (Some e) = sym none ∙ ap event_of is ∙ some in
+    cc no
+
+same_event : (p q : Part) (a e : on.Event) → p ∷ [] ≡ q ∷ [] → event_of p ≡ Some a → event_of q ≡ Some e → a ≡ e
+same_event p q a e same first second =
+    let is : p ≡ q = cc same in
+    let both : Some a ≡ Some e = sym first ∙ ap event_of is ∙ second in
+    let here : a ≡ e = cc both in
+    here
+
+told_no_event : (o : on.Outcome) (q : Part) (e : on.Event) → parts_told o ≡ q ∷ [] → event_of q ≡ Some e → ⊥
+told_no_event (on.head h) q e one is = other_event_of (hands h) q e one refl is
+told_no_event (on.bytes bytes) q e one is = other_event_of (takes bytes) q e one refl is
+told_no_event on.body_ended q e one is = other_event_of takes_end q e one refl is
+told_no_event (on.broken_by fault) q e one is = other_event_of (request_breaks fault) q e one refl is
+told_no_event (on.closed end) q e one is = other_event_of has_closed q e one refl is
+told_no_event (on.took n) q e one is = other_event_of other_event q e one refl is
+told_no_event (on.gave bytes) q e one is = other_event_of other_event q e one refl is
+told_no_event (on.trailers lines) q e one is = never_none q one
+told_no_event (on.frame f) q e one is = never_none q one
+told_no_event on.pending q e one is = never_none q one
+told_no_event (on.fault f) q e one is = never_none q one
+told_no_event (on.protocol error) q e one is = never_none q one
+told_no_event (on.refused error) q e one is = never_none q one
+told_no_event (on.expired end) q e one is = never_none q one
+told_no_event on.abandoned q e one is = never_none q one
+told_no_event on.done q e one is = never_none q one
+
+pub is_event : (event : on.Event) (o : on.Outcome) (q : Part) (e : on.Event) → parts_by event o ≡ q ∷ [] → event_of q ≡ Some e → event ≡ e
+is_event on.next o q e one is = absurd (told_no_event o q e one is)
+is_event on.pull o q e one is = absurd (told_no_event o q e one is)
+is_event (on.answer head size) o q e one is = same_event (begins (record { head = head; size = size })) q (on.answer head size) e one refl is
+is_event (on.chunk bytes) o q e one is = same_event (continues bytes) q (on.chunk bytes) e one refl is
+is_event on.body_end o q e one is = same_event ends q on.body_end e one refl is
+is_event on.body_error o q e one is = same_event breaks_off q on.body_error e one refl is
+is_event on.drop_body o q e one is = same_event leaves_rest q on.drop_body e one refl is
+is_event on.send_continue o q e one is = same_event goes_on q on.send_continue e one refl is
+is_event (on.read bytes) o q e one is = absurd (other_event_of other_event q e one refl is)
+is_event on.eof o q e one is = absurd (other_event_of other_event q e one refl is)
+is_event (on.write n) o q e one is = absurd (other_event_of other_event q e one refl is)
+is_event (on.tick ms) o q e one is = absurd (other_event_of other_event q e one refl is)
+is_event on.drain o q e one is = absurd (other_event_of other_event q e one refl is)
+is_event (on.accept limit) o q e one is = absurd (other_event_of other_event q e one refl is)
+is_event (on.send m) o q e one is = absurd (other_event_of other_event q e one refl is)
 
 -- its outcome is the table's
-pub done_by : (setting : Setting) (event : on.Event) (o : on.Outcome) (before : List Step) → ((past : List ParsedStep) → outcome_of setting past event ≡ on.done)
-    → IsTrace setting (record { event = event; outcome = o } ∷ before) → o ≡ on.done
-done_by setting event o before table traced = traced.1.2 ∙ table traced.1.0
+table_as : (setting : Setting) (past : List ParsedStep) (a e : on.Event) → outcome_of setting past a ≡ on.done → Some a ≡ Some e → outcome_of setting past e ≡ on.done
+table_as setting past a e done is =
+    let same : a ≡ e = cc is in
+    subst (λ (b : on.Event). outcome_of setting past b ≡ on.done) same done
 
-pub answer_done : (setting : Setting) (head : AnswerHead) (size : BodySize) (o : on.Outcome) (before : List Step)
-    → IsTrace setting (record { event = on.answer head size; outcome = o } ∷ before) → o ≡ on.done
+no_event : (e : on.Event) → ◌≡◌ {A = Option on.Event} None (Some e) → ⊥
+no_event e is = cc is
+
+table_of : (setting : Setting) (past : List ParsedStep) (q : Part) (e : on.Event) → event_of q ≡ Some e → outcome_of setting past e ≡ on.done
 unfolding outcome_of
-answer_done setting head size o before traced = done_by setting (on.answer head size) o before (λ past. refl) traced
+table_of setting past (begins put) e is = table_as setting past (on.answer put.head put.size) e refl is
+table_of setting past (continues bytes) e is = table_as setting past (on.chunk bytes) e refl is
+table_of setting past ends e is = table_as setting past on.body_end e refl is
+table_of setting past breaks_off e is = table_as setting past on.body_error e refl is
+table_of setting past goes_on e is = table_as setting past on.send_continue e refl is
+table_of setting past leaves_rest e is = table_as setting past on.drop_body e refl is
+table_of setting past (hands h) e is = absurd (no_event e is)
+table_of setting past (takes bytes) e is = absurd (no_event e is)
+table_of setting past takes_end e is = absurd (no_event e is)
+table_of setting past (request_breaks fault) e is = absurd (no_event e is)
+table_of setting past has_closed e is = absurd (no_event e is)
+table_of setting past other_event e is = absurd (no_event e is)
 
-pub chunk_done : (setting : Setting) (bytes : List ℕ) (o : on.Outcome) (before : List Step)
-    → IsTrace setting (record { event = on.chunk bytes; outcome = o } ∷ before) → o ≡ on.done
-unfolding outcome_of
-chunk_done setting bytes o before traced = done_by setting (on.chunk bytes) o before (λ past. refl) traced
-
-pub body_end_done : (setting : Setting) (o : on.Outcome) (before : List Step) → IsTrace setting (record { event = on.body_end; outcome = o } ∷ before) → o ≡ on.done
-unfolding outcome_of
-body_end_done setting o before traced = done_by setting on.body_end o before (λ past. refl) traced
-
-pub body_error_done : (setting : Setting) (o : on.Outcome) (before : List Step) → IsTrace setting (record { event = on.body_error; outcome = o } ∷ before) → o ≡ on.done
-unfolding outcome_of
-body_error_done setting o before traced = done_by setting on.body_error o before (λ past. refl) traced
-
-pub continue_done : (setting : Setting) (o : on.Outcome) (before : List Step) → IsTrace setting (record { event = on.send_continue; outcome = o } ∷ before) → o ≡ on.done
-unfolding outcome_of
-continue_done setting o before traced = done_by setting on.send_continue o before (λ past. refl) traced
-
-pub drop_done : (setting : Setting) (o : on.Outcome) (before : List Step) → IsTrace setting (record { event = on.drop_body; outcome = o } ∷ before) → o ≡ on.done
-unfolding outcome_of
-drop_done setting o before traced = done_by setting on.drop_body o before (λ past. refl) traced
-
-pub put_brings : (event : on.Event) (before : List Step) → sums.step_taken event on.done ≡ [] → sums.tick_of event ≡ None → sums.is_eof event ≡ false
-    → HasBrought on.done before (record { event = event; outcome = on.done } ∷ before)
-put_brings event before took tick going = brought event on.done before took refl tick going
+-- the step of a part that is put
+pub step_of : (setting : Setting) (q : Part) (e : on.Event) (more before : List Step) → event_of q ≡ Some e → (x : PutsOne q more)
+    → IsTrace setting (x.step ∷ (x.first ++ before)) → x.step ≡ record { event = e; outcome = on.done }
+step_of setting q e more before is x traced =
+    let event : x.step.event ≡ e = is_event x.step.event x.step.outcome q e x.one is in
+    let out : x.step.outcome ≡ on.done =
+    traced.1.2 ∙ ap (outcome_of setting traced.1.0) event ∙ table_of setting traced.1.0 q e is in
+    ap (λ (a : on.Event). record { event = a; outcome = x.step.outcome }) event ∙ ap (λ (o : on.Outcome). record { event = e; outcome = o }) out
 
 -- the rest of a request's body is left
-pub drop_brings : (setting : Setting) (o : on.Outcome) (before : List Step) → IsTrace setting (record { event = on.drop_body; outcome = o } ∷ before)
-    → BringsSo on.pending (record { event = on.drop_body; outcome = o }) before
-drop_brings setting o before traced =
-    subst (λ (a : on.Outcome). BringsSo on.pending (record { event = on.drop_body; outcome = a }) before) (sym (drop_done setting o before traced))
-    (nothing_told on.drop_body on.done before refl refl refl refl (record { event = refl; headless = refl }) done_brings_nothing)
+pub drop_brings : (before : List Step) → BringsSo on.pending (record { event = on.drop_body; outcome = on.done }) before
+drop_brings before = nothing_told on.drop_body on.done before refl refl refl refl (record { event = refl; headless = refl }) done_brings_nothing

@@ -5,6 +5,7 @@ use Rattle.std.specs.List.{AllByRecursion}
 use Rattle.model_h1.specs.Setting.{Setting}
 use Rattle.model_h1.specs.Answer.{AnswerHead, BodySize}
 use Rattle.model_h1.specs.Event as on
+use Rattle.model_h1.specs.Handed.{Item}
 use Rattle.model_h1.specs.Sums.{Step, is_drain, is_body_error, is_draining, now}
 use Rattle.model_h1.specs.Laws.Exchanges.{Reply, no_reply, answer_given, session, newly_given, with_end, exchanges, changed_by}
 use Rattle.model_h1.specs.Laws.Exchanges as replies
@@ -35,7 +36,7 @@ use Rattle.model_proxy.proofs.EventsForward.{Tells}
 use Rattle.model_proxy.proofs.TurnsForward.{tells_quiet, tells_closed}
 use Rattle.model_proxy.proofs.RepliesForward.{put_exchanges, tells_cut}
 use Rattle.model_proxy.proofs.PartsForward.{server_reply, told_put, told_now, puts_as, tells_answer, tells_continue}
-use Rattle.model_proxy.proofs.PiecesPut.{IsPutOf}
+use Rattle.model_proxy.proofs.PiecesPut.{has_end, IsPutOf}
 use Rattle.model_proxy.proofs.LastSent.{LastOn, is_on_it, last_each, of_newest, to_newest, of_older, to_older, now_filled}
 use Rattle.model_proxy.proofs.OnLinks.{Stage, before_head, over, answering, head_at, bytes_at, end_at, read_up}
 use Rattle.model_proxy.proofs.LinkSteps.{one_trace, OnLink, link_step, UnusedOn, newest_server, link_passed}
@@ -64,14 +65,15 @@ module _ (ours : Setting) (history : List ProxyStep) (l : Link) (n : ℕ) (x : E
       (λ c d ran allowed did here.
       bytes_at ours l.happened e c d ran allowed did refl refl (read_out z.asked.before).answers x.pulled.head.method a bytes r refl here)
 
-  -- its end
-  pub end_link : (a : Answer) → OnLink ours history l n (answering a) x r
-      → OnLink ours history (record l { happened = record { event = asked.pull; outcome = asked.body_ended } ∷ l.happened }) n (answering a) x (with_end r)
-  end_link a z =
+  -- its end, which is put or not
+  pub end_link : (a : Answer) (q : Reply) → ((items : List Item) → has_end items ≡ true → IsPutOf x.pulled.head.method a items r → IsPutOf x.pulled.head.method a items q)
+      → OnLink ours history l n (answering a) x r
+      → OnLink ours history (record l { happened = record { event = asked.pull; outcome = asked.body_ended } ∷ l.happened }) n (answering a) x q
+  end_link a q so z =
       let e : Happened = record { event = asked.pull; outcome = asked.body_ended } in
-      link_step ours history e l (record l { happened = e ∷ l.happened }) n (answering a) (answering a) x x r (with_end r) refl refl refl refl z
+      link_step ours history e l (record l { happened = e ∷ l.happened }) n (answering a) (answering a) x x r q refl refl refl refl z
       (λ c d ran allowed did here.
-      end_at ours l.happened e c d ran allowed did refl refl (read_out z.asked.before).answers x.pulled.head.method a r refl here)
+      end_at ours l.happened e c d ran allowed did refl refl (read_out z.asked.before).answers x.pulled.head.method a r q so refl here)
 
   pub read_up_link : (a : Answer) (c : ClientKept) → IsClientTrace ours l.happened c → is_free c ≡ true → OnLink ours history l n (answering a) x r
       → OnLink ours history l n (answering a) x (with_end r)
