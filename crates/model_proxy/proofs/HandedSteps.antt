@@ -102,6 +102,7 @@ pub record HandsOne (h : Handed) (more before : List Happened) (k : ClientKept) 
   pub new : ClientKept
   pub ran : IsClientTrace setting (first ++ before) old
   pub did : IsClientStep setting old step.event step.outcome new
+  pub behind : IsClientTrace setting (step ∷ (first ++ before)) new
 
 never_one : (h : Handed) → [] ≡ h ∷ [] → ⊥
 never_one h e = cc e
@@ -130,6 +131,7 @@ hands_one setting h (s ∷ more) before k (b, ran, allowed, step) e =
           new = x.new;
           ran = x.ran;
           did = x.did;
+          behind = x.behind;
         }
     by_handed (g ∷ l) is all further =
         let whole : g ∷ (l ++ handed_of more) ≡ h ∷ [] = all in
@@ -148,6 +150,7 @@ hands_one setting h (s ∷ more) before k (b, ran, allowed, step) e =
           new = k;
           ran = ran;
           did = step;
+          behind = (b, ran, allowed, step);
         }
 
 -- ---- which step that is

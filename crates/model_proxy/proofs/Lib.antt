@@ -49,6 +49,7 @@ pub mod HandedSteps
 pub mod Served
 pub mod ServedTurns
 pub mod ServedReplies
+pub mod ServedFailures
 pub mod GivenRequests
 pub mod Places
 pub mod StepByStep

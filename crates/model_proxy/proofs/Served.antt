@@ -36,6 +36,11 @@ use Rattle.model_proxy.proofs.ServesTurns.{serves_silent, serves_quiet, serves_c
 abbrev pub IsServed : Edge → Setting → Setting → ForwarderKept → Stage → List ProxyStep → Type 0
 IsServed edge theirs ours kept stage history = (all : Happenings) × (xs : List Exchange) × Serves edge theirs ours kept stage history all xs
 
+-- with what else is so of the requests
+abbrev pub ServedAs : Edge → Setting → Setting → (List Exchange → Type 0) → ForwarderKept → Stage → List ProxyStep → Type 0
+ServedAs edge theirs ours P kept stage history =
+    (all : Happenings) × (xs : List Exchange) × P xs × Serves edge theirs ours kept stage history all xs
+
 -- more happened on the client's connection, by parts that are so
 abbrev pub ClientPuts : Setting → (List Part → Type 0) → Kept → Kept → Type 0
 ClientPuts setting Are a b = (trace : List Step) → StandsFor setting a trace → (more : List Step) × StandsFor setting b (more ++ trace) × Are (parts_of more)
@@ -153,22 +158,24 @@ puts_step setting q e b before more event stands parts =
 
 module _ (edge : Edge) (theirs ours : Setting) (held : theirs.hold_size ≡ ours.hold_size) (s : ProxyStep) (history : List ProxyStep) (stage : Stage) where
   -- nothing is put
-  pub served_silent : (kept : ForwarderKept) (b : Kept) → ClientPuts theirs (λ ps. ps ≡ []) kept.client b → IsServed edge theirs ours kept stage (s ∷ history)
-      → IsServed edge theirs ours (record kept { client = b }) stage (s ∷ history)
-  served_silent kept b puts (all, xs, t) =
+  pub silent_as : (P : List Exchange → Type 0) (kept : ForwarderKept) (b : Kept) → ClientPuts theirs (λ ps. ps ≡ []) kept.client b
+      → ServedAs edge theirs ours P kept stage (s ∷ history) → ServedAs edge theirs ours P (record kept { client = b }) stage (s ∷ history)
+  silent_as P kept b puts (all, xs, p, t) =
       let did = puts all.client t.tells.carries.stands in
       let none = none_of did.0 all.client did.2 in (
         record all { client = did.0 ++ all.client },
         xs,
+        p,
         serves_silent edge theirs ours held s history stage on.pending kept b all did.0 xs pending_brings_nothing none.silent did.1 none.brought t,
       )
 
   -- the rest of the request's body is left, or it isn't
-  pub served_left : (kept : ForwarderKept) (b : Kept) → (b ≡ kept.client) ⊎ ClientPuts theirs (λ ps. ps ≡ leaves_rest ∷ []) kept.client b
-      → IsServed edge theirs ours kept stage (s ∷ history) → IsServed edge theirs ours (record kept { client = b }) stage (s ∷ history)
-  served_left kept b (inl same) x =
-      subst (λ (c : Kept). IsServed edge theirs ours (record kept { client = c }) stage (s ∷ history)) (sym same) x
-  served_left kept b (inr puts) (all, xs, t) =
+  pub left_as : (P : List Exchange → Type 0) (kept : ForwarderKept) (b : Kept)
+      → (b ≡ kept.client) ⊎ ClientPuts theirs (λ ps. ps ≡ leaves_rest ∷ []) kept.client b → ServedAs edge theirs ours P kept stage (s ∷ history)
+      → ServedAs edge theirs ours P (record kept { client = b }) stage (s ∷ history)
+  left_as P kept b (inl same) x =
+      subst (λ (c : Kept). ServedAs edge theirs ours P (record kept { client = c }) stage (s ∷ history)) (sym same) x
+  left_as P kept b (inr puts) (all, xs, p, t) =
       let did = puts all.client t.tells.carries.stands in
       let x = puts_one leaves_rest did.0 did.2 in
       let whole : did.0 ++ all.client ≡ x.after ++ (x.step ∷ (x.first ++ all.client)) =
@@ -180,8 +187,17 @@ module _ (edge : Edge) (theirs ours : Setting) (held : theirs.hold_size ≡ ours
       (subst (λ (e : Step). BringsSo on.pending e (x.first ++ all.client)) (sym is) (drop_brings (x.first ++ all.client))) in (
         record all { client = did.0 ++ all.client },
         xs,
+        p,
         serves_silent edge theirs ours held s history stage on.pending kept b all did.0 xs pending_brings_nothing brings.silent did.1 brings.brought t,
       )
+
+  pub served_silent : (kept : ForwarderKept) (b : Kept) → ClientPuts theirs (λ ps. ps ≡ []) kept.client b → IsServed edge theirs ours kept stage (s ∷ history)
+      → IsServed edge theirs ours (record kept { client = b }) stage (s ∷ history)
+  served_silent kept b puts (all, xs, t) = let y = silent_as (λ ys. ⊤) kept b puts (all, xs, tt, t) in (y.0, y.1, y.3)
+
+  pub served_left : (kept : ForwarderKept) (b : Kept) → (b ≡ kept.client) ⊎ ClientPuts theirs (λ ps. ps ≡ leaves_rest ∷ []) kept.client b
+      → IsServed edge theirs ours kept stage (s ∷ history) → IsServed edge theirs ours (record kept { client = b }) stage (s ∷ history)
+  served_left kept b leaves (all, xs, t) = let y = left_as (λ ys. ⊤) kept b leaves (all, xs, tt, t) in (y.0, y.1, y.3)
 
   -- the server connection hands out nothing
   pub served_quiet : (kept : ForwarderKept) (c d : ClientKept) → ServerHands ours [] c d → IsServed edge theirs ours (record kept { server = Some c }) stage (s ∷ history)

@@ -93,7 +93,7 @@ module _ (edge : Edge) (theirs ours : Setting) where
   keeps_closed k = λ history all x. (all, closed_at k history all x)
 
   -- it did something of its own: nothing was written towards it
-  same_server : (l : Link) (new : List Happened) → IsQuiet l.happened new → server_of (record { happened = new; sent = l.sent }) ≡ server_of l
+  pub same_server : (l : Link) (new : List Happened) → IsQuiet l.happened new → server_of (record { happened = new; sent = l.sent }) ≡ server_of l
   same_server l new q =
       ap (λ (came : List ℕ). record { came = came; ended = (server_of (record { happened = new; sent = l.sent })).ended; given = written new }) q.taken
       ∙ ap (λ (given : List ℕ). record { came = taken l.happened; ended = (server_of (record { happened = new; sent = l.sent })).ended; given = given }) q.written
