@@ -39,6 +39,7 @@ pub mod OnLinks
 pub mod LinkSteps
 pub mod OwnSteps
 pub mod PartSteps
+pub mod PutSteps
 pub mod BadAnswers
 pub mod WholeBodies
 pub mod Serves

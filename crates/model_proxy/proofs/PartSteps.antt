@@ -1,17 +1,15 @@
 -- What the steps of a client's connection bring, by the parts of replies and requests that they are.
-use Rattle.std.proofs.Common.{◌≡◌, ℕ, Bool, true, false, List, [], ◌∷◌, ◌++◌, Option, Some, None, refl, sym, ap, ◌∙◌, subst, append_assoc}
+use Rattle.std.proofs.Common.{◌≡◌, ◌⊎◌, ℕ, Bool, true, false, List, [], ◌∷◌, ◌++◌, Option, Some, None, refl, sym, ap, ◌∙◌, subst, append_assoc, inl, inr}
 use Rattle.std.specs.List.{AllByRecursion}
 use Rattle.model_h1.specs.Setting.{Setting}
 use Rattle.model_h1.specs.Event as on
-use Rattle.model_h1.specs.OutcomeTable.{outcome_of}
-use Rattle.model_h1.specs.Past.{ParsedStep}
 use Rattle.model_h1.specs.Sums as sums
 use Rattle.model_h1.specs.Sums.{Step}
 use Rattle.model_h1.specs.Trace.{IsTrace}
 use Rattle.model_proxy.specs.Exchange.{pulled}
 use Rattle.model_proxy.specs.Moves.{after_outcome, HasBrought}
 use Rattle.model_proxy.specs.Parts.{Part, begins, continues, ends, breaks_off, goes_on, hands, takes, takes_end, request_breaks, leaves_rest, has_closed, other_event, parts_told, parts_by, parts_of}
-use Rattle.model_proxy.proofs.Quiet.{brought, BringsNothing, nothing_more, done_brings_nothing, pending_brings_nothing}
+use Rattle.model_proxy.proofs.Quiet.{brought, BringsNothing, nothing_more, pending_brings_nothing}
 use Rattle.model_proxy.proofs.SilentSteps.{IsSilent}
 
 -- ---- steps one after another
@@ -20,7 +18,7 @@ use Rattle.model_proxy.proofs.SilentSteps.{IsSilent}
 abbrev pub BroughtNone : List Step → List Step → Type 0
 BroughtNone old new = HasBrought on.pending old new
 
-same_pulled : (old new : List Step) → BroughtNone old new → pulled new ≡ pulled old
+pub same_pulled : (old new : List Step) → BroughtNone old new → pulled new ≡ pulled old
 same_pulled old new x = x.pulled ∙ nothing_more on.pending pending_brings_nothing (pulled old)
 
 pub none_at_all : (trace : List Step) → BroughtNone trace trace
@@ -65,7 +63,7 @@ pub record BringsSo (o : on.Outcome) (s : Step) (before : List Step) : Type 0 wh
 some_part : (part : Part) → part ∷ [] ≡ [] → ⊥
 some_part part e = cc e
 
-nothing_told : (event : on.Event) (o : on.Outcome) (before : List Step) → sums.step_taken event o ≡ [] → sums.step_written o ≡ [] → sums.tick_of event ≡ None
+pub nothing_told : (event : on.Event) (o : on.Outcome) (before : List Step) → sums.step_taken event o ≡ [] → sums.step_written o ≡ [] → sums.tick_of event ≡ None
     → sums.is_eof event ≡ false → IsSilent (record { event = event; outcome = o }) → BringsNothing o
     → BringsSo on.pending (record { event = event; outcome = o }) before
 nothing_told event o before took gave tick going silent none =
@@ -118,33 +116,89 @@ other_part p q o e none some =
     let no : ◌≡◌ {A = Option on.Outcome} None (Some o) = sym none ∙ ap told_by same ∙ some in
     cc no
 
-it_is : (p q : Part) (a o : on.Outcome) (before : List Step) → p ∷ [] ≡ q ∷ [] → told_by p ≡ Some a → told_by q ≡ Some o → OnBoth a a before → OnBoth o a before
-it_is p q a o before e first second x =
+same_told : (p q : Part) (a o : on.Outcome) → p ∷ [] ≡ q ∷ [] → told_by p ≡ Some a → told_by q ≡ Some o → a ≡ o
+same_told p q a o e first second =
     let same : p ≡ q = cc e in
     let both : Some a ≡ Some o = sym first ∙ ap told_by same ∙ second in
     let is : a ≡ o = cc both in
-    subst (λ (b : on.Outcome). OnBoth b a before) is x
+    is
 
-never_none : (q : Part) → [] ≡ q ∷ [] → ⊥
+pub never_none : (q : Part) → [] ≡ q ∷ [] → ⊥
 never_none q e = cc e
 
-told_one : (a : on.Outcome) (q : Part) (o : on.Outcome) (before : List Step) → parts_told a ≡ q ∷ [] → told_by q ≡ Some o → OnBoth o a before
-told_one (on.bytes bytes) q o before e told = it_is (takes bytes) q (on.bytes bytes) o before e refl told (both_bring (on.bytes bytes) before refl refl)
-told_one on.body_ended q o before e told = it_is takes_end q on.body_ended o before e refl told (both_bring on.body_ended before refl refl)
-told_one (on.broken_by fault) q o before e told = it_is (request_breaks fault) q (on.broken_by fault) o before e refl told (both_bring (on.broken_by fault) before refl refl)
-told_one (on.head h) q o before e told = absurd (other_part (hands h) q o e refl told)
-told_one (on.closed end) q o before e told = absurd (other_part has_closed q o e refl told)
-told_one (on.took n) q o before e told = absurd (other_part other_event q o e refl told)
-told_one (on.gave bytes) q o before e told = absurd (other_part other_event q o e refl told)
-told_one (on.trailers lines) q o before e told = absurd (never_none q e)
-told_one (on.frame f) q o before e told = absurd (never_none q e)
-told_one on.pending q o before e told = absurd (never_none q e)
-told_one (on.fault f) q o before e told = absurd (never_none q e)
-told_one (on.protocol error) q o before e told = absurd (never_none q e)
-told_one (on.refused error) q o before e told = absurd (never_none q e)
-told_one (on.expired end) q o before e told = absurd (never_none q e)
-told_one on.abandoned q o before e told = absurd (never_none q e)
-told_one on.done q o before e told = absurd (never_none q e)
+never_some : (q : Part) (l : List Part) → [] ≡ q ∷ l → ⊥
+never_some q l e = cc e
+
+alone : (p q : Part) (l : List Part) → p ∷ [] ≡ q ∷ l → l ≡ []
+alone p q l e =
+    let whole : p ∷ [] ≡ q ∷ l = e in
+    let none : [] ≡ l = cc in
+    sym none
+
+told_so : (a : on.Outcome) (q : Part) (o : on.Outcome) → parts_told a ≡ q ∷ [] → told_by q ≡ Some o → a ≡ o
+told_so (on.bytes bytes) q o e told = same_told (takes bytes) q (on.bytes bytes) o e refl told
+told_so on.body_ended q o e told = same_told takes_end q on.body_ended o e refl told
+told_so (on.broken_by fault) q o e told = same_told (request_breaks fault) q (on.broken_by fault) o e refl told
+told_so (on.head h) q o e told = absurd (other_part (hands h) q o e refl told)
+told_so (on.closed end) q o e told = absurd (other_part has_closed q o e refl told)
+told_so (on.took n) q o e told = absurd (other_part other_event q o e refl told)
+told_so (on.gave bytes) q o e told = absurd (other_part other_event q o e refl told)
+told_so (on.trailers lines) q o e told = absurd (never_none q e)
+told_so (on.frame f) q o e told = absurd (never_none q e)
+told_so on.pending q o e told = absurd (never_none q e)
+told_so (on.fault f) q o e told = absurd (never_none q e)
+told_so (on.protocol error) q o e told = absurd (never_none q e)
+told_so (on.refused error) q o e told = absurd (never_none q e)
+told_so (on.expired end) q o e told = absurd (never_none q e)
+told_so on.abandoned q o e told = absurd (never_none q e)
+told_so on.done q o e told = absurd (never_none q e)
+
+-- which step it was
+record AsksFor (event : on.Event) (a o : on.Outcome) : Type 0 where
+  which : (event ≡ on.next) ⊎ (event ≡ on.pull)
+  out : a ≡ o
+
+asks_for : (event : on.Event) (a : on.Outcome) (q : Part) (o : on.Outcome) → parts_by event a ≡ q ∷ [] → told_by q ≡ Some o → AsksFor event a o
+asks_for on.next a q o e told = record { which = inl refl; out = told_so a q o e told }
+asks_for on.pull a q o e told = record { which = inr refl; out = told_so a q o e told }
+asks_for (on.answer head size) a q o e told = absurd (other_part (begins (record { head = head; size = size })) q o e refl told)
+asks_for (on.chunk bytes) a q o e told = absurd (other_part (continues bytes) q o e refl told)
+asks_for on.body_end a q o e told = absurd (other_part ends q o e refl told)
+asks_for on.body_error a q o e told = absurd (other_part breaks_off q o e refl told)
+asks_for on.drop_body a q o e told = absurd (other_part leaves_rest q o e refl told)
+asks_for on.send_continue a q o e told = absurd (other_part goes_on q o e refl told)
+asks_for (on.read bytes) a q o e told = absurd (other_part other_event q o e refl told)
+asks_for on.eof a q o e told = absurd (other_part other_event q o e refl told)
+asks_for (on.write n) a q o e told = absurd (other_part other_event q o e refl told)
+asks_for (on.tick ms) a q o e told = absurd (other_part other_event q o e refl told)
+asks_for on.drain a q o e told = absurd (other_part other_event q o e refl told)
+asks_for (on.accept limit) a q o e told = absurd (other_part other_event q o e refl told)
+asks_for (on.send m) a q o e told = absurd (other_part other_event q o e refl told)
+
+pub out_of : (event : on.Event) (a : on.Outcome) (q : Part) (o : on.Outcome) → parts_by event a ≡ q ∷ [] → told_by q ≡ Some o → a ≡ o
+out_of event a q o e told = (asks_for event a q o e told).out
+
+no_outcome : (o : on.Outcome) → ◌≡◌ {A = Option on.Outcome} None (Some o) → ⊥
+no_outcome o is = cc is
+
+bring_as : (a o : on.Outcome) (before : List Step) → sums.step_written a ≡ [] → sums.head_of a ≡ None → Some a ≡ Some o → OnBoth o o before
+bring_as a o before gave headless is =
+    let same : a ≡ o = cc is in
+    subst (λ (b : on.Outcome). OnBoth b b before) same (both_bring a before gave headless)
+
+bring_by : (q : Part) (o : on.Outcome) (before : List Step) → told_by q ≡ Some o → OnBoth o o before
+bring_by (takes bytes) o before is = bring_as (on.bytes bytes) o before refl refl is
+bring_by takes_end o before is = bring_as on.body_ended o before refl refl is
+bring_by (request_breaks fault) o before is = bring_as (on.broken_by fault) o before refl refl is
+bring_by (begins put) o before is = absurd (no_outcome o is)
+bring_by (continues bytes) o before is = absurd (no_outcome o is)
+bring_by ends o before is = absurd (no_outcome o is)
+bring_by breaks_off o before is = absurd (no_outcome o is)
+bring_by goes_on o before is = absurd (no_outcome o is)
+bring_by (hands h) o before is = absurd (no_outcome o is)
+bring_by leaves_rest o before is = absurd (no_outcome o is)
+bring_by has_closed o before is = absurd (no_outcome o is)
+bring_by other_event o before is = absurd (no_outcome o is)
 
 -- no part
 pub none_by : (event : on.Event) (o : on.Outcome) (before : List Step) → parts_by event o ≡ [] → BringsSo on.pending (record { event = event; outcome = o }) before
@@ -167,21 +221,14 @@ none_by (on.send m) o before e = absurd (some_part _ e)
 -- bytes of a body, its end, or its fault
 pub one_by : (event : on.Event) (a : on.Outcome) (q : Part) (o : on.Outcome) (before : List Step) → parts_by event a ≡ q ∷ [] → told_by q ≡ Some o
     → BringsSo o (record { event = event; outcome = a }) before
-one_by on.next a q o before e told = (told_one a q o before e told).0
-one_by on.pull a q o before e told = (told_one a q o before e told).1
-one_by (on.answer head size) a q o before e told = absurd (other_part (begins (record { head = head; size = size })) q o e refl told)
-one_by (on.chunk bytes) a q o before e told = absurd (other_part (continues bytes) q o e refl told)
-one_by on.body_end a q o before e told = absurd (other_part ends q o e refl told)
-one_by on.body_error a q o before e told = absurd (other_part breaks_off q o e refl told)
-one_by on.drop_body a q o before e told = absurd (other_part leaves_rest q o e refl told)
-one_by on.send_continue a q o before e told = absurd (other_part goes_on q o e refl told)
-one_by (on.read bytes) a q o before e told = absurd (other_part other_event q o e refl told)
-one_by on.eof a q o before e told = absurd (other_part other_event q o e refl told)
-one_by (on.write n) a q o before e told = absurd (other_part other_event q o e refl told)
-one_by (on.tick ms) a q o before e told = absurd (other_part other_event q o e refl told)
-one_by on.drain a q o before e told = absurd (other_part other_event q o e refl told)
-one_by (on.accept limit) a q o before e told = absurd (other_part other_event q o e refl told)
-one_by (on.send m) a q o before e told = absurd (other_part other_event q o e refl told)
+one_by event a q o before e told =
+    let x = asks_for event a q o e told in
+    let both = bring_by q o before told in
+    subst (λ (b : on.Outcome). BringsSo o (record { event = event; outcome = b }) before) (sym x.out) (by_event event x.which both)
+  where
+    by_event : (e : on.Event) → (e ≡ on.next) ⊎ (e ≡ on.pull) → OnBoth o o before → BringsSo o (record { event = e; outcome = o }) before
+    by_event e (inl is) both = subst (λ (f : on.Event). BringsSo o (record { event = f; outcome = o }) before) (sym is) both.0
+    by_event e (inr is) both = subst (λ (f : on.Event). BringsSo o (record { event = f; outcome = o }) before) (sym is) both.1
 
 -- ---- all steps
 
@@ -206,22 +253,59 @@ none_of (s ∷ more) before e =
       brought = then_brought on.pending before (more ++ before) (s ∷ (more ++ before)) earlier.brought one.brought;
     }
 
--- among them is one that is this part; the others are none
-pub record PutsOne (q : Part) (more : List Step) : Type 0 where
+-- a step is one part at most
+told_single : (o : on.Outcome) (p : Part) (l : List Part) → parts_told o ≡ p ∷ l → l ≡ []
+told_single (on.head h) p l e = alone (hands h) p l e
+told_single (on.bytes bytes) p l e = alone (takes bytes) p l e
+told_single on.body_ended p l e = alone takes_end p l e
+told_single (on.broken_by fault) p l e = alone (request_breaks fault) p l e
+told_single (on.closed end) p l e = alone has_closed p l e
+told_single (on.took n) p l e = alone other_event p l e
+told_single (on.gave bytes) p l e = alone other_event p l e
+told_single (on.trailers lines) p l e = absurd (never_some p l e)
+told_single (on.frame f) p l e = absurd (never_some p l e)
+told_single on.pending p l e = absurd (never_some p l e)
+told_single (on.fault f) p l e = absurd (never_some p l e)
+told_single (on.protocol error) p l e = absurd (never_some p l e)
+told_single (on.refused error) p l e = absurd (never_some p l e)
+told_single (on.expired end) p l e = absurd (never_some p l e)
+told_single on.abandoned p l e = absurd (never_some p l e)
+told_single on.done p l e = absurd (never_some p l e)
+
+single : (event : on.Event) (o : on.Outcome) (p : Part) (l : List Part) → parts_by event o ≡ p ∷ l → l ≡ []
+single on.next o p l e = told_single o p l e
+single on.pull o p l e = told_single o p l e
+single (on.answer head size) o p l e = alone (begins (record { head = head; size = size })) p l e
+single (on.chunk bytes) o p l e = alone (continues bytes) p l e
+single on.body_end o p l e = alone ends p l e
+single on.body_error o p l e = alone breaks_off p l e
+single on.drop_body o p l e = alone leaves_rest p l e
+single on.send_continue o p l e = alone goes_on p l e
+single (on.read bytes) o p l e = alone other_event p l e
+single on.eof o p l e = alone other_event p l e
+single (on.write n) o p l e = alone other_event p l e
+single (on.tick ms) o p l e = alone other_event p l e
+single on.drain o p l e = alone other_event p l e
+single (on.accept limit) o p l e = alone other_event p l e
+single (on.send m) o p l e = alone other_event p l e
+
+-- among them is one that is this part; those before it are these, and those behind it none
+pub record PutsOne (q : Part) (rest : List Part) (more : List Step) : Type 0 where
   pub after : List Step
   pub step : Step
   pub first : List Step
   pub are : more ≡ after ++ step ∷ first
   pub one : parts_by step.event step.outcome ≡ q ∷ []
   pub afterwards : parts_of after ≡ []
-  pub earlier : parts_of first ≡ []
+  pub earlier : parts_of first ≡ rest
 
-pub puts_one : (q : Part) (more : List Step) → parts_of more ≡ q ∷ [] → PutsOne q more
+pub puts_one : (q : Part) (rest : List Part) (more : List Step) → parts_of more ≡ q ∷ rest → PutsOne q rest more
 unfolding parts_of
-puts_one q [] e = absurd (never_none q e)
-puts_one q (s ∷ more) e = by_parts (parts_by s.event s.outcome) refl e (λ rest. puts_one q more rest)
+puts_one q rest [] e = absurd (never_some q rest e)
+puts_one q rest (s ∷ more) e = by_parts (parts_by s.event s.outcome) refl e (λ all. puts_one q rest more all)
   where
-    by_parts : (l : List Part) → parts_by s.event s.outcome ≡ l → l ++ parts_of more ≡ q ∷ [] → (parts_of more ≡ q ∷ [] → PutsOne q more) → PutsOne q (s ∷ more)
+    by_parts : (l : List Part) → parts_by s.event s.outcome ≡ l → l ++ parts_of more ≡ q ∷ rest → (parts_of more ≡ q ∷ rest → PutsOne q rest more)
+        → PutsOne q rest (s ∷ more)
     by_parts [] is all further =
         let x = further all in
         record {
@@ -234,18 +318,18 @@ puts_one q (s ∷ more) e = by_parts (parts_by s.event s.outcome) refl e (λ res
           earlier = x.earlier;
         }
     by_parts (p ∷ l) is all further =
-        let whole : p ∷ (l ++ parts_of more) ≡ q ∷ [] = all in
+        let none = single s.event s.outcome p l is in
+        let whole : p ∷ (l ++ parts_of more) ≡ q ∷ rest = all in
         let same : p ≡ q = cc in
-        let none : l ++ parts_of more ≡ [] = cc in
-        let both = back_empty l (parts_of more) none in
+        let others : l ++ parts_of more ≡ rest = cc in
         record {
           after = [];
           step = s;
           first = more;
           are = refl;
-          one = is ∙ ap (λ (r : Part). r ∷ l) same ∙ ap (λ (m : List Part). q ∷ m) both.0;
+          one = is ∙ ap (λ (r : Part). r ∷ l) same ∙ ap (λ (m : List Part). q ∷ m) none;
           afterwards = refl;
-          earlier = both.1;
+          earlier = sym (ap (λ (m : List Part). m ++ parts_of more) none) ∙ others;
         }
 
 silent_then : (after first : List Step) (s : Step) → AllByRecursion IsSilent after → IsSilent s → AllByRecursion IsSilent first → AllByRecursion IsSilent (after ++ s ∷ first)
@@ -253,7 +337,7 @@ silent_then [] first s x here y = (here, y)
 silent_then (a ∷ after) first s x here y = (x.0, silent_then after first s x.1 here y)
 
 -- so all of them bring what that one does
-pub brings_one : (q : Part) (more before : List Step) (o : on.Outcome) → (x : PutsOne q more) → BringsSo o x.step (x.first ++ before) → AllBring o more before
+pub brings_one : (q : Part) (more before : List Step) (o : on.Outcome) → (x : PutsOne q [] more) → BringsSo o x.step (x.first ++ before) → AllBring o more before
 brings_one q more before o x one =
     let first = none_of x.first before x.earlier in
     let after = none_of x.after (x.step ∷ (x.first ++ before)) x.afterwards in
@@ -268,107 +352,10 @@ brings_one q more before o x one =
 
 pub one_of : (more before : List Step) (q : Part) (o : on.Outcome) → told_by q ≡ Some o → parts_of more ≡ q ∷ [] → AllBring o more before
 one_of more before q o told e =
-    let x = puts_one q more e in
+    let x = puts_one q [] more e in
     brings_one q more before o x (one_by x.step.event x.step.outcome q o (x.first ++ before) x.one told)
 
 -- a part of a later trace
 pub part_traced : (setting : Setting) (more before : List Step) → IsTrace setting (more ++ before) → IsTrace setting before
 part_traced setting [] before traced = traced
 part_traced setting (s ∷ more) before traced = part_traced setting more before traced.2
-
--- ---- which step a part is
-
--- the event of a part that is put, or that leaves the rest of a body
-abbrev pub event_of : Part → Option on.Event
-event_of (begins put) = Some (on.answer put.head put.size)
-event_of (continues bytes) = Some (on.chunk bytes)
-event_of ends = Some on.body_end
-event_of breaks_off = Some on.body_error
-event_of goes_on = Some on.send_continue
-event_of leaves_rest = Some on.drop_body
-event_of part = None
-
-other_event_of : (p q : Part) (e : on.Event) → p ∷ [] ≡ q ∷ [] → event_of p ≡ None → event_of q ≡ Some e → ⊥
-other_event_of p q e same none some =
-    let is : p ≡ q = cc same in
-    let no : ◌≡◌ {A = Option on.Event} None (Some e) = sym none ∙ ap event_of is ∙ some in
-    cc no
-
-same_event : (p q : Part) (a e : on.Event) → p ∷ [] ≡ q ∷ [] → event_of p ≡ Some a → event_of q ≡ Some e → a ≡ e
-same_event p q a e same first second =
-    let is : p ≡ q = cc same in
-    let both : Some a ≡ Some e = sym first ∙ ap event_of is ∙ second in
-    let here : a ≡ e = cc both in
-    here
-
-told_no_event : (o : on.Outcome) (q : Part) (e : on.Event) → parts_told o ≡ q ∷ [] → event_of q ≡ Some e → ⊥
-told_no_event (on.head h) q e one is = other_event_of (hands h) q e one refl is
-told_no_event (on.bytes bytes) q e one is = other_event_of (takes bytes) q e one refl is
-told_no_event on.body_ended q e one is = other_event_of takes_end q e one refl is
-told_no_event (on.broken_by fault) q e one is = other_event_of (request_breaks fault) q e one refl is
-told_no_event (on.closed end) q e one is = other_event_of has_closed q e one refl is
-told_no_event (on.took n) q e one is = other_event_of other_event q e one refl is
-told_no_event (on.gave bytes) q e one is = other_event_of other_event q e one refl is
-told_no_event (on.trailers lines) q e one is = never_none q one
-told_no_event (on.frame f) q e one is = never_none q one
-told_no_event on.pending q e one is = never_none q one
-told_no_event (on.fault f) q e one is = never_none q one
-told_no_event (on.protocol error) q e one is = never_none q one
-told_no_event (on.refused error) q e one is = never_none q one
-told_no_event (on.expired end) q e one is = never_none q one
-told_no_event on.abandoned q e one is = never_none q one
-told_no_event on.done q e one is = never_none q one
-
-pub is_event : (event : on.Event) (o : on.Outcome) (q : Part) (e : on.Event) → parts_by event o ≡ q ∷ [] → event_of q ≡ Some e → event ≡ e
-is_event on.next o q e one is = absurd (told_no_event o q e one is)
-is_event on.pull o q e one is = absurd (told_no_event o q e one is)
-is_event (on.answer head size) o q e one is = same_event (begins (record { head = head; size = size })) q (on.answer head size) e one refl is
-is_event (on.chunk bytes) o q e one is = same_event (continues bytes) q (on.chunk bytes) e one refl is
-is_event on.body_end o q e one is = same_event ends q on.body_end e one refl is
-is_event on.body_error o q e one is = same_event breaks_off q on.body_error e one refl is
-is_event on.drop_body o q e one is = same_event leaves_rest q on.drop_body e one refl is
-is_event on.send_continue o q e one is = same_event goes_on q on.send_continue e one refl is
-is_event (on.read bytes) o q e one is = absurd (other_event_of other_event q e one refl is)
-is_event on.eof o q e one is = absurd (other_event_of other_event q e one refl is)
-is_event (on.write n) o q e one is = absurd (other_event_of other_event q e one refl is)
-is_event (on.tick ms) o q e one is = absurd (other_event_of other_event q e one refl is)
-is_event on.drain o q e one is = absurd (other_event_of other_event q e one refl is)
-is_event (on.accept limit) o q e one is = absurd (other_event_of other_event q e one refl is)
-is_event (on.send m) o q e one is = absurd (other_event_of other_event q e one refl is)
-
--- its outcome is the table's
-table_as : (setting : Setting) (past : List ParsedStep) (a e : on.Event) → outcome_of setting past a ≡ on.done → Some a ≡ Some e → outcome_of setting past e ≡ on.done
-table_as setting past a e done is =
-    let same : a ≡ e = cc is in
-    subst (λ (b : on.Event). outcome_of setting past b ≡ on.done) same done
-
-no_event : (e : on.Event) → ◌≡◌ {A = Option on.Event} None (Some e) → ⊥
-no_event e is = cc is
-
-table_of : (setting : Setting) (past : List ParsedStep) (q : Part) (e : on.Event) → event_of q ≡ Some e → outcome_of setting past e ≡ on.done
-unfolding outcome_of
-table_of setting past (begins put) e is = table_as setting past (on.answer put.head put.size) e refl is
-table_of setting past (continues bytes) e is = table_as setting past (on.chunk bytes) e refl is
-table_of setting past ends e is = table_as setting past on.body_end e refl is
-table_of setting past breaks_off e is = table_as setting past on.body_error e refl is
-table_of setting past goes_on e is = table_as setting past on.send_continue e refl is
-table_of setting past leaves_rest e is = table_as setting past on.drop_body e refl is
-table_of setting past (hands h) e is = absurd (no_event e is)
-table_of setting past (takes bytes) e is = absurd (no_event e is)
-table_of setting past takes_end e is = absurd (no_event e is)
-table_of setting past (request_breaks fault) e is = absurd (no_event e is)
-table_of setting past has_closed e is = absurd (no_event e is)
-table_of setting past other_event e is = absurd (no_event e is)
-
--- the step of a part that is put
-pub step_of : (setting : Setting) (q : Part) (e : on.Event) (more before : List Step) → event_of q ≡ Some e → (x : PutsOne q more)
-    → IsTrace setting (x.step ∷ (x.first ++ before)) → x.step ≡ record { event = e; outcome = on.done }
-step_of setting q e more before is x traced =
-    let event : x.step.event ≡ e = is_event x.step.event x.step.outcome q e x.one is in
-    let out : x.step.outcome ≡ on.done =
-    traced.1.2 ∙ ap (outcome_of setting traced.1.0) event ∙ table_of setting traced.1.0 q e is in
-    ap (λ (a : on.Event). record { event = a; outcome = x.step.outcome }) event ∙ ap (λ (o : on.Outcome). record { event = e; outcome = o }) out
-
--- the rest of a request's body is left
-pub drop_brings : (before : List Step) → BringsSo on.pending (record { event = on.drop_body; outcome = on.done }) before
-drop_brings before = nothing_told on.drop_body on.done before refl refl refl refl (record { event = refl; headless = refl }) done_brings_nothing

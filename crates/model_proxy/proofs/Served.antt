@@ -25,7 +25,8 @@ use Rattle.model_proxy.specs.Parts.{Part, leaves_rest, parts_of, Handed, handed_
 use Rattle.model_proxy.proofs.Quiet.{pending_brings_nothing}
 use Rattle.model_proxy.proofs.SentPlaces.{IsSame, AreSame}
 use Rattle.model_proxy.proofs.EventsForward.{judged_now}
-use Rattle.model_proxy.proofs.PartSteps.{AllBring, none_of, PutsOne, puts_one, brings_one, part_traced, event_of, step_of, drop_brings, BringsSo}
+use Rattle.model_proxy.proofs.PartSteps.{AllBring, none_of, PutsOne, puts_one, brings_one, part_traced, BringsSo}
+use Rattle.model_proxy.proofs.PutSteps.{event_of, step_of, drop_brings}
 use Rattle.model_proxy.proofs.OnLinks.{Stage}
 use Rattle.model_proxy.proofs.OwnSteps.{own_quiet}
 use Rattle.model_proxy.proofs.HandedSteps.{idle_steps}
@@ -129,12 +130,12 @@ pub record PutsStep (setting : Setting) (e : on.Event) (b : Kept) (before : List
 pub puts_step : (setting : Setting) (q : Part) (e : on.Event) (b : Kept) (before more : List Step) → event_of q ≡ Some e → StandsFor setting b (more ++ before)
     → parts_of more ≡ q ∷ [] → PutsStep setting e b before more
 puts_step setting q e b before more event stands parts =
-    let x = puts_one q more parts in
+    let x = puts_one q [] more parts in
     let all : more ++ before ≡ x.after ++ (x.step ∷ (x.first ++ before)) =
     ap (λ (m : List Step). m ++ before) x.are ∙ append_assoc x.after (x.step ∷ x.first) before in
     let traced : IsTrace setting (x.step ∷ (x.first ++ before)) =
     part_traced setting x.after (x.step ∷ (x.first ++ before)) (subst (IsTrace setting) all stands.traced) in
-    let is : x.step ≡ record { event = e; outcome = on.done } = step_of setting q e more before event x traced in
+    let is : x.step ≡ record { event = e; outcome = on.done } = step_of setting q e [] more before event x traced in
     let put : IsTrace setting (record { event = e; outcome = on.done } ∷ (x.first ++ before)) =
     subst (λ (s : Step). IsTrace setting (s ∷ (x.first ++ before))) is traced in
     let whole : more ++ before ≡ x.after ++ (record { event = e; outcome = on.done } ∷ (x.first ++ before)) =
@@ -177,11 +178,11 @@ module _ (edge : Edge) (theirs ours : Setting) (held : theirs.hold_size ≡ ours
       subst (λ (c : Kept). ServedAs edge theirs ours P (record kept { client = c }) stage (s ∷ history)) (sym same) x
   left_as P kept b (inr puts) (all, xs, p, t) =
       let did = puts all.client t.tells.carries.stands in
-      let x = puts_one leaves_rest did.0 did.2 in
+      let x = puts_one leaves_rest [] did.0 did.2 in
       let whole : did.0 ++ all.client ≡ x.after ++ (x.step ∷ (x.first ++ all.client)) =
       ap (λ (m : List Step). m ++ all.client) x.are ∙ append_assoc x.after (x.step ∷ x.first) all.client in
       let is : x.step ≡ record { event = on.drop_body; outcome = on.done } =
-      step_of theirs leaves_rest on.drop_body did.0 all.client refl x
+      step_of theirs leaves_rest on.drop_body [] did.0 all.client refl x
       (part_traced theirs x.after (x.step ∷ (x.first ++ all.client)) (subst (IsTrace theirs) whole did.1.traced)) in
       let brings = brings_one leaves_rest did.0 all.client on.pending x
       (subst (λ (e : Step). BringsSo on.pending e (x.first ++ all.client)) (sym is) (drop_brings (x.first ++ all.client))) in (

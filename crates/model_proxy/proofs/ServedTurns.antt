@@ -1,5 +1,5 @@
 -- A forwarder that served its client so far does so behind each turn on the request that was sent on, and on the one that waits for that.
-use Rattle.std.proofs.Common.{◌≡◌, ◌⊎◌, ℕ, Bool, true, false, List, [], ◌∷◌, ◌++◌, length, bytes_eq, codes, refl, sym, ap, ◌∙◌, subst, inl, inr, Option, Some, None, is_some}
+use Rattle.std.proofs.Common.{◌≡◌, ◌⊎◌, ℕ, Bool, true, false, List, [], ◌∷◌, ◌++◌, length, map, append_assoc, refl, sym, ap, ◌∙◌, subst, inl, inr, Option, Some, None, is_some}
 use Rattle.std.specs.Prelude.{⊤, IsTrue, ◌||◌, ◌==◌, ◌<◌}
 use Rattle.std.specs.List.{AllByRecursion}
 use Rattle.std.proofs.lemmas.Bool.{false≢true}
@@ -24,16 +24,17 @@ use Rattle.model_proxy.specs.Edge.{Edge}
 use Rattle.model_proxy.specs.Answers.{reply_head, reply_size, says_close}
 use Rattle.model_proxy.specs.Past as past
 use Rattle.model_proxy.specs.Past.{ProxyStep, first_of}
-use Rattle.model_proxy.specs.Exchange.{Pulled, Exchange}
+use Rattle.model_proxy.specs.Exchange.{pulled, Exchange}
 use Rattle.model_proxy.specs.Happenings.{Request, Link, Happenings}
 use Rattle.model_proxy.specs.Carried.{ForwarderKept, UnderWay, nothing, waits, is_sent, IsIdle, IsWaiting, IsSentOn, IsUnderWay}
-use Rattle.model_proxy.specs.Moves.{IsQuiet}
+use Rattle.model_proxy.specs.Moves.{after_outcome}
+use Rattle.model_h1.specs.Trace.{IsTrace}
 use Rattle.model_proxy.specs.Parts.{Part, begins, continues, ends, takes, takes_end, request_breaks, parts_of, Handed, body_bytes, body_end, handed_of}
 use Rattle.model_proxy.proofs.Quiet.{pending_brings_nothing}
 use Rattle.model_proxy.proofs.SentPlaces.{IsPlaced, IsSame}
 use Rattle.model_proxy.proofs.PartsForward.{head_put, piece_put, end_put}
 use Rattle.model_proxy.proofs.PiecesPut.{has_end, IsPutOf, put_end}
-use Rattle.model_proxy.proofs.PartSteps.{AllBring, one_of, put_brings}
+use Rattle.model_proxy.proofs.PartSteps.{none_of, one_of, puts_one, part_traced, one_by, out_of, same_pulled}
 use Rattle.model_proxy.proofs.ReadsOn.{free_passes}
 use Rattle.model_proxy.proofs.OnLinks.{Stage, before_head, over, answering}
 use Rattle.model_proxy.proofs.LinkSteps.{OnLink, same_link}
@@ -133,6 +134,36 @@ module _ (edge : Edge) (theirs ours : Setting) (held : theirs.hold_size ≡ ours
           serves_piece edge theirs ours s history stage whole broken a b c all did.0 y.here.request y.here.requests y.link.newest y.link.older y.here.newest y.here.others
               y.here.requests_are y.link.are y.link.ran y.body brings.silent did.1 y.is bytes d allowed step brings.brought,
         )
+
+    -- its end does
+    pub served_whole : (b : Kept) (d : ClientKept) → IsTrue (client_allows ours c asked.body_end) → IsClientStep ours c asked.body_end asked.done d
+        → ClientPuts theirs (λ ps. ps ≡ takes_end ∷ []) a b → IsServed edge theirs ours sent stage (s ∷ history)
+        → IsServed edge theirs ours (record { client = b; server = Some d; under_way = is_sent true broken }) stage (s ∷ history)
+    served_whole b d allowed step puts (all, xs, t) =
+        let y = sent_so all xs t in
+        let did = puts all.client t.tells.carries.stands in
+        let brings = one_of did.0 all.client takes_end on.body_ended refl did.2 in
+        (_, _,
+          serves_end edge theirs ours s history stage whole broken a b c all did.0 y.here.request y.here.requests y.link.newest y.link.older y.here.newest y.here.others
+              y.here.requests_are y.link.are y.link.ran y.body brings.silent did.1 y.is d allowed step
+              (has_all all did.0 y.here.request y.here.requests did.2 did.1.traced
+              (sym (sym t.tells.carries.forwarded.sent.requests ∙ ap (map (λ (r : Request). r.pulled)) y.here.requests_are))) brings.brought,
+        )
+      where
+        has_all : (all : Happenings) (more : List Step) (r : Request) (rs : List Request) → parts_of more ≡ takes_end ∷ [] → IsTrace theirs (more ++ all.client)
+            → r.pulled ∷ map (λ (r : Request). r.pulled) rs ≡ pulled all.client → HasAll r.pulled
+        has_all all more r rs parts traced are =
+            let x = puts_one takes_end [] more parts in
+            let before = x.first ++ all.client in
+            let whole : more ++ all.client ≡ x.after ++ (x.step ∷ before) =
+            ap (λ (m : List Step). m ++ all.client) x.are ∙ append_assoc x.after (x.step ∷ x.first) all.client in
+            let there = part_traced theirs x.after (x.step ∷ before) (subst (IsTrace theirs) whole traced) in
+            let one = one_by x.step.event x.step.outcome takes_end on.body_ended before x.one refl in
+            let first = none_of x.first all.client x.earlier in
+            let now : pulled (x.step ∷ before) ≡ record r.pulled { is_ended = true } ∷ map (λ (r : Request). r.pulled) rs =
+            one.brought.pulled ∙ ap (after_outcome on.body_ended) (same_pulled all.client before first.brought ∙ sym are) in
+            ended_bytes theirs x.step before (record r.pulled { is_ended = true }) (map (λ (r : Request). r.pulled) rs) there
+            (out_of x.step.event x.step.outcome takes_end on.body_ended x.one refl) now
 
     -- its body broke
     pub served_broken : (fault : on.BodyFault) (b : Kept) → ClientPuts theirs (λ ps. ps ≡ request_breaks fault ∷ []) a b → IsServed edge theirs ours sent stage (s ∷ history)
