@@ -10,10 +10,12 @@ use Rattle.model_h1.specs.Parse.{Message, Body, no_content, content, frames, Sto
 use Rattle.model_h1.specs.Past.{ParsedStep, steps, current, given_bytes, given_frames}
 use Rattle.model_h1.specs.Request.{Head, Header}
 use Rattle.model_h1.specs.Runs.{Run}
+use Rattle.model_h1.specs.Sums as sums
 use Rattle.model_h1.specs.Sums.{Step}
 use Rattle.model_h1.specs.Trace.{IsTrace}
 use Rattle.model_proxy.specs.Parts.{Part, begins, continues, ends, breaks_off, goes_on, hands, takes, takes_end, request_breaks, leaves_rest, has_closed, other_event, parts_told, parts_by}
-use Rattle.model_proxy.proofs.Quiet.{done_brings_nothing}
+use Rattle.model_proxy.specs.Moves.{HasBrought}
+use Rattle.model_proxy.proofs.Quiet.{brought, done_brings_nothing}
 use Rattle.model_proxy.proofs.SilentSteps.{IsSilent}
 use Rattle.model_proxy.proofs.PartSteps.{BringsSo, nothing_told, never_none, PutsOne}
 
@@ -109,6 +111,11 @@ step_of setting q e rest more before is x traced =
     let out : x.step.outcome ≡ on.done =
     traced.1.2 ∙ ap (outcome_of setting traced.1.0) event ∙ table_of setting traced.1.0 q e is in
     ap (λ (a : on.Event). record { event = a; outcome = x.step.outcome }) event ∙ ap (λ (o : on.Outcome). record { event = e; outcome = o }) out
+
+-- it brings nothing of a request
+pub put_brings : (event : on.Event) (before : List Step) → sums.step_taken event on.done ≡ [] → sums.tick_of event ≡ None → sums.is_eof event ≡ false
+    → HasBrought on.done before (record { event = event; outcome = on.done } ∷ before)
+put_brings event before took tick going = brought event on.done before took refl tick going
 
 -- the rest of a request's body is left
 pub drop_brings : (before : List Step) → BringsSo on.pending (record { event = on.drop_body; outcome = on.done }) before

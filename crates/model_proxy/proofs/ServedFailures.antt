@@ -38,7 +38,7 @@ use Rattle.model_proxy.proofs.SentPlaces.{AreSame}
 use Rattle.model_proxy.proofs.PartsForward.{server_reply}
 use Rattle.model_proxy.proofs.FoundHanded.{is_out}
 use Rattle.model_proxy.proofs.BadAnswers.{FindsBad, finds_nothing, closed_bad, head_bad, body_fails}
-use Rattle.model_proxy.proofs.PartSteps.{put_brings}
+use Rattle.model_proxy.proofs.PutSteps.{put_brings}
 use Rattle.model_proxy.proofs.OnLinks.{Stage, before_head, answering}
 use Rattle.model_proxy.proofs.LinkSteps.{one_trace, OnLink, quiet_link, newest_server}
 use Rattle.model_proxy.proofs.OwnSteps.{own_quiet}

@@ -34,7 +34,7 @@ use Rattle.model_proxy.proofs.Quiet.{pending_brings_nothing}
 use Rattle.model_proxy.proofs.Wants.{asked_by}
 use Rattle.model_proxy.proofs.PartsForward.{head_put, piece_put, end_put}
 use Rattle.model_proxy.proofs.PiecesPut.{has_end, PutsOn, IsPutOf, put_end}
-use Rattle.model_proxy.proofs.PartSteps.{put_brings}
+use Rattle.model_proxy.proofs.PutSteps.{put_brings}
 use Rattle.model_proxy.proofs.OnLinks.{Stage, before_head, answering}
 use Rattle.model_proxy.proofs.LinkSteps.{OnLink}
 use Rattle.model_proxy.proofs.OwnSteps.{own_quiet}
