@@ -262,8 +262,7 @@ module _ (theirs ours : Setting) (held : theirs.hold_size ≡ ours.hold_size) (h
       let f = since_found theirs ours held history (behind e) x n same w d y.news h a after
       (item_on (item_fault fault) (read_out l.happened) y.newest (y.news ++ (read_out z.asked.before).answers) y.answers) y.passed y.reading y.good y.final in
       let spoils : list_any is_fault h.items ≡ true =
-      list_any-append is_fault y.newest.items (item_fault fault ∷ []) ∙ or_right (list_any is_fault y.newest.items) in
-      (
+      list_any-append is_fault y.newest.items (item_fault fault ∷ []) ∙ or_right (list_any is_fault y.newest.items) in (
         n,
         at,
         f.0,

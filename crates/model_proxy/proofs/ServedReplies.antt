@@ -33,9 +33,9 @@ use Rattle.model_proxy.proofs.Halves.{waiting_in}
 use Rattle.model_proxy.proofs.Quiet.{pending_brings_nothing}
 use Rattle.model_proxy.proofs.Wants.{asked_by}
 use Rattle.model_proxy.proofs.PartsForward.{head_put, piece_put, end_put}
-use Rattle.model_proxy.proofs.PiecesPut.{has_end, PutsOn, IsPutOf, put_end}
+use Rattle.model_proxy.proofs.PiecesPut.{has_end, PutsOn, IsPutOf}
 use Rattle.model_proxy.proofs.PutSteps.{put_brings}
-use Rattle.model_proxy.proofs.OnLinks.{Stage, before_head, answering}
+use Rattle.model_proxy.proofs.OnLinks.{Stage, before_head, answering, put_end}
 use Rattle.model_proxy.proofs.LinkSteps.{OnLink}
 use Rattle.model_proxy.proofs.OwnSteps.{own_quiet}
 use Rattle.model_proxy.proofs.Serves.{Serves}
@@ -152,9 +152,11 @@ module _ (edge : Edge) (theirs ours : Setting) (held : theirs.hold_size ≡ ours
             (answer_link ours (s ∷ history) l n x r ans (put before r) final good
             (record { head = refl; size = ap (λ (t : Bool). reply_size t ans) (sym about); pieces = refl; ended = λ no. absurd (false≢true no) }) z);
       })
-      (λ trace stands. let did = puts trace stands in
-      (did.0, puts_step theirs (begins (record { head = reply_head ans; size = reply_size is_head ans })) (on.answer (reply_head ans) (reply_size is_head ans)) b trace did.0 refl did.1
-      did.2)) x
+      (λ trace stands. let did = puts trace stands in (
+        did.0,
+        puts_step theirs (begins (record { head = reply_head ans; size = reply_size is_head ans })) (on.answer (reply_head ans) (reply_size is_head ans)) b trace did.0 refl did.1
+            did.2,
+      )) x
     where
       moved_to : (l : Link) (n : ℕ) (x : Exchange) (trace : List Happened) (q : Reply) → l.happened ≡ trace
           → OnLink ours (s ∷ history) (record l { happened = record { event = asked.next; outcome = asked.answer ans } ∷ l.happened }) n (answering ans) x q

@@ -33,7 +33,7 @@ use Rattle.model_proxy.specs.Parts.{Part, begins, continues, ends, takes, takes_
 use Rattle.model_proxy.proofs.Quiet.{pending_brings_nothing}
 use Rattle.model_proxy.proofs.SentPlaces.{IsPlaced, IsSame}
 use Rattle.model_proxy.proofs.PartsForward.{head_put, piece_put, end_put}
-use Rattle.model_proxy.proofs.PiecesPut.{has_end, IsPutOf, put_end}
+use Rattle.model_proxy.proofs.PiecesPut.{has_end, IsPutOf}
 use Rattle.model_proxy.proofs.PartSteps.{none_of, one_of, puts_one, part_traced, one_by, out_of, same_pulled}
 use Rattle.model_proxy.proofs.ReadsOn.{free_passes}
 use Rattle.model_proxy.proofs.OnLinks.{Stage, before_head, over, answering}
@@ -80,8 +80,9 @@ module _ (edge : Edge) (theirs ours : Setting) (held : theirs.hold_size ≡ ours
       let under : IsIdle (Some a) (link.newest ∷ link.older) × IsWaiting edge q size whole broken here.request =
       subst (λ (ls : List Link). IsIdle (Some a) ls × IsWaiting edge q size whole broken here.request) link.are
       (subst (λ (rs : List Request). IsUnderWay edge (waits q size whole broken) rs (Some a) all.links) here.requests_are t.tells.carries.under_way) in
-      let dated : now_of link.newest.happened ≡ past.now (s ∷ history) = sym (is_text ours link.newest.happened a link.ran).now ∙ moment in
-      (_, _,
+      let dated : now_of link.newest.happened ≡ past.now (s ∷ history) = sym (is_text ours link.newest.happened a link.ran).now ∙ moment in (
+        _,
+        _,
         serves_sent edge theirs ours held s history q size whole broken client a b allowed step waiting free unread all here.request here.requests link.newest link.older
             here.newest here.others here.exchange here.exchanges_before here.requests_are link.are link.ran under.0 under.1 dated here.exchanges_are
             (unsent_by (s ∷ history) (length all.links) here.request here.newest under.1.unsent here.same.placed) here.same.pulled
@@ -129,8 +130,9 @@ module _ (edge : Edge) (theirs ours : Setting) (held : theirs.hold_size ≡ ours
     served_piece bytes b d allowed step puts (all, xs, t) =
         let y = sent_so all xs t in
         let did = puts all.client t.tells.carries.stands in
-        let brings = one_of did.0 all.client (takes bytes) (on.bytes bytes) refl did.2 in
-        (_, _,
+        let brings = one_of did.0 all.client (takes bytes) (on.bytes bytes) refl did.2 in (
+          _,
+          _,
           serves_piece edge theirs ours s history stage whole broken a b c all did.0 y.here.request y.here.requests y.link.newest y.link.older y.here.newest y.here.others
               y.here.requests_are y.link.are y.link.ran y.body brings.silent did.1 y.is bytes d allowed step brings.brought,
         )
@@ -142,8 +144,9 @@ module _ (edge : Edge) (theirs ours : Setting) (held : theirs.hold_size ≡ ours
     served_whole b d allowed step puts (all, xs, t) =
         let y = sent_so all xs t in
         let did = puts all.client t.tells.carries.stands in
-        let brings = one_of did.0 all.client takes_end on.body_ended refl did.2 in
-        (_, _,
+        let brings = one_of did.0 all.client takes_end on.body_ended refl did.2 in (
+          _,
+          _,
           serves_end edge theirs ours s history stage whole broken a b c all did.0 y.here.request y.here.requests y.link.newest y.link.older y.here.newest y.here.others
               y.here.requests_are y.link.are y.link.ran y.body brings.silent did.1 y.is d allowed step
               (has_all all did.0 y.here.request y.here.requests did.2 did.1.traced
@@ -171,8 +174,9 @@ module _ (edge : Edge) (theirs ours : Setting) (held : theirs.hold_size ≡ ours
     served_broken fault b puts (all, xs, t) =
         let y = sent_so all xs t in
         let did = puts all.client t.tells.carries.stands in
-        let brings = one_of did.0 all.client (request_breaks fault) (on.broken_by fault) refl did.2 in
-        (_, _,
+        let brings = one_of did.0 all.client (request_breaks fault) (on.broken_by fault) refl did.2 in (
+          _,
+          _,
           serves_broken edge theirs ours s history stage whole broken a b c all did.0 y.here.request y.here.requests y.link.newest y.link.older y.here.newest y.here.others
               y.here.requests_are y.link.are y.link.ran y.body brings.silent did.1 y.is fault brings.brought,
         )
@@ -207,8 +211,9 @@ module _ (edge : Edge) (theirs ours : Setting) (held : theirs.hold_size ≡ ours
       let quiet = own_quiet ours (e ∷ []) l.happened d (refl, tt) ran in
       let z = here edge theirs ours held s history before_head (answering ans) whole broken a c d all l y.link.older (e ∷ l.happened) y.here.newest y.here.others y.here.exchange
       y.here.exchanges_before y.link.are y.here.exchanges_are ran quiet y.is in
-      let unput : y.here.exchange.reply ≡ no_reply = (z.at c y.link.ran).unput in
-      (_, _,
+      let unput : y.here.exchange.reply ≡ no_reply = (z.at c y.link.ran).unput in (
+        _,
+        _,
         serves_moved edge theirs ours held s history before_head (answering ans) whole broken a c d all l y.link.older (e ∷ l.happened) y.here.newest y.here.others
             y.here.exchange y.here.exchanges_before y.link.are y.here.exchanges_are ran quiet y.is
             (answer_link ours (s ∷ history) l (length y.link.older) y.here.newest y.here.exchange.reply ans y.here.exchange.reply final good
@@ -227,8 +232,9 @@ module _ (edge : Edge) (theirs ours : Setting) (held : theirs.hold_size ≡ ours
       let one = hands_one ours body_end did.0 l.happened d did.1 did.2 in
       let quiet = one_quiet ours body_end asked.body_ended did.0 l.happened d refl tt did.1 one in
       let z = here edge theirs ours held s history (answering ans) (answering ans) whole broken a c d all l y.link.older (did.0 ++ l.happened) y.here.newest y.here.others
-      y.here.exchange y.here.exchanges_before y.link.are y.here.exchanges_are did.1 quiet y.is in
-      (_, _,
+      y.here.exchange y.here.exchanges_before y.link.are y.here.exchanges_are did.1 quiet y.is in (
+        _,
+        _,
         serves_moved edge theirs ours held s history (answering ans) (answering ans) whole broken a c d all l y.link.older (did.0 ++ l.happened) y.here.newest y.here.others
             y.here.exchange y.here.exchanges_before y.link.are y.here.exchanges_are did.1 quiet y.is
             (end_behind ours (s ∷ history) l n y.here.newest y.here.exchange.reply ans did.0 d z y.here.exchange.reply (λ items ended put. put) one),

@@ -113,7 +113,7 @@ module _ (edge : Edge) (theirs ours : Setting) (s : ProxyStep) (history : List P
         record {
           tells = tells_broken edge theirs ours s history fault whole broken a b c all more r rs l links x xs rs_are links_are at driven u silent stands did t.tells;
           last = on_newest (length links) (OnLink ours (s ∷ history) l (length links) stage) (OnLink ours (s ∷ history) m (length links) stage) (UnusedOn ours l)
-        (UnusedOn ours m) x
+              (UnusedOn ours m) x
               (record x { pulled = record x.pulled { is_broken = true } }) xs (exchanges (more ++ all.client)) at at
               (λ q z. same_link ours (s ∷ history) l m (length links) stage x (record x { pulled = record x.pulled { is_broken = true } }) q refl refl refl z) last;
           state = at;
