@@ -299,10 +299,17 @@ pub record PutsOne (q : Part) (rest : List Part) (more : List Step) : Type 0 whe
   pub afterwards : parts_of after ≡ []
   pub earlier : parts_of first ≡ rest
 
-pub puts_one : (q : Part) (rest : List Part) (more : List Step) → parts_of more ≡ q ∷ rest → PutsOne q rest more
+parts_more : (s : Step) (more : List Step) → parts_of (s ∷ more) ≡ parts_by s.event s.outcome ++ parts_of more
 unfolding parts_of
-puts_one q rest [] e = absurd (never_some q rest e)
-puts_one q rest (s ∷ more) e = by_parts (parts_by s.event s.outcome) refl e (λ all. puts_one q rest more all)
+parts_more s more = refl
+
+parts_none : parts_of [] ≡ []
+unfolding parts_of
+parts_none = refl
+
+pub puts_one : (q : Part) (rest : List Part) (more : List Step) → parts_of more ≡ q ∷ rest → PutsOne q rest more
+puts_one q rest [] e = absurd (never_some q rest (sym parts_none ∙ e))
+puts_one q rest (s ∷ more) e = by_parts (parts_by s.event s.outcome) refl (sym (parts_more s more) ∙ e) (λ all. puts_one q rest more all)
   where
     by_parts : (l : List Part) → parts_by s.event s.outcome ≡ l → l ++ parts_of more ≡ q ∷ rest → (parts_of more ≡ q ∷ rest → PutsOne q rest more)
         → PutsOne q rest (s ∷ more)
@@ -314,7 +321,7 @@ puts_one q rest (s ∷ more) e = by_parts (parts_by s.event s.outcome) refl e (�
           first = x.first;
           are = ap (λ (l : List Step). s ∷ l) x.are;
           one = x.one;
-          afterwards = ap (λ (l : List Part). l ++ parts_of x.after) is ∙ x.afterwards;
+          afterwards = parts_more s x.after ∙ ap (λ (l : List Part). l ++ parts_of x.after) is ∙ x.afterwards;
           earlier = x.earlier;
         }
     by_parts (p ∷ l) is all further =
@@ -328,7 +335,7 @@ puts_one q rest (s ∷ more) e = by_parts (parts_by s.event s.outcome) refl e (�
           first = more;
           are = refl;
           one = is ∙ ap (λ (r : Part). r ∷ l) same ∙ ap (λ (m : List Part). q ∷ m) none;
-          afterwards = refl;
+          afterwards = parts_none;
           earlier = sym (ap (λ (m : List Part). m ++ parts_of more) none) ∙ others;
         }
 

@@ -1,5 +1,5 @@
 -- A request's body that ended has as many bytes as its head states.
-use Rattle.std.proofs.Common.{◌≡◌, ℕ, ◌+◌, ◌-◌, ◌<◌, ◌≤◌, Bool, true, false, List, [], ◌∷◌, ◌++◌, length, map, reverse, Option, Some, None, MatchOption, unwrap_or, refl, sym, ap, ap₂, ◌∙◌, subst, arith, append-nil}
+use Rattle.std.proofs.Common.{◌≡◌, ℕ, ◌+◌, ◌-◌, ◌<◌, ◌≤◌, Bool, true, false, List, [], ◌∷◌, ◌++◌, length, map, drop, reverse, Option, Some, None, MatchOption, unwrap_or, refl, sym, ap, ap₂, ◌∙◌, subst, arith, append-nil}
 use Rattle.std.specs.Prelude.{⊤, ◌==◌, nat_le, nat_lt, slice_range, if◌then◌else◌}
 use Rattle.std.specs.Option.{option_or}
 use Rattle.std.proofs.lemmas.Bool.{false≢true, leb-true, le-ltb}
@@ -162,14 +162,14 @@ here_last i m n (faulty f) is same items body =
 
 last_message : (i : Input) (size place : ℕ) (front : List Handed) (m : Handed) (parse : List Message) → AreMessages i place parse
     → IsPrefixFrom size i.bytes place (front ++ m ∷ []) parse → OfLast i m m.reading
-last_message i size place front m [] are x = oversized i size _ front m x
+last_message i size place front m [] are x = oversized i size (drop place i.bytes) front m x
 last_message i size place [] m (n ∷ ns) are x = here_last i m n m.reading refl x.0.reading x.0.items are.0.body
 last_message i size place (f ∷ front) m (n ∷ ns) are x = by_next (next_start n.body) are.1 x.2
   where
     by_next : (o : Option ℕ) → MatchOption o (ns ≡ []) (λ next. AreMessages i next ns) → IsPrefixFrom size i.bytes (unwrap_or o place) (front ++ m ∷ []) ns
         → OfLast i m m.reading
     by_next None none y =
-        oversized i size _ front m (subst (IsPrefixFrom size i.bytes place (front ++ m ∷ [])) none y)
+        oversized i size (drop place i.bytes) front m (subst (IsPrefixFrom size i.bytes place (front ++ m ∷ [])) none y)
     by_next (Some next) more y = last_message i size next front m ns more y
 
 -- ---- how many bytes a body has
