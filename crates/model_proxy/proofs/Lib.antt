@@ -52,6 +52,7 @@ pub mod ServedTurns
 pub mod ServedReplies
 pub mod ServedFailures
 pub mod ServedHeads
+pub mod ServedOpened
 pub mod GivenRequests
 pub mod Places
 pub mod StepByStep

@@ -9,7 +9,8 @@ use Rattle.model_h1.specs.Event as on
 use Rattle.model_h1.specs.Sums as sums
 use Rattle.model_h1.specs.Sums.{Step}
 use Rattle.model_h1.specs.Trace.{IsTrace}
-use Rattle.model_h1.specs.Laws.Exchanges.{no_reply, begun, exchanges}
+use Rattle.model_h1.specs.Laws.Exchanges.{begun, exchanges}
+use Rattle.model_h1.specs.Laws.Exchanges as replies
 use Rattle.model_state.specs.Kept.{Kept}
 use Rattle.model_state.specs.StandsFor.{StandsFor}
 use Rattle.model_client.specs.RequestText.{request_text, asked_shape, given_request_text}
@@ -90,15 +91,24 @@ hands_step setting h b before more stands parts =
     }
 
 module _ (edge : Edge) (theirs ours : Setting) (held : theirs.hold_size ≡ ours.hold_size) (s : ProxyStep) (history : List ProxyStep) (stage : Stage) where
-  -- with the head that was handed out
-  pub headed : (server : Option ClientKept) (a b : Kept) → ClientPuts theirs (λ ps. (h : Head) × (ps ≡ hands h ∷ [])) a b
-      → IsServed edge theirs ours (record { client = a; server = server; under_way = nothing }) stage (s ∷ history)
-      → (h : Head) × (all : Happenings) × (xs : List Exchange) × IsJust h xs × IsNewest h all × HasNoReply (exchanges all.client)
-      × Serves edge theirs ours (record { client = b; server = server; under_way = nothing }) stage (s ∷ history) all xs
-  headed server a b puts (all, xs, t) =
-      let did = puts all.client t.tells.carries.stands in
-      let h = did.2.0 in
-      let p = hands_step theirs h b all.client did.0 did.1 did.2.1 in
+  -- the forwarder behind these steps, by which a head was handed out that is so
+  pub record Headed (P : Head → Type 0) (server : Option ClientKept) (b : Kept) (trace : List Step) : Type 0 where
+    pub head : Head
+    pub so : P head
+    pub all : Happenings
+    pub client : all.client ≡ trace
+    pub xs : List Exchange
+    pub just : IsJust head xs
+    pub newest : IsNewest head all
+    pub before : List replies.Exchange
+    pub exchanges_are : exchanges all.client ≡ begun head ∷ before
+    pub is : Serves edge theirs ours (record { client = b; server = server; under_way = nothing }) stage (s ∷ history) all xs
+
+  pub headed_by : (P : Head → Type 0) (server : Option ClientKept) (a b : Kept) (all : Happenings) (xs : List Exchange) (more : List Step) (h : Head) → P h
+      → StandsFor theirs b (more ++ all.client) → parts_of more ≡ hands h ∷ []
+      → Serves edge theirs ours (record { client = a; server = server; under_way = nothing }) stage (s ∷ history) all xs → Headed P server b (more ++ all.client)
+  headed_by P server a b all xs more h so stands parts t =
+      let p = hands_step theirs h b all.client more stands parts in
       let first : Happenings = record all { client = p.first ++ all.client } in
       let t0 = serves_silent edge theirs ours held s history stage on.pending (record { client = a; server = server; under_way = nothing }) p.start all p.first xs
       pending_brings_nothing p.earlier.silent p.stands_first p.earlier.brought t in
@@ -107,18 +117,27 @@ module _ (edge : Edge) (theirs ours : Setting) (held : theirs.hold_size ≡ ours
       let new : Exchange = record { pulled = unpulled h; server = None; sent_at = 0; was_refused = false } in
       let request : happened.Request = record { pulled = unpulled h; sent_at = None; was_refused = false } in
       let next : Happenings = record { client = record { event = on.next; outcome = on.head h } ∷ first.client; requests = request ∷ all.requests; links = all.links } in
-      let after : Happenings = record next { client = p.after ++ next.client } in
-      let same : exchanges after.client ≡ begun h ∷ exchanges first.client =
-      silent_exchanges p.after next.client p.afterwards.silent ∙ head_exchanges edge theirs (s ∷ history) h first.client in (
-        h,
-        after,
-        new ∷ xs,
-        record { newest = new; older = xs; are = refl; head = refl; unsent = refl },
-        record { newest = request; others = all.requests; are = refl; pulled = refl; unsent = refl; unrefused = refl },
-        subst HasNoReply (sym same) refl,
-        serves_silent edge theirs ours held s history stage on.pending (record { client = p.handed; server = server; under_way = nothing }) b next p.after (new ∷ xs)
-            pending_brings_nothing p.afterwards.silent p.stands p.afterwards.brought t1,
-      )
+      record {
+        head = h;
+        so = so;
+        all = record next { client = p.after ++ next.client };
+        client = sym p.are;
+        xs = new ∷ xs;
+        just = record { newest = new; older = xs; are = refl; head = refl; unsent = refl };
+        newest = record { newest = request; others = all.requests; are = refl; pulled = refl; unsent = refl; unrefused = refl };
+        before = exchanges first.client;
+        exchanges_are = silent_exchanges p.after next.client p.afterwards.silent ∙ head_exchanges edge theirs (s ∷ history) h first.client;
+        is = serves_silent edge theirs ours held s history stage on.pending (record { client = p.handed; server = server; under_way = nothing }) b next p.after (new ∷ xs)
+            pending_brings_nothing p.afterwards.silent p.stands p.afterwards.brought t1;
+      }
+
+  -- whatever happened before
+  pub headed : (P : Head → Type 0) (server : Option ClientKept) (a b : Kept) → ClientPuts theirs (λ ps. (h : Head) × P h × (ps ≡ hands h ∷ [])) a b
+      → IsServed edge theirs ours (record { client = a; server = server; under_way = nothing }) stage (s ∷ history)
+      → (trace : List Step) × Headed P server b trace
+  headed P server a b puts (all, xs, t) =
+      let did = puts all.client t.tells.carries.stands in
+      (did.0 ++ all.client, headed_by P server a b all xs did.0 did.2.0 did.2.1 did.1 did.2.2 t)
 
   -- its request can't be sent on: this is the reply that it may get
   pub owes_head : (h : Head) (xs : List Exchange) → IsJust h xs → (is_refused edge h ≡ false) → (is_forwardable edge h ≡ false)
