@@ -185,9 +185,12 @@ pull_no_head trace None h e = cc e
 pull_no_head trace (Some m) h e = body_no_head trace m.body h e
 
 pub hands_so : (setting : Setting) (event : on.Event) (o : on.Outcome) (before : List Step) (h : Head) → parts_by event o ≡ hands h ∷ []
-    → IsTrace setting (record { event = event; outcome = o } ∷ before) → record { event = event; outcome = o } ≡ record { event = on.next; outcome = on.head h }
+    → IsTrace setting (record { event = event; outcome = o } ∷ before)
+    → ◌≡◌ {A = Step} (record { event = event; outcome = o }) (record { event = on.next; outcome = on.head h })
 unfolding outcome_of
-hands_so setting on.next o before h e traced = ap (λ (a : on.Outcome). record { event = on.next; outcome = a }) (told_head o h e)
+hands_so setting on.next o before h e traced =
+    let step : on.Outcome → Step = λ a. record { event = on.next; outcome = a } in
+    ap step (told_head o h e)
 hands_so setting on.pull o before h e traced =
     absurd (pull_no_head (steps traced.1.0) (current traced.1.0) h (sym traced.1.2 ∙ told_head o h e))
 hands_so setting (on.answer head size) o before h e traced = absurd (other_head (begins (record { head = head; size = size })) h e refl)

@@ -164,13 +164,13 @@ last_message : (i : Input) (size place : ℕ) (front : List Handed) (m : Handed)
     → IsPrefixFrom size i.bytes place (front ++ m ∷ []) parse → OfLast i m m.reading
 last_message i size place front m [] are x = oversized i size (drop place i.bytes) front m x
 last_message i size place [] m (n ∷ ns) are x = here_last i m n m.reading refl x.0.reading x.0.items are.0.body
-last_message i size place (f ∷ front) m (n ∷ ns) are x = by_next (next_start n.body) are.1 x.2
+last_message i size place (f ∷ front) m (n ∷ ns) are x = by_next (λ next. last_message i size next front m ns) (next_start n.body) are.1 x.2
   where
-    by_next : (o : Option ℕ) → MatchOption o (ns ≡ []) (λ next. AreMessages i next ns) → IsPrefixFrom size i.bytes (unwrap_or o place) (front ++ m ∷ []) ns
-        → OfLast i m m.reading
-    by_next None none y =
+    by_next : ((next : ℕ) → AreMessages i next ns → IsPrefixFrom size i.bytes next (front ++ m ∷ []) ns → OfLast i m m.reading) → (o : Option ℕ)
+        → MatchOption o (ns ≡ []) (λ next. AreMessages i next ns) → IsPrefixFrom size i.bytes (unwrap_or o place) (front ++ m ∷ []) ns → OfLast i m m.reading
+    by_next further None none y =
         oversized i size (drop place i.bytes) front m (subst (IsPrefixFrom size i.bytes place (front ++ m ∷ [])) none y)
-    by_next (Some next) more y = last_message i size next front m ns more y
+    by_next further (Some next) more y = further next more y
 
 -- ---- how many bytes a body has
 
