@@ -49,12 +49,12 @@ pub record Opens (edge : Edge) (q : ClientRequest) (size : BodySize) (whole brok
 module _ (edge : Edge) (theirs ours : Setting) (held : theirs.hold_size ≡ ours.hold_size) (s : ProxyStep) (history : List ProxyStep) (stage : Stage) where
   -- ---- it waits to be sent on
 
-  opened_by : (q : ClientRequest) (size : BodySize) (whole broken : Bool) (server : Option ClientKept) (b : Kept) (trace : List Step)
-      → (y : Headed edge theirs ours held s history stage (Opens edge q size whole broken) server b trace)
+  opened_by : (P : Head → Type 0) (q : ClientRequest) (size : BodySize) (whole broken : Bool) (server : Option ClientKept) (b : Kept) (trace : List Step)
+      → (y : Headed edge theirs ours held s history stage P server b trace) → Opens edge q size whole broken y.head
       → Serves edge theirs ours (record { client = b; server = server; under_way = waits q size whole broken }) stage (s ∷ history) y.all y.xs
-  opened_by q size whole broken server b trace y =
-      serves_waits edge theirs ours held s history stage y.head q size whole broken b server y.all y.xs y.so.may y.so.method y.so.is_whole y.so.unbroken y.so.sized
-      y.so.text y.newest (subst HasNoReply (sym y.exchanges_are) refl) y.is
+  opened_by P q size whole broken server b trace y so =
+      serves_waits edge theirs ours held s history stage y.head q size whole broken b server y.all y.xs so.may so.method so.is_whole so.unbroken so.sized so.text y.newest
+      (subst HasNoReply (sym y.exchanges_are) refl) y.is
 
   pub served_opened : (q : ClientRequest) (size : BodySize) (whole broken : Bool) (server : Option ClientKept) (a b : Kept)
       → ClientPuts theirs (λ ps. (h : Head) × Opens edge q size whole broken h × (ps ≡ hands h ∷ [])) a b
@@ -62,9 +62,13 @@ module _ (edge : Edge) (theirs ours : Setting) (held : theirs.hold_size ≡ ours
       → IsServed edge theirs ours (record { client = b; server = server; under_way = waits q size whole broken }) stage (s ∷ history)
   served_opened q size whole broken server a b puts x =
       let made = headed edge theirs ours held s history stage (Opens edge q size whole broken) server a b puts x in
-      (made.1.all, made.1.xs, opened_by q size whole broken server b made.0 made.1)
+      (made.1.all, made.1.xs, opened_by (Opens edge q size whole broken) q size whole broken server b made.0 made.1 made.1.so)
 
   -- and its client, of HTTP/1.1, is told to go on
+  record OpensTold (q : ClientRequest) (size : BodySize) (whole broken : Bool) (h : Head) : Type 0 where
+    opens : Opens edge q size whole broken h
+    minor : (h.minor == 0) ≡ false
+
   pub served_told : (q : ClientRequest) (size : BodySize) (whole broken : Bool) (server : Option ClientKept) (a b : Kept)
       → ClientPuts theirs (λ ps. (h : Head) × Opens edge q size whole broken h × ((h.minor == 0) ≡ false) × (ps ≡ goes_on ∷ hands h ∷ [])) a b
       → IsServed edge theirs ours (record { client = a; server = server; under_way = nothing }) stage (s ∷ history)
@@ -86,16 +90,17 @@ module _ (edge : Edge) (theirs ours : Setting) (held : theirs.hold_size ≡ ours
       let traced : IsTrace theirs (x.step ∷ trace) = part_traced theirs x.after (x.step ∷ trace) (subst (IsTrace theirs) whole_is stands.traced) in
       let is : x.step ≡ e = step_of theirs goes_on on.send_continue rest more all.client refl x traced in
       let k = left_by theirs trace traced.2 in
-      let y = headed_by edge theirs ours held s history stage (Opens edge q size whole broken) server a k.kept all xs x.first h so k.stands x.earlier t in
+      let y = headed_by edge theirs ours held s history stage (OpensTold q size whole broken) server a k.kept all xs x.first h
+      (record { opens = so; minor = minor }) k.stands x.earlier t in
       let p = left_by theirs (e ∷ trace) (subst (λ (st : Step). IsTrace theirs (st ∷ trace)) is traced) in
       let under_way = waits q size whole broken in
       let t1 : Serves edge theirs ours (record { client = k.kept; server = server; under_way = under_way }) stage (s ∷ history) y.all (y.just.newest ∷ y.just.older) =
       subst (Serves edge theirs ours (record { client = k.kept; server = server; under_way = under_way }) stage (s ∷ history) y.all) y.just.are
-      (opened_by q size whole broken server k.kept trace y) in
+      (opened_by (OpensTold q size whole broken) q size whole broken server k.kept trace y y.so.opens) in
       let put : Happenings = record y.all { client = e ∷ y.all.client } in
       let before : e ∷ trace ≡ put.client = ap (λ (m : List Step). e ∷ m) (sym y.client) in
       let t2 = serves_continue edge theirs ours held s history stage q size whole broken k.kept p.kept server y.all y.just.newest y.just.older (begun y.head) y.before
-      y.exchanges_are y.just.unsent y.so.may minor (subst (StandsFor theirs p.kept) before p.stands) (put_brings on.send_continue y.all.client refl refl refl) t1 in
+      y.exchanges_are y.just.unsent y.so.opens.may y.so.minor (subst (StandsFor theirs p.kept) before p.stands) (put_brings on.send_continue y.all.client refl refl refl) t1 in
       let last = none_of x.after put.client x.afterwards in
       let final : more ++ all.client ≡ x.after ++ put.client = whole_is ∙ ap (λ (st : Step). x.after ++ (st ∷ trace)) is ∙ ap (λ (m : List Step). x.after ++ m) before in (
         record put { client = x.after ++ put.client },
@@ -125,9 +130,8 @@ module _ (edge : Edge) (theirs ours : Setting) (held : theirs.hold_size ≡ ours
   owed P head server a b c d owes puts leaves last x =
       let made = headed edge theirs ours held s history stage P server a b puts x in
       let y = made.1 in
-      let Q = Owes edge theirs ours held s history head (size_of 0) in
-      let t0 = closed_as Q b server (y.all, y.xs, owes y.head y.xs y.so y.just, y.is) in
-      let t1 = left_as edge theirs ours held s history stage Q (record { client = b; server = None; under_way = nothing }) c leaves t0 in
+      let t0 = closed_as (Owes edge theirs ours held s history head (size_of 0)) b server (y.all, y.xs, owes y.head y.xs y.so y.just, y.is) in
+      let t1 = left_as edge theirs ours held s history stage (Owes edge theirs ours held s history head (size_of 0)) (record { client = b; server = None; under_way = nothing }) c leaves t0 in
       own_put edge theirs ours held s history stage head (size_of 0) c d last t1
 
   pub served_refusal : (server : Option ClientKept) (a b c d : Kept)
