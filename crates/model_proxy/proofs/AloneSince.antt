@@ -1,11 +1,11 @@
 -- Where a request's answer was read to its end and nothing is left to read, all that came since the request was sent is that answer.
-use Rattle.std.proofs.Common.{◌≡◌, ℕ, ◌≤◌, Bool, true, false, List, [], ◌∷◌, ◌++◌, length, drop, Option, Some, None, refl, sym, ap, ◌∙◌, subst, arith, length-drop, append-nil}
+use Rattle.std.proofs.Common.{◌≡◌, ℕ, true, false, List, [], ◌∷◌, ◌++◌, length, drop, None, sym, ap, ◌∙◌, subst, arith, length-drop, append-nil}
 use Rattle.std.specs.Prelude.{not}
 use Rattle.std.specs.List.{AllByRecursion}
 use Rattle.model_h1.specs.Setting.{Setting}
 use Rattle.model_client.specs.AnswerReading.{Answer, answer_is}
 use Rattle.model_client.specs.AnswerParse.{Received, is_interim}
-use Rattle.model_client.specs.ClientKept.{Waiting, ClientKept, is_free}
+use Rattle.model_client.specs.ClientKept.{ClientKept, is_free}
 use Rattle.model_client.specs.ClientTrace.{IsClientTrace, taken}
 use Rattle.model_client.specs.Parsed.{has_ended, received_of, methods_of}
 use Rattle.model_client.specs.ReadOut.{ReadAnswer, read_out}
@@ -21,7 +21,7 @@ use Rattle.model_proxy.specs.Happenings.{Link, server_of}
 use Rattle.model_proxy.specs.Forwarding.{keeps_open, IsAlone}
 use Rattle.model_proxy.proofs.FoundHanded.{IsPassedOver, is_out}
 use Rattle.model_proxy.proofs.FoundAnswers.{answer_found}
-use Rattle.model_proxy.proofs.EndedAnswers.{IsFoundWhole, ended_is_found, whole_all}
+use Rattle.model_proxy.proofs.EndedAnswers.{ended_is_found, whole_all}
 use Rattle.model_proxy.proofs.AskedSince.{WasAsked, since, since_input, since_within, since_leads}
 
 -- all that came was read

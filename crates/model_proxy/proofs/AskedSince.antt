@@ -1,28 +1,22 @@
 -- What came of a server since the newest request was sent on, and what of it was handed out: the reply that passes that on.
-use Rattle.std.proofs.Common.{◌≡◌, ℕ, ◌+◌, ◌≤◌, Bool, true, false, List, [], ◌∷◌, ◌++◌, length, map, drop, codes, bytes_eq, Option, Some, None, refl, sym, ap, ap₂, ◌∙◌, subst, arith, length-append, length-drop}
+use Rattle.std.proofs.Common.{◌≡◌, ℕ, ◌≤◌, Bool, true, false, List, [], ◌∷◌, ◌++◌, length, drop, Some, None, refl, sym, ap, ap₂, ◌∙◌, subst, arith, length-append, length-drop}
 use Rattle.std.specs.Prelude.{◌||◌}
 use Rattle.std.specs.List.{list_any, AllByRecursion}
-use Rattle.std.proofs.lemmas.List.{map-append}
 use Rattle.model_h1.specs.Setting.{Setting}
-use Rattle.model_h1.specs.Handed.{Item, item_bytes, Begins}
 use Rattle.model_h1.specs.Laws.Exchanges.{AnswerGiven}
-use Rattle.model_client.specs.RequestText.{joined}
 use Rattle.model_client.specs.AnswerReading.{Answer, answer_is}
 use Rattle.model_client.specs.AnswerParse.{Received, is_interim}
 use Rattle.model_client.specs.ClientEvent as asked
 use Rattle.model_client.specs.ClientEvent.{ClientEvent, ClientRequest}
-use Rattle.model_h1.specs.Answer.{BodySize}
-use Rattle.model_client.specs.ClientKept.{Waiting, ClientKept, is_free, waiting_of}
-use Rattle.model_client.specs.ClientTrace.{Happened, IsClientTrace, taken, taken_by, requests_of}
+use Rattle.model_client.specs.ClientKept.{ClientKept, is_free}
+use Rattle.model_client.specs.ClientTrace.{Happened, IsClientTrace, taken}
 use Rattle.model_client.specs.Parsed.{ends_input, has_ended, received_of, methods_of}
 use Rattle.model_client.specs.ReadOut.{ReadAnswer, read_out}
 use Rattle.model_client.proofs.Chain.{Leads}
-use Rattle.model_client.proofs.Holds.{IsBetween}
-use Rattle.model_proxy.specs.Answers.{Found, IsAnswer, reply_head, reply_size}
+use Rattle.model_proxy.specs.Answers.{Found, IsAnswer}
 use Rattle.model_proxy.specs.Past.{ProxyStep, Server, server_at, first_of}
 use Rattle.model_proxy.specs.Exchange.{Exchange, answer_input}
 use Rattle.model_proxy.specs.Happenings.{Link, is_eof, server_of}
-use Rattle.model_proxy.specs.Forwarding.{IsWhole}
 use Rattle.model_proxy.proofs.PlacesKept.{first_all}
 use Rattle.model_proxy.proofs.FoundAnswers.{answer_found}
 use Rattle.model_proxy.proofs.FoundHanded.{IsPassedOver, is_out, IsFoundSo, IsBadReading, IsFoundBad, handed_is_found, handed_is_bad, asked_leads}

@@ -1,23 +1,23 @@
 -- Where no answer comes that could be passed on, or one fails, that is what is found of it; and what a server's connection can't be asked then.
-use Rattle.std.proofs.Common.{◌≡◌, ℕ, ◌≤◌, Bool, true, false, not, ◌&&◌, List, [], ◌∷◌, ◌++◌, length, map, drop, Option, Some, None, is_some, refl, sym, ap, ap₂, ◌∙◌, subst, subst₂, append-nil}
-use Rattle.std.specs.Prelude.{◌||◌, ◌==◌, IsTrue, if◌then◌else◌}
-use Rattle.std.specs.List.{list_any, AllByRecursion}
+use Rattle.std.proofs.Common.{◌≡◌, ℕ, Bool, true, false, not, ◌&&◌, List, [], ◌∷◌, ◌++◌, length, map, Option, Some, None, is_some, refl, sym, ap, ap₂, ◌∙◌, subst, subst₂, append-nil}
+use Rattle.std.specs.Prelude.{◌||◌, ◌==◌, if◌then◌else◌}
+use Rattle.std.specs.List.{list_any}
 use Rattle.std.proofs.lemmas.Bool.{false≢true}
 use Rattle.std.proofs.lemmas.List.Folds.{list_any-append}
 use Rattle.model_h1.specs.HeadPiece.{HasNoHeadPiece}
-use Rattle.model_h1.specs.Request.{Header, Fault}
+use Rattle.model_h1.specs.Request.{Header}
 use Rattle.model_h1.specs.Setting.{Setting}
 use Rattle.model_h1.specs.Event.{BodyFault}
-use Rattle.model_h1.specs.Handed.{Item, item_bytes, item_trailers, item_end, item_fault, item_frame, trailer_items, stop_items, last_items}
+use Rattle.model_h1.specs.Handed.{Item, item_bytes, item_end, item_fault, trailer_items, stop_items, last_items}
 use Rattle.model_h1.specs.Parse.{Stop, ended_at, still_open, broken, cut}
 use Rattle.model_h1.specs.Laws.Exchanges.{Reply}
 use Rattle.model_state.specs.Change.{IsComing}
 use Rattle.model_client.specs.AnswerReading.{Answer, AnswerReading, answer_is, refused}
-use Rattle.model_client.specs.AnswerParse.{Received, is_interim}
+use Rattle.model_client.specs.AnswerParse.{Received}
 use Rattle.model_client.specs.ClientEvent as on
 use Rattle.model_client.specs.ClientEvent.{ClientEvent, ClientEnd, asked, unasked, input_ended, ClientOutcome}
 use Rattle.model_client.specs.ClientKept.{Waiting, ReadingBody, ClientKept, is_free, is_free_of, is_dropped, is_dropped_of, is_waited_for, has_bytes, client_closing, client_allows}
-use Rattle.model_client.specs.ClientStep.{ClientChange, behind_head, without_head, IsUpcoming, IsNext, IsClientStep}
+use Rattle.model_client.specs.ClientStep.{ClientChange, behind_head, IsUpcoming, IsNext, IsClientStep}
 use Rattle.model_client.specs.ClientTrace.{Happened, IsClientTrace, taken, taken_by, requests_of}
 use Rattle.model_client.specs.Parsed.{has_ended, received_of, methods_of}
 use Rattle.model_client.specs.ReadOut.{ReadAnswer, newly_read, ReadOut, reading_out, read_out}
@@ -28,17 +28,17 @@ use Rattle.model_client.proofs.Ended.{trace_ended}
 use Rattle.model_client.proofs.Holds.{waiting_methods}
 use Rattle.model_client.proofs.NextAnswers.{between_of}
 use Rattle.model_proxy.specs.Answers.{bad, fate_of, Found, found_nothing, found_body, IsAnswer}
-use Rattle.model_proxy.specs.Past.{ProxyStep, Server, server_at}
+use Rattle.model_proxy.specs.Past.{ProxyStep, server_at}
 use Rattle.model_proxy.specs.Exchange.{Exchange, answer_input}
 use Rattle.model_proxy.specs.Forwarding.{HasFailed}
 use Rattle.model_proxy.specs.Happenings.{Link, server_of}
-use Rattle.model_proxy.proofs.FoundHanded.{IsFoundSo, is_out, IsBadReading, IsFoundBad}
+use Rattle.model_proxy.proofs.FoundHanded.{IsFoundSo, IsBadReading, IsFoundBad}
 use Rattle.model_proxy.proofs.FoundAnswers.{answer_found}
 use Rattle.model_proxy.proofs.FirstPassed.{head_is_found}
 use Rattle.model_proxy.proofs.EndedAnswers.{nothing_found}
 use Rattle.model_proxy.proofs.AskedSince.{since, since_input, since_within, since_leads, since_found, since_bad}
 use Rattle.model_proxy.proofs.ReadsOn.{is_passed_by}
-use Rattle.model_proxy.proofs.OnLinks.{before_head, answering, AwaitsHead, HasHead, item_on}
+use Rattle.model_proxy.proofs.OnLinks.{before_head, answering, item_on}
 use Rattle.model_proxy.proofs.LinkSteps.{OnLink, asked_on}
 
 -- ---- what may be asked

@@ -1,24 +1,20 @@
 -- A server connection that has read an answer to its end, and of which nothing is left to read: the bytes since the request was sent are that
 -- answer, and no others.
-use Rattle.std.proofs.Common.{◌≡◌, ℕ, ◌+◌, ◌≤◌, Bool, true, false, List, [], ◌∷◌, ◌++◌, length, map, drop, Option, Some, None, MatchOption, option_map, unwrap_or, refl, sym, ap, ◌∙◌, subst, append_assoc, append-nil, arith, length-drop}
-use Rattle.std.specs.Prelude.{⊤}
+use Rattle.std.proofs.Common.{◌≡◌, ℕ, ◌+◌, ◌≤◌, true, false, List, [], ◌∷◌, ◌++◌, length, map, drop, Option, Some, None, MatchOption, option_map, unwrap_or, refl, sym, ap, ◌∙◌, subst, append_assoc, append-nil, arith, length-drop}
 use Rattle.std.specs.List.{AllByRecursion}
 use Rattle.model_h1.specs.HeadPiece.{HasNoHeadPiece}
-use Rattle.model_h1.specs.Parse.{Body, no_content, content, frames, Stop, ended_at, still_open, broken, cut, next_start}
-use Rattle.model_h1.specs.Laws.Moved.{moved_body}
+use Rattle.model_h1.specs.Parse.{Body, no_content, content, frames, ended_at, still_open, broken, cut, next_start}
 use Rattle.model_h1.proofs.MovedLemmas.{moved_next}
 use Rattle.model_client.specs.AnswerReading.{Answer, AnswerReading, answer_is}
-use Rattle.model_client.specs.AnswerParse.{Received, AnswerMessage, is_interim, left_waiting, AreAnswersFrom, AreAnswersIn}
-use Rattle.model_client.specs.ClientTrace.{Happened, taken}
+use Rattle.model_client.specs.AnswerParse.{Received, AnswerMessage, is_interim, left_waiting, AreAnswersFrom}
 use Rattle.model_client.specs.Laws.Moved.{moved_answer}
-use Rattle.model_client.specs.Parsed.{has_ended, received_of, methods_of}
 use Rattle.model_client.specs.ReadOut.{ReadAnswer}
 use Rattle.model_client.proofs.AnswerExistence.{answers_exist_from}
 use Rattle.model_client.proofs.AnswerMoved.{answers_are_of_rest}
 use Rattle.model_client.proofs.Chain.{IsRead, Leads, first_is}
 use Rattle.model_proxy.specs.Answers.{whole_at, Found, found_nothing, found_body, found_by, found_from, IsAnswer}
 use Rattle.model_proxy.proofs.FoundAnswers.{answer_unique}
-use Rattle.model_proxy.proofs.FoundHanded.{Behind, split_at, IsPassedOver, is_out, chosen_later, chosen_here}
+use Rattle.model_proxy.proofs.FoundHanded.{split_at, IsPassedOver, is_out, chosen_later, chosen_here}
 
 -- ---- what was handed out leads to one place
 

@@ -1,22 +1,18 @@
 -- A forwarder that was one so far is one behind a further event.
-use Rattle.std.proofs.Common.{◌≡◌, ◌⊎◌, ℕ, ◌+◌, ◌<◌, ◌≤◌, Bool, true, false, suc, List, [], ◌∷◌, ◌++◌, length, map, filter, reverse, refl, sym, ap, ◌∙◌, subst, arith, inl, inr, Option, Some, None}
-use Rattle.std.specs.Prelude.{⊤, ◌||◌, ◌&&◌, is_some, is_none, option_map}
+use Rattle.std.proofs.Common.{◌≡◌, ℕ, Bool, true, false, List, [], ◌∷◌, length, refl, sym, ap, ◌∙◌, arith, inl, Option}
+use Rattle.std.specs.Prelude.{◌||◌, ◌&&◌, is_some, is_none}
 use Rattle.std.specs.List.{AllByRecursion}
 use Rattle.model_h1.specs.Setting.{Setting}
 use Rattle.model_h1.specs.Event as on
 use Rattle.model_h1.specs.Sums as sums
 use Rattle.model_h1.specs.Sums.{Step}
-use Rattle.model_h1.specs.Laws.Exchanges.{exchanges}
-use Rattle.model_h1.specs.Laws.Exchanges as replies
 use Rattle.model_state.specs.Kept.{Kept}
-use Rattle.model_client.specs.ClientEvent as asked
-use Rattle.model_client.specs.ClientKept.{ClientKept}
 use Rattle.model_proxy.specs.Edge.{Edge}
 use Rattle.model_proxy.specs.Past as past
 use Rattle.model_proxy.specs.Past.{ProxyEvent, ProxyOutcome, ProxyStep, Server, client_bytes, client_written, tick_of, is_client_end, is_refusal, servers_behind, servers, server_at, numbered}
 use Rattle.model_proxy.specs.Exchange.{Exchange}
-use Rattle.model_proxy.specs.Forwarding.{is_there, IsTold, IsFirstOf, IsStep, GoesOn, NewestGoesOn, AllGoOn, IsForwardedSoFar, IsForwarding, behind}
-use Rattle.model_proxy.specs.Happenings.{Request, Link, Happenings}
+use Rattle.model_proxy.specs.Forwarding.{is_there, IsTold, IsFirstOf, NewestGoesOn, AllGoOn, IsForwardedSoFar, IsForwarding, behind}
+use Rattle.model_proxy.specs.Happenings.{Happenings}
 use Rattle.model_proxy.specs.Carried.{ForwarderKept, Carries}
 use Rattle.model_proxy.specs.Moves.{Does}
 use Rattle.model_proxy.proofs.Quiet.{BringsNothing}
@@ -25,7 +21,7 @@ use Rattle.model_proxy.proofs.SoFar.{so_far}
 use Rattle.model_proxy.proofs.SentPlaces.{AreSame, AreOn}
 use Rattle.model_proxy.proofs.PlacesKept.{IsSentBy, sent_by_then, same_later, on_later}
 use Rattle.model_proxy.proofs.Halves.{waiting_in, IsJudged, both_halves}
-use Rattle.model_proxy.proofs.SilentSteps.{IsSilent, silent_exchanges, judged_silent}
+use Rattle.model_proxy.proofs.SilentSteps.{IsSilent, judged_silent}
 use Rattle.model_proxy.proofs.LaterSteps.{Unmoved, judged_later}
 
 -- ---- what holds

@@ -1,19 +1,15 @@
 -- An answer whose head was handed out is passed on as the one that is found.
-use Rattle.std.proofs.Common.{◌≡◌, ℕ, ◌+◌, ◌≤◌, Bool, true, false, cond, List, [], ◌∷◌, ◌++◌, length, codes, bytes_eq, Option, Some, None, refl, sym, ap, ◌∙◌, subst, arith}
-use Rattle.std.specs.Prelude.{◌||◌, if◌then◌else◌}
+use Rattle.std.proofs.Common.{◌≡◌, ℕ, ◌+◌, ◌≤◌, Bool, true, false, cond, List, [], ◌∷◌, length, codes, bytes_eq, Some, None, ap, ◌∙◌, arith}
+use Rattle.std.specs.Prelude.{if◌then◌else◌}
 use Rattle.std.proofs.lemmas.Bool.{false≢true, eqb-true, le-ltb}
-use Rattle.model_h1.specs.Answer.{BodySize, is_at_once}
-use Rattle.model_h1.specs.Handed.{Begins}
+use Rattle.model_h1.specs.Answer.{is_at_once}
 use Rattle.model_h1.specs.Request.{BodyKind, no_body, fixed_body, chunked_body, raw_body}
 use Rattle.model_h1.specs.Parse.{Body, content, ended_at, IsBodyOf}
 use Rattle.model_h1.proofs.BodyGrowth.{fixed_whole}
-use Rattle.model_h1.specs.Laws.Exchanges.{AnswerGiven, answer_given, is_whole}
-use Rattle.model_client.specs.RequestText.{joined}
 use Rattle.model_client.specs.AnswerReading.{Answer}
 use Rattle.model_client.specs.AnswerParse.{Received}
 use Rattle.model_client.specs.ReadOut.{ReadAnswer}
-use Rattle.model_proxy.specs.Answers.{whole_at, Found, found_body, reply_head, reply_size}
-use Rattle.model_proxy.specs.Forwarding.{IsWhole, IsPassedOn}
+use Rattle.model_proxy.specs.Answers.{Found, found_body, reply_size}
 use Rattle.model_proxy.proofs.FoundHanded.{IsFoundSo}
 
 -- ---- a reply that ends with its head

@@ -1,19 +1,19 @@
 -- The answer that a server's bytes hold, when more bytes come: a whole one stays, and one whose head is there goes on.
 use Rattle.std.proofs.Common.{◌≡◌, ℕ, ◌+◌, Bool, true, false, cond, List, [], ◌∷◌, ◌++◌, length, Option, Some, None, MatchOption, refl, sym, ap, ◌∙◌, subst, append-nil}
-use Rattle.std.specs.Prelude.{unwrap_or, ◌||◌, ◌==◌, nat_le, if◌then◌else◌, ⊤}
+use Rattle.std.specs.Prelude.{unwrap_or, ◌||◌, ◌==◌, nat_le, if◌then◌else◌}
 use Rattle.std.specs.List.{AllByRecursion}
 use Rattle.model_h1.specs.Runs.{run_bytes}
 use Rattle.model_h1.specs.Handed.{body_bytes, Begins}
 use Rattle.model_h1.specs.Request.{BodyKind, no_body, fixed_body, chunked_body, raw_body}
-use Rattle.model_h1.specs.Parse.{Input, Body, no_content, content, frames, Stop, ended_at, still_open, broken, cut, next_start, IsBodyOf}
+use Rattle.model_h1.specs.Parse.{Body, no_content, content, frames, Stop, ended_at, still_open, broken, cut, next_start, IsBodyOf}
 use Rattle.model_h1.specs.Runs.{Run}
 use Rattle.model_h1.specs.Laws.Growth.{BodyGrows}
 use Rattle.model_client.specs.AnswerTable.{body_to}
 use Rattle.model_client.specs.AnswerReading.{Answer, AnswerReading, answer_is, refused}
-use Rattle.model_client.specs.AnswerParse.{Received, AnswerMessage, is_interim, IsAnswerBody, left_waiting, AreAnswersFrom, AreAnswersIn}
+use Rattle.model_client.specs.AnswerParse.{Received, AnswerMessage, is_interim, IsAnswerBody, left_waiting, AreAnswersFrom}
 use Rattle.model_client.specs.Laws.Growth.{AnswersGrow}
 use Rattle.model_client.proofs.AnswerGrowth.{answers_stay}
-use Rattle.model_proxy.specs.Answers.{Fate, unfinished, bad, whole_at, Found, is_given_up, found_bad, fate_of, found_body, found_by, found_from, IsAnswer}
+use Rattle.model_proxy.specs.Answers.{unfinished, bad, whole_at, Found, is_given_up, found_bad, fate_of, found_body, found_by, found_from, IsAnswer}
 
 -- ---- what stays
 

@@ -1,6 +1,6 @@
 -- What a server's connection handed out since a request was sent is the answer that its bytes since then hold.
 use Rattle.std.proofs.Common.{◌≡◌, ℕ, ◌+◌, ◌-◌, ◌<◌, ◌≤◌, Bool, true, false, cond, List, [], ◌∷◌, ◌++◌, length, map, drop, reverse, flat_map, Option, Some, None, MatchOption, option_map, unwrap_or, refl, sym, ap, ◌∙◌, subst, append_assoc, arith, length-drop}
-use Rattle.std.specs.Prelude.{◌||◌, ◌==◌, nat_le, if◌then◌else◌, ⊤}
+use Rattle.std.specs.Prelude.{◌||◌, ◌==◌, if◌then◌else◌, ⊤}
 use Rattle.std.specs.List.{AllByRecursion}
 use Rattle.std.proofs.lemmas.Bool.{false≢true, le-leb}
 use Rattle.std.proofs.lemmas.Grind.{reverse_onto}
@@ -9,7 +9,7 @@ use Rattle.model_h1.specs.Runs.{Run}
 use Rattle.model_h1.specs.Setting.{Setting}
 use Rattle.model_h1.specs.Request.{too_large}
 use Rattle.model_h1.specs.Parse.{Body, no_content, content, frames, Stop, ended_at, still_open, broken, cut, next_start, IsBodyOf}
-use Rattle.model_h1.specs.Handed.{Item, item_bytes, AreItemsOf, body_bytes, last_items, Begins}
+use Rattle.model_h1.specs.Handed.{Item, item_bytes, body_bytes, last_items, Begins}
 use Rattle.model_h1.specs.Laws.Moved.{moved_body}
 use Rattle.model_h1.proofs.MovedLemmas.{moved_next}
 use Rattle.model_h1.proofs.RunLemmas.{run_bytes_shifted}

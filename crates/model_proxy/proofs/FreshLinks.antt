@@ -1,5 +1,5 @@
 -- A server connection on which nothing was asked, and of which nothing is left to read: nothing came of it.
-use Rattle.std.proofs.Common.{◌≡◌, ℕ, ◌≤◌, Bool, false, List, [], ◌∷◌, ◌++◌, length, drop, map, true, Option, Some, None, refl, sym, ap, ◌∙◌, subst, append-nil}
+use Rattle.std.proofs.Common.{◌≡◌, ℕ, List, [], ◌∷◌, ◌++◌, drop, map, true, Some, None, refl, sym, ap, ◌∙◌, subst, append-nil}
 use Rattle.model_h1.specs.Setting.{Setting}
 use Rattle.model_client.specs.AnswerParse.{Received}
 use Rattle.model_client.specs.ClientKept.{ClientKept, Waiting, is_free}
@@ -8,7 +8,7 @@ use Rattle.model_client.specs.Parsed.{has_ended, methods_of}
 use Rattle.model_client.specs.ReadOut.{ReadAnswer, read_out}
 use Rattle.model_client.proofs.AllHappened.{holds_now}
 use Rattle.model_client.proofs.Chain.{Leads}
-use Rattle.model_client.proofs.Holds.{waiting_methods, IsBetween}
+use Rattle.model_client.proofs.Holds.{waiting_methods}
 use Rattle.model_client.proofs.NextAnswers.{between_of}
 
 record IsNowhere (outs : List ReadAnswer) (place : ℕ) (left : List (List ℕ)) : Type 0 where

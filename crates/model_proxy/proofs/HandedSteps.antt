@@ -1,10 +1,8 @@
 -- What the steps of a server's connection make of the answer to the last request on it, by what they hand out.
-use Rattle.std.proofs.Common.{◌≡◌, ℕ, Bool, true, false, List, [], ◌∷◌, ◌++◌, length, Option, Some, None, refl, sym, ap, ◌∙◌, subst, append_assoc}
-use Rattle.std.specs.Prelude.{⊤, ◌||◌, ◌==◌, if◌then◌else◌}
+use Rattle.std.proofs.Common.{◌≡◌, ℕ, Bool, true, false, List, [], ◌∷◌, ◌++◌, Option, Some, None, refl, sym, ap, ◌∙◌, subst, append_assoc}
+use Rattle.std.specs.Prelude.{if◌then◌else◌}
 use Rattle.std.specs.List.{AllByRecursion}
-use Rattle.std.proofs.lemmas.Bool.{false≢true}
 use Rattle.model_h1.specs.Setting.{Setting}
-use Rattle.model_h1.specs.Event.{BodyFault}
 use Rattle.model_h1.specs.Handed.{Item}
 use Rattle.model_h1.specs.Laws.Exchanges.{Reply, with_piece}
 use Rattle.model_client.specs.AnswerReading.{Answer}

@@ -1,5 +1,5 @@
 -- What holds of replies and answers holds behind a further step by which nothing came of a server.
-use Rattle.std.proofs.Common.{◌≡◌, ◌⊎◌, ℕ, ◌+◌, ◌<◌, ◌≤◌, Bool, true, false, cond, suc, List, [], ◌∷◌, ◌++◌, length, filter, reverse, drop, refl, sym, ap, ap₂, ◌∙◌, subst, arith, inl, inr, Option, Some, None}
+use Rattle.std.proofs.Common.{◌≡◌, ◌⊎◌, ℕ, ◌<◌, ◌≤◌, Bool, true, false, cond, suc, List, [], ◌∷◌, ◌++◌, length, filter, reverse, drop, refl, sym, ap, ap₂, ◌∙◌, subst, inl, inr, Option, Some, None}
 use Rattle.std.specs.List.{AllByRecursion}
 use Rattle.std.proofs.lemmas.List.{reverse-append}
 use Rattle.std.proofs.lemmas.Bool.{false≢true}
@@ -13,8 +13,8 @@ use Rattle.model_proxy.specs.Judged.{is_refused}
 use Rattle.model_proxy.specs.Forward.{is_forwardable}
 use Rattle.model_proxy.specs.Answers.{whole_at, IsAnswer}
 use Rattle.model_proxy.specs.Past.{ProxyStep, Server, servers, server_at, first_of}
-use Rattle.model_proxy.specs.Exchange.{Exchange, is_on, first_sent, until, answer_input}
-use Rattle.model_proxy.specs.Forwarding.{IsReplyBy, IsReply, AreReplies, IsAlone, IsAloneBefore, IsAloneOn, AreAlone, IsCleanAtFirst, IsUsed, IsUsedBefore, HasFailed}
+use Rattle.model_proxy.specs.Exchange.{Exchange, is_on, first_sent, answer_input}
+use Rattle.model_proxy.specs.Forwarding.{IsReplyBy, IsReply, AreReplies, IsAloneBefore, IsAloneOn, AreAlone, IsCleanAtFirst, IsUsed, HasFailed}
 use Rattle.model_proxy.proofs.PlacesKept.{first_before, first_all, IsSentBy}
 use Rattle.model_proxy.proofs.Halves.{IsJudged}
 

@@ -1,5 +1,5 @@
 -- What a forwarder does behind its event, turn by turn, belongs to the step of that event.
-use Rattle.std.proofs.Common.{◌≡◌, ◌⊎◌, ℕ, ◌+◌, Bool, true, false, List, [], ◌∷◌, ◌++◌, length, refl, sym, ap, ◌∙◌, subst, append_assoc, inl, inr, Option, Some, None, is_some}
+use Rattle.std.proofs.Common.{◌≡◌, ◌⊎◌, ℕ, ◌+◌, true, false, List, [], ◌∷◌, ◌++◌, length, sym, ap, ◌∙◌, subst, append_assoc, inl, inr, Option, Some, None, is_some}
 use Rattle.std.specs.Prelude.{⊤}
 use Rattle.std.specs.List.{AllByRecursion}
 use Rattle.model_h1.specs.Setting.{Setting}
@@ -8,7 +8,7 @@ use Rattle.model_proxy.specs.Edge.{Edge}
 use Rattle.model_proxy.specs.Past as past
 use Rattle.model_proxy.specs.Past.{ProxyEvent, ProxyOutcome, ProxyStep, servers}
 use Rattle.model_proxy.specs.Exchange.{Exchange}
-use Rattle.model_proxy.specs.Forwarding.{is_there, BeginsWith, IsTold, IsStep, IsSentNow, GoesOn, IsNew, NewestGoesOn, AllGoOn, IsForwardedSoFar, IsForwarding, behind}
+use Rattle.model_proxy.specs.Forwarding.{is_there, BeginsWith, IsTold, IsStep, IsSentNow, IsNew, NewestGoesOn, AllGoOn, IsForwardedSoFar, IsForwarding, behind}
 
 -- ---- what a turn makes of the requests
 

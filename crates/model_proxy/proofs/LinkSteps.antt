@@ -1,12 +1,10 @@
 -- The last request on a server connection, where it was asked and how far its answer is, as more happens on the connection.
-use Rattle.std.proofs.Common.{◌≡◌, ◌⊎◌, ℕ, ◌+◌, ◌≤◌, Bool, true, false, List, [], ◌∷◌, ◌++◌, length, map, filter, reverse, refl, sym, ap, ◌∙◌, subst, append_assoc, append-nil, arith, inl, inr, Option, Some, None}
-use Rattle.std.specs.Prelude.{⊤, IsTrue}
-use Rattle.std.specs.List.{list_any, AllByRecursion}
+use Rattle.std.proofs.Common.{◌≡◌, ℕ, ◌≤◌, true, false, List, [], ◌∷◌, ◌++◌, length, map, refl, sym, ap, ◌∙◌, subst, append_assoc, append-nil, arith, None}
+use Rattle.std.specs.Prelude.{IsTrue}
+use Rattle.std.specs.List.{AllByRecursion}
 use Rattle.model_h1.specs.Setting.{Setting}
 use Rattle.model_h1.specs.Laws.Exchanges.{Reply, no_reply, answer_given, session}
-use Rattle.model_h1.specs.Laws.Exchanges as replies
 use Rattle.model_client.specs.AnswerReading.{Answer}
-use Rattle.model_client.specs.AnswerParse.{is_interim}
 use Rattle.model_client.specs.ClientEvent as asked
 use Rattle.model_client.specs.ClientKept.{Waiting, ClientKept, is_free, client_allows}
 use Rattle.model_client.specs.ClientStep.{IsClientStep}
@@ -15,14 +13,13 @@ use Rattle.model_client.specs.Parsed.{methods_of}
 use Rattle.model_client.specs.ReadOut.{read_out}
 use Rattle.model_client.proofs.OneStep.{one_state}
 use Rattle.model_proxy.specs.Forward.{Sent}
-use Rattle.model_proxy.specs.Past.{ProxyStep, Server, servers, numbered, server_at, first_of}
+use Rattle.model_proxy.specs.Past.{ProxyStep, servers, numbered, server_at, first_of}
 use Rattle.model_proxy.specs.Exchange.{Exchange}
 use Rattle.model_proxy.specs.Forwarding.{IsAlone}
 use Rattle.model_proxy.specs.Happenings.{Link, server_of}
-use Rattle.model_proxy.proofs.SentPlaces.{numbered_link, link_at, newest_link}
+use Rattle.model_proxy.proofs.SentPlaces.{numbered_link, newest_link}
 use Rattle.model_proxy.proofs.PlacesKept.{first_before}
-use Rattle.model_proxy.proofs.MovedSteps.{PassesOn, IsPassedReply}
-use Rattle.model_proxy.proofs.PiecesPut.{IsPutOf}
+use Rattle.model_proxy.proofs.MovedSteps.{IsPassedReply}
 use Rattle.model_proxy.proofs.AskedSince.{WasAsked, since_passed}
 use Rattle.model_proxy.proofs.AloneSince.{since_alone}
 use Rattle.model_proxy.proofs.ReadsOn.{drops, fails, free_passes, stays_so}

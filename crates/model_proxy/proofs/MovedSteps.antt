@@ -1,5 +1,5 @@
 -- What holds of replies holds behind a step by which more came of one server connection, or the end of its input.
-use Rattle.std.proofs.Common.{◌≡◌, ℕ, ◌<◌, ◌≤◌, Bool, true, false, eqb, suc, List, [], ◌∷◌, ◌++◌, length, filter, drop, refl, sym, ap, ap₂, ◌∙◌, subst, append_assoc, inl, inr, Option, Some, None}
+use Rattle.std.proofs.Common.{◌≡◌, ℕ, ◌<◌, ◌≤◌, Bool, true, false, eqb, suc, List, [], ◌∷◌, ◌++◌, length, filter, drop, refl, sym, ap, ap₂, ◌∙◌, subst, append_assoc, inl, Option, Some, None}
 use Rattle.std.specs.Prelude.{⊤, is_some}
 use Rattle.std.specs.List.{AllByRecursion}
 use Rattle.std.proofs.lemmas.Bool.{false≢true, eqb-true, eqb-false}

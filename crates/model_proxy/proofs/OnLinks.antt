@@ -1,5 +1,5 @@
 -- What a server's connection handed out of the answer to the last request that was asked on it, and what of that was put: step by step.
-use Rattle.std.proofs.Common.{◌≡◌, ◌⊎◌, ℕ, Bool, true, false, not, List, [], ◌∷◌, ◌++◌, length, bytes_eq, codes, Option, Some, None, refl, sym, ap, ◌∙◌, subst, inl, inr, append-nil}
+use Rattle.std.proofs.Common.{◌≡◌, ◌⊎◌, ℕ, Bool, true, false, not, List, [], ◌∷◌, ◌++◌, length, Option, Some, None, refl, sym, ap, ◌∙◌, subst, inl, inr, append-nil}
 use Rattle.std.specs.Prelude.{⊤, IsTrue, ◌==◌}
 use Rattle.std.specs.List.{AllByRecursion}
 use Rattle.std.proofs.lemmas.Bool.{false≢true}
@@ -8,21 +8,20 @@ use Rattle.model_h1.specs.Setting.{Setting}
 use Rattle.model_h1.specs.Event as server
 use Rattle.model_h1.specs.Handed.{Item, item_bytes, item_trailers, item_end}
 use Rattle.model_h1.specs.Laws.Exchanges.{Reply, no_reply, answer_given, session, with_piece, with_end}
-use Rattle.model_state.specs.Pull.{Pulled}
 use Rattle.model_client.specs.AnswerTable.{body_to}
 use Rattle.model_client.specs.AnswerReading.{Answer, AnswerReading, answer_is, refused}
 use Rattle.model_client.specs.AnswerParse.{is_interim}
 use Rattle.model_client.specs.ClientEvent as on
 use Rattle.model_client.specs.ClientEvent.{ClientEvent, ClientEnd, ClientOutcome}
-use Rattle.model_client.specs.ClientKept.{Waiting, ClientKept, is_free, is_dropped, client_closing, client_allows}
-use Rattle.model_client.specs.ClientStep.{ClientChange, outcome_of, IsPulling, behind_head, without_head, IsUpcoming, IsNext, IsClientChange, IsClientStep}
+use Rattle.model_client.specs.ClientKept.{Waiting, ClientKept, is_free, client_closing, client_allows}
+use Rattle.model_client.specs.ClientStep.{ClientChange, outcome_of, IsPulling, behind_head, IsUpcoming, IsNext, IsClientChange, IsClientStep}
 use Rattle.model_client.specs.ClientKept.{ReadingBody}
 use Rattle.model_client.specs.ClientTrace.{Happened, IsClientTrace, requests_by, answers_one}
 use Rattle.model_client.specs.ReadOut.{ReadAnswer, newly_read, ReadOut, with_item_of, with_item, reading_out, read_out}
 use Rattle.model_client.proofs.Answered.{told_without, answered}
 use Rattle.model_proxy.specs.Answers.{says_close}
 use Rattle.model_proxy.proofs.FoundHanded.{IsPassedOver, is_out}
-use Rattle.model_proxy.proofs.PiecesPut.{bytes_in, has_end, bytes_more, end_stays, end_comes, PutsOn, IsPutOf}
+use Rattle.model_proxy.proofs.PiecesPut.{bytes_in, has_end, bytes_more, end_stays, end_comes, IsPutOf}
 use Rattle.model_proxy.proofs.ReadsOn.{KeepsOn, drops, fails, is_passed_by, free_passes, StaysSo, busy, stays_so, end_pulls, waits_same, headed}
 
 -- ---- which event it was

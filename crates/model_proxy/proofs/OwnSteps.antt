@@ -1,5 +1,5 @@
 -- What a server's connection does of a forwarder's own between two events: it is asked for the next answer, or more of a body, or told the time.
-use Rattle.std.proofs.Common.{◌≡◌, ℕ, Bool, true, false, List, [], ◌∷◌, ◌++◌, length, map, Option, Some, None, refl, sym, ap, ◌∙◌, subst}
+use Rattle.std.proofs.Common.{◌≡◌, ℕ, Bool, true, false, List, [], ◌∷◌, ◌++◌, length, Option, Some, None, refl, ap, ◌∙◌}
 use Rattle.std.specs.Prelude.{◌==◌}
 use Rattle.std.specs.List.{AllByRecursion}
 use Rattle.std.proofs.lemmas.Bool.{false≢true}
@@ -9,10 +9,9 @@ use Rattle.model_client.specs.AnswerReading.{AnswerReading, answer_is, refused}
 use Rattle.model_client.specs.ClientEvent as on
 use Rattle.model_client.specs.ClientEvent.{ClientEvent, ClientEnd, ClientOutcome}
 use Rattle.model_client.specs.ClientKept.{Waiting, ReadingBody, ClientKept, client_closing}
-use Rattle.model_client.specs.ClientStep.{ClientChange, outcome_of, IsPulling, behind_head, without_head, IsUpcoming, IsNext, IsClientChange, IsClientStep}
-use Rattle.model_client.specs.ClientTrace.{Happened, IsClientTrace, given, taken_by, text_of_event, sending_after, requests_by, now_of, sending_of}
+use Rattle.model_client.specs.ClientStep.{ClientChange, outcome_of, IsPulling, behind_head, IsUpcoming, IsNext, IsClientStep}
+use Rattle.model_client.specs.ClientTrace.{Happened, IsClientTrace, given}
 use Rattle.model_client.proofs.Answered.{told_without}
-use Rattle.model_proxy.specs.Happenings.{is_eof}
 use Rattle.model_proxy.specs.Moves.{IsQuiet}
 use Rattle.model_proxy.proofs.Quiet.{quiet}
 use Rattle.model_proxy.proofs.OnLinks.{AddsLittle}

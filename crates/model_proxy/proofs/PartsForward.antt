@@ -1,6 +1,6 @@
 -- A forwarder that is one behind an event is one behind each part of a reply: its head, a piece of its body, its end; and where its client is
 -- told to go on.
-use Rattle.std.proofs.Common.{◌≡◌, ℕ, Bool, true, false, List, [], ◌∷◌, ◌++◌, length, refl, sym, ap, ◌∙◌, subst, Option, Some, None}
+use Rattle.std.proofs.Common.{◌≡◌, ℕ, Bool, true, false, List, [], ◌∷◌, length, refl, sym, ap, ◌∙◌, subst, Option, Some}
 use Rattle.std.specs.Prelude.{not, ◌&&◌, ◌==◌}
 use Rattle.std.specs.List.{AllByRecursion}
 use Rattle.std.proofs.lemmas.Bool.{false≢true}
@@ -8,7 +8,7 @@ use Rattle.model_h1.specs.Setting.{Setting}
 use Rattle.model_h1.specs.Answer.{AnswerHead, BodySize, size_of}
 use Rattle.model_h1.specs.Event as on
 use Rattle.model_h1.specs.Sums.{Step, is_drain, is_body_error, is_draining, now}
-use Rattle.model_h1.specs.Laws.Exchanges.{AnswerGiven, Reply, answer_given, Exchange, exchanges, changed_by, newly_given, with_piece, with_end}
+use Rattle.model_h1.specs.Laws.Exchanges.{AnswerGiven, answer_given, Exchange, exchanges, changed_by, newly_given, with_piece, with_end}
 use Rattle.model_state.specs.Kept.{Kept}
 use Rattle.model_state.specs.StandsFor.{StandsFor}
 use Rattle.model_proxy.specs.Edge.{Edge}

@@ -1,5 +1,5 @@
 -- A reply whose pieces are those that were handed out passes on the answer that is found.
-use Rattle.std.proofs.Common.{◌≡◌, ◌⊎◌, ℕ, ◌<◌, Bool, true, false, List, [], ◌∷◌, ◌++◌, length, map, codes, bytes_eq, Some, refl, sym, ap, ap₂, ◌∙◌, subst, inl, inr, arith}
+use Rattle.std.proofs.Common.{◌≡◌, ◌⊎◌, ℕ, ◌<◌, Bool, true, false, List, [], ◌∷◌, ◌++◌, length, map, codes, bytes_eq, refl, sym, ap, ap₂, ◌∙◌, subst, inl, inr, arith}
 use Rattle.std.specs.Prelude.{◌||◌, ⊤}
 use Rattle.std.specs.List.{AllByRecursion}
 use Rattle.std.proofs.lemmas.Bool.{false≢true}
@@ -9,7 +9,7 @@ use Rattle.model_h1.specs.Handed.{Item, item_bytes, item_trailers, item_end, ite
 use Rattle.model_h1.specs.Runs.{Run}
 use Rattle.model_h1.specs.Request.{Header, BodyKind, no_body}
 use Rattle.model_h1.specs.Parse.{Body, content, Stop, ended_at, still_open, broken, cut, IsBodyOf}
-use Rattle.model_h1.specs.Laws.Exchanges.{AnswerGiven, Reply, no_reply, answer_given, session, is_whole}
+use Rattle.model_h1.specs.Laws.Exchanges.{AnswerGiven, Reply, no_reply, answer_given, session}
 use Rattle.model_client.specs.RequestText.{joined}
 use Rattle.model_client.specs.AnswerTable.{body_to}
 use Rattle.model_client.specs.AnswerReading.{Answer}

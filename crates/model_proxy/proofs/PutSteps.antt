@@ -1,5 +1,5 @@
 -- Which steps of a client's connection put a part of a reply, leave the rest of a body, or hand out a head.
-use Rattle.std.proofs.Common.{◌≡◌, ◌⊎◌, ℕ, Bool, true, false, List, [], ◌∷◌, ◌++◌, Option, Some, None, refl, sym, ap, ◌∙◌, subst}
+use Rattle.std.proofs.Common.{◌≡◌, Bool, true, false, List, [], ◌∷◌, ◌++◌, Option, Some, None, refl, sym, ap, ◌∙◌, subst}
 use Rattle.std.specs.Prelude.{slice_get}
 use Rattle.model_h1.specs.Setting.{Setting}
 use Rattle.model_h1.specs.Event as on
@@ -16,7 +16,6 @@ use Rattle.model_h1.specs.Trace.{IsTrace}
 use Rattle.model_proxy.specs.Parts.{Part, begins, continues, ends, breaks_off, goes_on, hands, takes, takes_end, request_breaks, leaves_rest, has_closed, other_event, parts_told, parts_by}
 use Rattle.model_proxy.specs.Moves.{HasBrought}
 use Rattle.model_proxy.proofs.Quiet.{brought, done_brings_nothing}
-use Rattle.model_proxy.proofs.SilentSteps.{IsSilent}
 use Rattle.model_proxy.proofs.PartSteps.{BringsSo, nothing_told, never_none, PutsOne}
 
 -- ---- which step a part is

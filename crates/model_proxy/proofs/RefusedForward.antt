@@ -1,5 +1,5 @@
 -- A forwarder that was one so far is one behind a step that says that no server connection can be had.
-use Rattle.std.proofs.Common.{◌≡◌, ◌⊎◌, ℕ, ◌≤◌, Bool, true, false, cond, List, [], ◌∷◌, length, filter, reverse, refl, sym, ap, ◌∙◌, subst, arith, inl, inr, Option, Some, None}
+use Rattle.std.proofs.Common.{◌≡◌, ◌⊎◌, ℕ, Bool, true, false, cond, List, [], ◌∷◌, length, filter, reverse, refl, sym, ap, ◌∙◌, subst, arith, inl, inr, Option, Some, None}
 use Rattle.std.specs.Prelude.{◌||◌, ◌&&◌, is_none}
 use Rattle.model_h1.specs.Setting.{Setting}
 use Rattle.model_h1.specs.Answer.{BodySize}
@@ -12,12 +12,12 @@ use Rattle.model_client.specs.ClientKept.{ClientKept}
 use Rattle.model_proxy.specs.Edge.{Edge}
 use Rattle.model_proxy.specs.Past as past
 use Rattle.model_proxy.specs.Past.{ProxyStep, Server, servers, server_at, now, first_of}
-use Rattle.model_proxy.specs.Exchange.{Exchange, is_on, first_sent, until}
-use Rattle.model_proxy.specs.Forwarding.{IsReply, AreReplies, IsAloneBefore, IsCleanAtFirst, IsUsed, HasFailed, AllGoOn, behind}
-use Rattle.model_proxy.specs.Happenings.{Request, Link, Happenings}
+use Rattle.model_proxy.specs.Exchange.{Exchange, is_on, first_sent}
+use Rattle.model_proxy.specs.Forwarding.{IsReply, AreReplies, IsAloneBefore, IsCleanAtFirst, IsUsed, HasFailed, behind}
+use Rattle.model_proxy.specs.Happenings.{Request, Happenings}
 use Rattle.model_proxy.specs.Carried.{ForwarderKept, nothing, waits, IsIdle, IsWaiting}
 use Rattle.model_proxy.proofs.Events.{refused_leaves, refused_at}
-use Rattle.model_proxy.proofs.SentPlaces.{IsPlaced, AreSame, AreOn}
+use Rattle.model_proxy.proofs.SentPlaces.{IsPlaced, AreSame}
 use Rattle.model_proxy.proofs.PlacesKept.{sent_by_then, same_later, on_later, same_refused, on_refused}
 use Rattle.model_proxy.proofs.Halves.{waiting_in, IsJudged, both_halves}
 use Rattle.model_proxy.proofs.LaterSteps.{judged_later}

@@ -1,7 +1,6 @@
 -- What holds of replies and answers holds where a turn sends the newest request on.
-use Rattle.std.proofs.Common.{◌≡◌, ◌⊎◌, ℕ, ◌+◌, ◌<◌, Bool, true, false, cond, eqb, List, [], ◌∷◌, ◌++◌, length, filter, reverse, refl, sym, ap, ◌∙◌, subst, append-nil, Option, Some, None}
+use Rattle.std.proofs.Common.{◌≡◌, ℕ, Bool, true, false, cond, eqb, List, [], ◌∷◌, ◌++◌, length, filter, reverse, refl, sym, ap, ◌∙◌, subst, append-nil, Option, Some, None}
 use Rattle.std.specs.Prelude.{⊤}
-use Rattle.std.specs.List.{AllByRecursion}
 use Rattle.std.proofs.lemmas.Bool.{eqb-true}
 use Rattle.std.proofs.lemmas.List.{reverse-append}
 use Rattle.std.proofs.lemmas.List.Elements.{filter-append}
@@ -10,7 +9,7 @@ use Rattle.model_h1.specs.Sums.{Step}
 use Rattle.model_h1.specs.Laws.Exchanges.{Reply, no_reply, exchanges}
 use Rattle.model_h1.specs.Laws.Exchanges as replies
 use Rattle.model_proxy.specs.Edge.{Edge}
-use Rattle.model_proxy.specs.Past.{ProxyStep, Server, servers, server_at}
+use Rattle.model_proxy.specs.Past.{ProxyStep, Server, server_at}
 use Rattle.model_proxy.specs.Exchange.{Exchange, is_on, first_sent, until}
 use Rattle.model_proxy.specs.Forwarding.{IsReply, AreReplies, IsAlone, IsAloneBefore, IsAloneOn, AreAlone, IsCleanAtFirst, IsUsed, HasFailed}
 use Rattle.model_proxy.proofs.PlacesKept.{first_all, sent_now}

@@ -1,20 +1,20 @@
 -- The requests as the theorem has them, where each was sent and when, are those of all that happened; what that gives of what went to each server.
-use Rattle.std.proofs.Common.{◌≡◌, ◌⊎◌, ℕ, ◌+◌, ◌<◌, ◌≤◌, Bool, true, false, cond, eqb, suc, List, [], ◌∷◌, ◌++◌, length, map, filter, reverse, flat_map, refl, sym, ap, ◌∙◌, subst, arith, inl, inr, Option, Some, None, append-nil}
+use Rattle.std.proofs.Common.{◌≡◌, ◌⊎◌, ℕ, ◌+◌, ◌<◌, ◌≤◌, Bool, true, false, cond, eqb, suc, List, [], ◌∷◌, ◌++◌, length, map, reverse, flat_map, refl, sym, ap, ◌∙◌, subst, arith, inl, inr, Option, Some, None, append-nil}
 use Rattle.std.specs.Prelude.{⊤, option_map}
 use Rattle.std.specs.List.{AllByRecursion}
-use Rattle.std.proofs.lemmas.Bool.{false≢true, eqb-true, eqb-false, eq-eqb}
+use Rattle.std.proofs.lemmas.Bool.{eqb-true, eqb-false, eq-eqb}
 use Rattle.std.proofs.lemmas.List.{reverse-append, length-map}
 use Rattle.std.proofs.lemmas.List.Concat.{flat_map-append}
 use Rattle.model_h1.specs.Handed.{Begins}
 use Rattle.model_h1.specs.Setting.{Setting}
 use Rattle.model_client.specs.ClientKept.{ClientKept}
-use Rattle.model_client.specs.ClientTrace.{Happened, IsClientTrace, written}
+use Rattle.model_client.specs.ClientTrace.{written}
 use Rattle.model_proxy.specs.Edge.{Edge}
 use Rattle.model_proxy.specs.Forward.{is_forwardable, Sent, forward}
-use Rattle.model_proxy.specs.Past.{ProxyStep, Server, new_server, numbered, servers, server_at, now, first_of}
-use Rattle.model_proxy.specs.Exchange.{Pulled, Exchange, pulled, sent_on}
+use Rattle.model_proxy.specs.Past.{ProxyStep, Server, numbered, servers, server_at, now, first_of}
+use Rattle.model_proxy.specs.Exchange.{Pulled, Exchange, sent_on}
 use Rattle.model_proxy.specs.Forwarding.{IsGiven, IsGivenTo, AreWholeButLast, IsSentRightly}
-use Rattle.model_proxy.specs.Happenings.{Request, Link, Happenings, text_sent, AreWhole, AreWholeBehind, IsRightlySent, server_of, IsLink, AreSums, AreSent}
+use Rattle.model_proxy.specs.Happenings.{Request, Link, Happenings, text_sent, AreWhole, AreWholeBehind, IsRightlySent, server_of, IsLink}
 use Rattle.model_proxy.specs.Carried.{ForwarderKept, IsServer, Carries}
 use Rattle.model_proxy.proofs.Given.{given_and_waiting, given_begins}
 

@@ -1,10 +1,8 @@
 -- A forwarder that served its client by all that happened so far; and what its two connections do between two events.
-use Rattle.std.proofs.Common.{◌≡◌, ◌⊎◌, ℕ, Bool, true, false, List, [], ◌∷◌, ◌++◌, length, refl, sym, ap, ◌∙◌, subst, append_assoc, inl, inr, Option, Some, None}
+use Rattle.std.proofs.Common.{◌≡◌, ◌⊎◌, List, [], ◌∷◌, ◌++◌, length, refl, sym, ap, ◌∙◌, subst, append_assoc, inl, inr, Option, Some, None}
 use Rattle.std.specs.Prelude.{⊤}
-use Rattle.std.specs.List.{AllByRecursion}
 use Rattle.model_h1.specs.Setting.{Setting}
 use Rattle.model_h1.specs.Event as on
-use Rattle.model_h1.specs.Past.{ParsedStep}
 use Rattle.model_h1.specs.Sums.{Step}
 use Rattle.model_h1.specs.Trace.{IsTrace}
 use Rattle.model_h1.specs.Laws.Exchanges.{exchanges}
@@ -25,7 +23,7 @@ use Rattle.model_proxy.specs.Parts.{Part, leaves_rest, parts_of, Handed, handed_
 use Rattle.model_proxy.proofs.Quiet.{pending_brings_nothing}
 use Rattle.model_proxy.proofs.SentPlaces.{IsSame, AreSame}
 use Rattle.model_proxy.proofs.EventsForward.{judged_now}
-use Rattle.model_proxy.proofs.PartSteps.{AllBring, none_of, PutsOne, puts_one, brings_one, part_traced, BringsSo}
+use Rattle.model_proxy.proofs.PartSteps.{AllBring, none_of, puts_one, brings_one, part_traced, BringsSo}
 use Rattle.model_proxy.proofs.PutSteps.{event_of, step_of, drop_brings}
 use Rattle.model_proxy.proofs.OnLinks.{Stage}
 use Rattle.model_proxy.proofs.OwnSteps.{own_quiet}

@@ -1,34 +1,27 @@
 -- A forwarder that served its client so far does so behind each turn that puts a reply of its own, or cuts one.
-use Rattle.std.proofs.Common.{◌≡◌, ◌⊎◌, ℕ, ◌<◌, Bool, true, false, List, [], ◌∷◌, ◌++◌, length, map, refl, sym, ap, ◌∙◌, subst, append_assoc, inl, inr, Option, Some, None}
-use Rattle.std.specs.Prelude.{⊤, ◌||◌, ◌==◌}
-use Rattle.std.specs.List.{AllByRecursion}
-use Rattle.std.proofs.lemmas.Bool.{false≢true}
+use Rattle.std.proofs.Common.{◌≡◌, ◌⊎◌, ℕ, ◌<◌, Bool, true, false, List, [], ◌∷◌, ◌++◌, length, map, refl, sym, ap, ◌∙◌, subst, inl, inr, Some, None}
+use Rattle.std.specs.Prelude.{⊤}
 use Rattle.model_h1.specs.Setting.{Setting}
 use Rattle.model_h1.specs.Answer.{AnswerHead, BodySize, size_of}
 use Rattle.model_h1.specs.Event as on
 use Rattle.model_h1.specs.Event.{BodyFault}
-use Rattle.model_h1.specs.Request.{Fault}
-use Rattle.model_h1.specs.Sums.{Step, is_draining, now}
+use Rattle.model_h1.specs.Sums.{is_draining, now}
 use Rattle.model_h1.specs.Laws.Exchanges.{AnswerGiven, Reply, answer_given, exchanges}
-use Rattle.model_h1.specs.Laws.Exchanges as replies
 use Rattle.model_state.specs.Kept.{Kept}
-use Rattle.model_state.specs.StandsFor.{StandsFor}
-use Rattle.model_client.specs.AnswerReading.{Answer, AnswerReading, answer_is, refused}
+use Rattle.model_client.specs.AnswerReading.{Answer, answer_is, refused}
 use Rattle.model_client.specs.ClientEvent as asked
 use Rattle.model_client.specs.ClientEvent.{ClientOutcome}
-use Rattle.model_client.specs.ClientKept.{ClientKept, client_allows}
+use Rattle.model_client.specs.ClientKept.{ClientKept}
 use Rattle.model_client.specs.ClientStep.{IsClientStep}
 use Rattle.model_client.specs.ClientTrace.{Happened, IsClientTrace}
-use Rattle.model_client.specs.ReadOut.{ReadOut, newly_read, reading_out}
 use Rattle.model_proxy.specs.Edge.{Edge}
 use Rattle.model_proxy.specs.Forward.{is_forwardable}
 use Rattle.model_proxy.specs.Answers.{own_head}
-use Rattle.model_proxy.specs.Past as past
 use Rattle.model_proxy.specs.Past.{ProxyStep, servers, server_at}
 use Rattle.model_proxy.specs.Exchange.{Pulled, Exchange}
 use Rattle.model_proxy.specs.Forwarding.{IsReply, HasFailed}
 use Rattle.model_proxy.specs.Happenings.{Request, Link, Happenings, server_of}
-use Rattle.model_proxy.specs.Carried.{ForwarderKept, nothing, is_sent}
+use Rattle.model_proxy.specs.Carried.{nothing, is_sent}
 use Rattle.model_proxy.specs.Parts.{begins, breaks_off, body_fault}
 use Rattle.model_proxy.proofs.Quiet.{pending_brings_nothing}
 use Rattle.model_proxy.proofs.Turns.{same_server}
@@ -45,8 +38,8 @@ use Rattle.model_proxy.proofs.OwnSteps.{own_quiet}
 use Rattle.model_proxy.proofs.Serves.{IsIn, Serves}
 use Rattle.model_proxy.proofs.ServesTurns.{serves_silent}
 use Rattle.model_proxy.proofs.ServesReplies.{here, serves_own, serves_cut, serves_dropped}
-use Rattle.model_proxy.proofs.HandedSteps.{HandsOne, hands_one, pulls_it}
-use Rattle.model_proxy.proofs.Served.{IsServed, ServedAs, ClientPuts, ServerHands, HasNewest, has_newest, PutsStep, puts_step, silent_as, left_as}
+use Rattle.model_proxy.proofs.HandedSteps.{hands_one, pulls_it}
+use Rattle.model_proxy.proofs.Served.{IsServed, ServedAs, ClientPuts, ServerHands, has_newest, puts_step}
 use Rattle.model_proxy.proofs.ServedTurns.{Sent, sent_so}
 
 no_requests : (history : List ProxyStep) (count : ℕ) (rs : List Request) (x : Exchange) (xs : List Exchange) → AreSame history count rs (x ∷ xs) → rs ≡ [] → ⊥

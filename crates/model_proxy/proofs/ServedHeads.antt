@@ -1,44 +1,37 @@
 -- A forwarder that served its client so far does so behind each turn that hands out a head.
-use Rattle.std.proofs.Common.{◌≡◌, ◌⊎◌, ℕ, Bool, true, false, not, List, [], ◌∷◌, ◌++◌, length, map, refl, sym, ap, ◌∙◌, subst, append_assoc, inl, inr, Option, Some, None}
-use Rattle.std.specs.Prelude.{⊤, ◌==◌}
-use Rattle.std.specs.List.{AllByRecursion}
-use Rattle.model_h1.specs.Request.{Head, has_body}
+use Rattle.std.proofs.Common.{◌≡◌, true, false, List, [], ◌∷◌, ◌++◌, refl, sym, ap, ◌∙◌, subst, append_assoc, Option, None}
+use Rattle.model_h1.specs.Request.{Head}
 use Rattle.model_h1.specs.Setting.{Setting}
-use Rattle.model_h1.specs.Answer.{BodySize, size_of}
+use Rattle.model_h1.specs.Answer.{size_of}
 use Rattle.model_h1.specs.Event as on
-use Rattle.model_h1.specs.Sums as sums
 use Rattle.model_h1.specs.Sums.{Step}
 use Rattle.model_h1.specs.Trace.{IsTrace}
 use Rattle.model_h1.specs.Laws.Exchanges.{begun, exchanges}
 use Rattle.model_h1.specs.Laws.Exchanges as replies
 use Rattle.model_state.specs.Kept.{Kept}
 use Rattle.model_state.specs.StandsFor.{StandsFor}
-use Rattle.model_client.specs.RequestText.{request_text, asked_shape, given_request_text}
-use Rattle.model_client.specs.ClientEvent.{ClientRequest}
 use Rattle.model_client.specs.ClientKept.{ClientKept}
 use Rattle.model_proxy.specs.Edge.{Edge}
 use Rattle.model_proxy.specs.Judged.{is_refused}
-use Rattle.model_proxy.specs.Forward.{is_forwardable, forwarded, forwarded_size}
+use Rattle.model_proxy.specs.Forward.{is_forwardable}
 use Rattle.model_proxy.specs.Answers.{own_head, refusal_head}
 use Rattle.model_proxy.specs.Past.{ProxyStep}
 use Rattle.model_proxy.specs.Exchange as requests
 use Rattle.model_proxy.specs.Exchange.{unpulled, Exchange}
 use Rattle.model_proxy.specs.Happenings.{Happenings}
 use Rattle.model_proxy.specs.Happenings as happened
-use Rattle.model_proxy.specs.Carried.{ForwarderKept, nothing, waits, IsNewest}
-use Rattle.model_proxy.specs.Moves.{HasBrought}
-use Rattle.model_proxy.specs.Parts.{Part, goes_on, hands, parts_of}
+use Rattle.model_proxy.specs.Carried.{nothing, IsNewest}
+use Rattle.model_proxy.specs.Parts.{hands, parts_of}
 use Rattle.model_proxy.proofs.Quiet.{brought, pending_brings_nothing}
 use Rattle.model_proxy.proofs.SilentSteps.{silent_exchanges}
 use Rattle.model_proxy.proofs.TurnMoves.{head_exchanges}
 use Rattle.model_proxy.proofs.PartsForward.{refused_reply, unforwardable_reply}
-use Rattle.model_proxy.proofs.PartSteps.{AllBring, none_of, PutsOne, puts_one, part_traced}
-use Rattle.model_proxy.proofs.PutSteps.{step_of, hands_so, put_brings}
+use Rattle.model_proxy.proofs.PartSteps.{AllBring, none_of, puts_one, part_traced}
+use Rattle.model_proxy.proofs.PutSteps.{hands_so}
 use Rattle.model_proxy.proofs.OnLinks.{Stage}
-use Rattle.model_proxy.proofs.Serves.{HasNoReply, Serves}
-use Rattle.model_proxy.proofs.ServesTurns.{serves_silent, serves_head, serves_waits, serves_closed}
-use Rattle.model_proxy.proofs.ServesReplies.{serves_continue}
-use Rattle.model_proxy.proofs.Served.{IsServed, ServedAs, ClientPuts, HasLink, has_link, HasNewest, Left, left_by}
+use Rattle.model_proxy.proofs.Serves.{Serves}
+use Rattle.model_proxy.proofs.ServesTurns.{serves_silent, serves_head}
+use Rattle.model_proxy.proofs.Served.{IsServed, ClientPuts, left_by}
 use Rattle.model_proxy.proofs.ServedFailures.{Owes}
 
 -- the newest request has this head, and nothing was done with it

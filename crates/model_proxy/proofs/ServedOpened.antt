@@ -8,8 +8,7 @@ use Rattle.model_h1.specs.Answer.{AnswerHead, BodySize, size_of}
 use Rattle.model_h1.specs.Event as on
 use Rattle.model_h1.specs.Sums.{Step}
 use Rattle.model_h1.specs.Trace.{IsTrace}
-use Rattle.model_h1.specs.Laws.Exchanges.{begun, exchanges}
-use Rattle.model_h1.specs.Laws.Exchanges as replies
+use Rattle.model_h1.specs.Laws.Exchanges.{begun}
 use Rattle.model_state.specs.Kept.{Kept}
 use Rattle.model_state.specs.StandsFor.{StandsFor}
 use Rattle.model_client.specs.RequestText.{request_text, asked_shape, given_request_text}
@@ -23,10 +22,10 @@ use Rattle.model_proxy.specs.Past.{ProxyStep}
 use Rattle.model_proxy.specs.Exchange.{unpulled, Exchange}
 use Rattle.model_proxy.specs.Happenings.{Happenings}
 use Rattle.model_proxy.specs.Happenings as happened
-use Rattle.model_proxy.specs.Carried.{ForwarderKept, nothing, waits}
-use Rattle.model_proxy.specs.Parts.{begins, goes_on, hands, leaves_rest, parts_of}
+use Rattle.model_proxy.specs.Carried.{nothing, waits}
+use Rattle.model_proxy.specs.Parts.{begins, goes_on, hands, leaves_rest}
 use Rattle.model_proxy.proofs.Quiet.{pending_brings_nothing}
-use Rattle.model_proxy.proofs.PartSteps.{none_of, PutsOne, puts_one, part_traced}
+use Rattle.model_proxy.proofs.PartSteps.{none_of, puts_one, part_traced}
 use Rattle.model_proxy.proofs.PutSteps.{step_of, put_brings}
 use Rattle.model_proxy.proofs.OnLinks.{Stage}
 use Rattle.model_proxy.proofs.Serves.{HasNoReply, Serves}

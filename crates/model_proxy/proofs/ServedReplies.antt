@@ -1,14 +1,12 @@
 -- A forwarder that served its client so far does so behind each turn that puts a part of the answer's reply.
-use Rattle.std.proofs.Common.{◌≡◌, ◌⊎◌, ℕ, Bool, true, false, List, [], ◌∷◌, ◌++◌, length, map, bytes_eq, codes, refl, sym, ap, ◌∙◌, subst, inl, inr, Option, Some, None}
+use Rattle.std.proofs.Common.{◌≡◌, ℕ, Bool, true, false, List, [], ◌∷◌, ◌++◌, length, map, bytes_eq, codes, refl, sym, ap, ◌∙◌, subst, inl, Option, Some, None}
 use Rattle.std.specs.Prelude.{⊤, ◌||◌, ◌==◌}
 use Rattle.std.specs.Option.{option_or}
-use Rattle.std.specs.List.{AllByRecursion}
 use Rattle.std.proofs.lemmas.Bool.{false≢true}
 use Rattle.model_h1.specs.Request.{Head}
 use Rattle.model_h1.specs.Setting.{Setting}
-use Rattle.model_h1.specs.Answer.{BodySize, asked_of}
+use Rattle.model_h1.specs.Answer.{asked_of}
 use Rattle.model_h1.specs.Event as on
-use Rattle.model_h1.specs.Handed.{Item}
 use Rattle.model_h1.specs.Sums.{Step, head_of, request, is_drain, is_body_error, is_draining, now}
 use Rattle.model_h1.specs.Laws.Exchanges.{Reply, newly_given, with_piece, with_end, exchanges, changed_by}
 use Rattle.model_h1.specs.Laws.Exchanges as replies
@@ -23,17 +21,16 @@ use Rattle.model_proxy.specs.Edge.{Edge}
 use Rattle.model_proxy.specs.Answers.{reply_head, reply_size}
 use Rattle.model_proxy.specs.Past.{ProxyStep}
 use Rattle.model_proxy.specs.Exchange.{Pulled, unpulled, pulled_by, newest_pulled, with_head, pulled, Exchange}
-use Rattle.model_proxy.specs.Happenings.{Request, Link, Happenings}
+use Rattle.model_proxy.specs.Happenings.{Link, Happenings}
 use Rattle.model_proxy.specs.Carried.{ForwarderKept, is_sent}
 use Rattle.model_proxy.specs.Moves.{HasBrought, IsQuiet}
-use Rattle.model_proxy.specs.Parts.{begins, continues, ends, Handed, body_bytes, body_end}
+use Rattle.model_proxy.specs.Parts.{begins, continues, ends, body_bytes, body_end}
 use Rattle.model_proxy.specs.Wants.{IsAskedBy}
 use Rattle.model_proxy.proofs.SoFar.{so_far}
 use Rattle.model_proxy.proofs.Halves.{waiting_in}
 use Rattle.model_proxy.proofs.Quiet.{pending_brings_nothing}
 use Rattle.model_proxy.proofs.Wants.{asked_by}
 use Rattle.model_proxy.proofs.PartsForward.{head_put, piece_put, end_put}
-use Rattle.model_proxy.proofs.PiecesPut.{has_end, PutsOn, IsPutOf}
 use Rattle.model_proxy.proofs.PutSteps.{put_brings}
 use Rattle.model_proxy.proofs.OnLinks.{Stage, before_head, answering, put_end}
 use Rattle.model_proxy.proofs.LinkSteps.{OnLink}
@@ -43,7 +40,7 @@ use Rattle.model_proxy.proofs.ServesTurns.{serves_silent}
 use Rattle.model_proxy.proofs.ServesReplies.{answer_link, read_up_link, here, serves_put}
 use Rattle.model_proxy.proofs.HandedSteps.{HandsOne, hands_one, one_quiet, bytes_behind, end_behind}
 use Rattle.model_proxy.proofs.Served.{IsServed, ClientPuts, ServerHands, PutsStep, puts_step}
-use Rattle.model_proxy.proofs.ServedTurns.{Sent, sent_so}
+use Rattle.model_proxy.proofs.ServedTurns.{sent_so}
 
 -- ---- the newest request is the last head
 

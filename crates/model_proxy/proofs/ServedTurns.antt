@@ -1,17 +1,12 @@
 -- A forwarder that served its client so far does so behind each turn on the request that was sent on, and on the one that waits for that.
 use Rattle.std.proofs.Common.{◌≡◌, ◌⊎◌, ℕ, Bool, true, false, List, [], ◌∷◌, ◌++◌, length, map, append_assoc, refl, sym, ap, ◌∙◌, subst, inl, inr, Option, Some, None, is_some}
-use Rattle.std.specs.Prelude.{⊤, IsTrue, ◌||◌, ◌==◌, ◌<◌}
-use Rattle.std.specs.List.{AllByRecursion}
-use Rattle.std.proofs.lemmas.Bool.{false≢true}
+use Rattle.std.specs.Prelude.{IsTrue, ◌||◌, ◌==◌, ◌<◌}
 use Rattle.model_h1.specs.Setting.{Setting}
 use Rattle.model_h1.specs.Answer.{BodySize}
 use Rattle.model_h1.specs.Event as on
-use Rattle.model_h1.specs.Handed.{Item}
-use Rattle.model_h1.specs.Sums.{Step, is_draining, now}
-use Rattle.model_h1.specs.Laws.Exchanges.{Reply, no_reply, newly_given, with_piece, with_end, exchanges}
-use Rattle.model_h1.specs.Laws.Exchanges as replies
+use Rattle.model_h1.specs.Sums.{Step}
+use Rattle.model_h1.specs.Laws.Exchanges.{no_reply}
 use Rattle.model_state.specs.Kept.{Kept}
-use Rattle.model_state.specs.StandsFor.{StandsFor}
 use Rattle.model_client.specs.AnswerReading.{Answer}
 use Rattle.model_client.specs.AnswerParse.{is_interim}
 use Rattle.model_client.specs.ClientEvent as asked
@@ -21,31 +16,27 @@ use Rattle.model_client.specs.ClientStep.{IsClientStep}
 use Rattle.model_client.specs.ClientTrace.{Happened, IsClientTrace, now_of}
 use Rattle.model_client.proofs.Written.{is_text}
 use Rattle.model_proxy.specs.Edge.{Edge}
-use Rattle.model_proxy.specs.Answers.{reply_head, reply_size, says_close}
+use Rattle.model_proxy.specs.Answers.{says_close}
 use Rattle.model_proxy.specs.Past as past
 use Rattle.model_proxy.specs.Past.{ProxyStep, first_of}
 use Rattle.model_proxy.specs.Exchange.{pulled, Exchange}
 use Rattle.model_proxy.specs.Happenings.{Request, Link, Happenings}
-use Rattle.model_proxy.specs.Carried.{ForwarderKept, UnderWay, nothing, waits, is_sent, IsIdle, IsWaiting, IsSentOn, IsUnderWay}
+use Rattle.model_proxy.specs.Carried.{ForwarderKept, nothing, waits, is_sent, IsIdle, IsWaiting, IsSentOn, IsUnderWay}
 use Rattle.model_proxy.specs.Moves.{after_outcome}
 use Rattle.model_h1.specs.Trace.{IsTrace}
-use Rattle.model_proxy.specs.Parts.{Part, begins, continues, ends, takes, takes_end, request_breaks, parts_of, Handed, body_bytes, body_end, handed_of}
-use Rattle.model_proxy.proofs.Quiet.{pending_brings_nothing}
-use Rattle.model_proxy.proofs.SentPlaces.{IsPlaced, IsSame}
-use Rattle.model_proxy.proofs.PartsForward.{head_put, piece_put, end_put}
-use Rattle.model_proxy.proofs.PiecesPut.{has_end, IsPutOf}
+use Rattle.model_proxy.specs.Parts.{takes, takes_end, request_breaks, parts_of, body_end}
+use Rattle.model_proxy.proofs.SentPlaces.{IsPlaced}
+use Rattle.model_proxy.proofs.PiecesPut.{IsPutOf}
 use Rattle.model_proxy.proofs.PartSteps.{none_of, one_of, puts_one, part_traced, one_by, out_of, same_pulled}
-use Rattle.model_proxy.proofs.ReadsOn.{free_passes}
 use Rattle.model_proxy.proofs.OnLinks.{Stage, before_head, over, answering}
-use Rattle.model_proxy.proofs.LinkSteps.{OnLink, same_link}
 use Rattle.model_proxy.proofs.OwnSteps.{own_quiet}
 use Rattle.model_proxy.proofs.WholeBodies.{HasAll, ended_bytes}
 use Rattle.model_proxy.proofs.Serves.{Serves}
-use Rattle.model_proxy.proofs.ServesTurns.{serves_silent, serves_left, serves_sent}
+use Rattle.model_proxy.proofs.ServesTurns.{serves_left, serves_sent}
 use Rattle.model_proxy.proofs.ServesBodies.{serves_piece, serves_end, serves_broken}
-use Rattle.model_proxy.proofs.ServesReplies.{answer_link, read_up_link, here, serves_moved, serves_put, serves_over, serves_dropped}
-use Rattle.model_proxy.proofs.HandedSteps.{hands_one, one_quiet, bytes_behind, end_behind}
-use Rattle.model_proxy.proofs.Served.{IsServed, ClientPuts, ServerHands, HasLink, has_link, HasNewest, has_newest, PutsStep, puts_step}
+use Rattle.model_proxy.proofs.ServesReplies.{answer_link, here, serves_moved, serves_over, serves_dropped}
+use Rattle.model_proxy.proofs.HandedSteps.{hands_one, one_quiet, end_behind}
+use Rattle.model_proxy.proofs.Served.{IsServed, ClientPuts, ServerHands, HasLink, has_link, HasNewest, has_newest}
 
 -- ---- the request that is under way
 

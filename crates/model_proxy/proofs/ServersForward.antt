@@ -1,12 +1,9 @@
 -- A forwarder that was one so far is one behind an event on the side of its servers.
-use Rattle.std.proofs.Common.{◌≡◌, ◌⊎◌, ℕ, ◌+◌, ◌<◌, ◌≤◌, Bool, true, false, cond, eqb, suc, List, [], ◌∷◌, ◌++◌, length, map, filter, take, refl, sym, ap, ◌∙◌, subst, arith, inl, inr, Option, Some, None}
-use Rattle.std.specs.Prelude.{⊤, ◌||◌, ◌&&◌, is_none}
-use Rattle.std.specs.List.{AllByRecursion}
+use Rattle.std.proofs.Common.{◌≡◌, ◌⊎◌, ℕ, ◌<◌, ◌≤◌, Bool, true, false, cond, eqb, suc, List, [], ◌∷◌, ◌++◌, length, map, filter, take, refl, sym, ap, ◌∙◌, subst, arith, inl, inr, Option, Some, None}
 use Rattle.std.proofs.lemmas.Bool.{eqb-true, eqb-false, eq-eqb, ne_eqb}
 use Rattle.std.proofs.lemmas.List.{length-map}
 use Rattle.model_h1.specs.Setting.{Setting}
 use Rattle.model_h1.specs.Answer.{BodySize}
-use Rattle.model_h1.specs.Sums.{Step}
 use Rattle.model_h1.specs.Laws.Exchanges.{exchanges}
 use Rattle.model_state.specs.Kept.{Kept}
 use Rattle.model_client.specs.ClientEvent as asked
@@ -16,14 +13,14 @@ use Rattle.model_proxy.specs.Edge.{Edge}
 use Rattle.model_proxy.specs.Past as past
 use Rattle.model_proxy.specs.Past.{ProxyEvent, ProxyOutcome, ProxyStep, Server, new_server, is_refusal, changed_by, newest_changed, servers_behind, servers, numbered, server_at}
 use Rattle.model_proxy.specs.Exchange.{Exchange, is_on}
-use Rattle.model_proxy.specs.Forwarding.{is_there, IsTold, IsFirstOf, IsForwarding, behind}
+use Rattle.model_proxy.specs.Forwarding.{IsTold, IsFirstOf, behind}
 use Rattle.model_proxy.specs.Happenings.{Request, Link, Happenings, server_of}
-use Rattle.model_proxy.specs.Carried.{ForwarderKept, waits, Carries}
+use Rattle.model_proxy.specs.Carried.{ForwarderKept, waits}
 use Rattle.model_proxy.specs.Moves.{DoesAsked}
 use Rattle.model_proxy.proofs.Events.{SaysNoBytes, AddsNoText, ChangesServer, server_event_at, connected_at}
 use Rattle.model_proxy.proofs.SentPlaces.{IsPlaced, AreSame, AreOn, counted}
 use Rattle.model_proxy.proofs.PlacesKept.{same_later, on_later, on_still, on_new}
-use Rattle.model_proxy.proofs.Halves.{waiting_in, IsJudged, both_halves}
+use Rattle.model_proxy.proofs.Halves.{both_halves}
 use Rattle.model_proxy.proofs.LaterSteps.{Unmoved, judged_later, judged_opened}
 use Rattle.model_proxy.proofs.Came.{behind_all}
 use Rattle.model_proxy.proofs.MovedSteps.{NewestIsPassed, Moved, judged_moved}

@@ -1,6 +1,6 @@
 -- A forwarder that serves its client: what is known of the newest request, and of the last one on the server connection that is open; behind each
 -- event.
-use Rattle.std.proofs.Common.{◌≡◌, ◌⊎◌, ℕ, ◌+◌, ◌<◌, ◌≤◌, Bool, true, false, suc, List, [], ◌∷◌, ◌++◌, length, map, filter, take, refl, sym, ap, ◌∙◌, subst, arith, inl, inr, Option, Some, None}
+use Rattle.std.proofs.Common.{◌≡◌, ℕ, Bool, true, false, List, [], ◌∷◌, ◌++◌, length, map, filter, take, refl, sym, ap, ◌∙◌, subst, arith, Option, Some, None}
 use Rattle.std.specs.Prelude.{⊤}
 use Rattle.std.specs.List.{AllByRecursion}
 use Rattle.model_h1.specs.Setting.{Setting}
@@ -19,14 +19,14 @@ use Rattle.model_proxy.specs.Edge.{Edge}
 use Rattle.model_proxy.specs.Past as past
 use Rattle.model_proxy.specs.Past.{ProxyEvent, ProxyOutcome, ProxyStep, Server, client_bytes, client_written, tick_of, is_client_end, is_refusal, changed_by, servers}
 use Rattle.model_proxy.specs.Exchange.{Exchange, is_on}
-use Rattle.model_proxy.specs.Forwarding.{IsTold, IsFirstOf, AreReplies}
+use Rattle.model_proxy.specs.Forwarding.{IsTold, IsFirstOf}
 use Rattle.model_proxy.specs.Happenings.{Request, Link, Happenings, server_of}
 use Rattle.model_proxy.specs.Carried.{ForwarderKept, UnderWay, nothing, waits, is_sent, IsWaiting}
 use Rattle.model_proxy.specs.Moves.{Does, DoesAsked}
 use Rattle.model_proxy.proofs.Quiet.{BringsNothing}
 use Rattle.model_proxy.proofs.Events.{SaysNoBytes, LeavesServers, AddsNoText, ChangesServer}
 use Rattle.model_proxy.proofs.PlacesKept.{IsSentBy}
-use Rattle.model_proxy.proofs.Halves.{waiting_in, IsJudged}
+use Rattle.model_proxy.proofs.Halves.{waiting_in}
 use Rattle.model_proxy.proofs.SilentSteps.{IsSilent, silent_exchanges}
 use Rattle.model_proxy.proofs.MovedSteps.{NewestIsPassed}
 use Rattle.model_proxy.proofs.EventsForward.{Tells, sent_so_far, judged_now, tells_client, tells_nothing}

@@ -1,12 +1,11 @@
 -- A forwarder that serves its client does so behind each turn that takes more of a request's body.
-use Rattle.std.proofs.Common.{◌≡◌, ℕ, Bool, true, false, List, [], ◌∷◌, ◌++◌, length, refl, sym, ap, ◌∙◌, subst, Option, Some, None}
+use Rattle.std.proofs.Common.{◌≡◌, ℕ, Bool, true, List, [], ◌∷◌, ◌++◌, length, refl, sym, subst, Some}
 use Rattle.std.specs.Prelude.{IsTrue}
 use Rattle.std.specs.List.{AllByRecursion}
 use Rattle.model_h1.specs.Setting.{Setting}
 use Rattle.model_h1.specs.Event as on
 use Rattle.model_h1.specs.Sums.{Step}
 use Rattle.model_h1.specs.Laws.Exchanges.{exchanges}
-use Rattle.model_h1.specs.Laws.Exchanges as replies
 use Rattle.model_state.specs.Kept.{Kept}
 use Rattle.model_state.specs.StandsFor.{StandsFor}
 use Rattle.model_client.specs.ClientEvent as asked
@@ -14,12 +13,11 @@ use Rattle.model_client.specs.ClientKept.{ClientKept, client_allows}
 use Rattle.model_client.specs.ClientStep.{IsClientStep}
 use Rattle.model_client.specs.ClientTrace.{Happened, IsClientTrace}
 use Rattle.model_proxy.specs.Edge.{Edge}
-use Rattle.model_proxy.specs.Forward.{Sent}
 use Rattle.model_proxy.specs.Past.{ProxyStep}
 use Rattle.model_proxy.specs.Exchange.{Pulled, Exchange}
 use Rattle.model_proxy.specs.Happenings.{Request, Link, Happenings}
 use Rattle.model_proxy.specs.Happenings as happened
-use Rattle.model_proxy.specs.Carried.{ForwarderKept, is_sent, IsSentOn}
+use Rattle.model_proxy.specs.Carried.{is_sent, IsSentOn}
 use Rattle.model_proxy.specs.Moves.{HasBrought}
 use Rattle.model_proxy.proofs.SilentSteps.{IsSilent, silent_exchanges}
 use Rattle.model_proxy.proofs.BodiesForward.{tells_piece, tells_end, tells_broken}

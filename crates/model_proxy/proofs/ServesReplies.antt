@@ -1,12 +1,11 @@
 -- A forwarder that serves its client does so behind each turn that puts a part of a reply.
-use Rattle.std.proofs.Common.{◌≡◌, ◌⊎◌, ℕ, ◌<◌, Bool, true, false, List, [], ◌∷◌, ◌++◌, length, map, filter, refl, sym, ap, ◌∙◌, subst, inl, inr, Option, Some, None}
-use Rattle.std.specs.Prelude.{⊤, IsTrue, ◌==◌, ◌||◌}
-use Rattle.std.specs.List.{AllByRecursion}
+use Rattle.std.proofs.Common.{◌≡◌, ℕ, ◌<◌, Bool, true, false, List, [], ◌∷◌, length, filter, refl, sym, ap, ◌∙◌, subst, inl, Option, Some, None}
+use Rattle.std.specs.Prelude.{◌==◌, ◌||◌}
 use Rattle.model_h1.specs.Setting.{Setting}
 use Rattle.model_h1.specs.Answer.{AnswerHead, BodySize}
 use Rattle.model_h1.specs.Event as on
 use Rattle.model_h1.specs.Handed.{Item}
-use Rattle.model_h1.specs.Sums.{Step, is_drain, is_body_error, is_draining, now}
+use Rattle.model_h1.specs.Sums.{is_drain, is_body_error, is_draining, now}
 use Rattle.model_h1.specs.Laws.Exchanges.{Reply, no_reply, answer_given, session, newly_given, with_end, exchanges, changed_by}
 use Rattle.model_h1.specs.Laws.Exchanges as replies
 use Rattle.model_state.specs.Kept.{Kept}
@@ -23,8 +22,8 @@ use Rattle.model_proxy.specs.Forward.{is_forwardable}
 use Rattle.model_proxy.specs.Answers.{says_close}
 use Rattle.model_proxy.specs.Past.{ProxyStep, servers, server_at}
 use Rattle.model_proxy.specs.Exchange.{Exchange, is_on}
-use Rattle.model_proxy.specs.Forwarding.{IsReply, IsSentRightly, IsToldRightly, IsUsed, HasFailed}
-use Rattle.model_proxy.specs.Happenings.{Link, Happenings, server_of}
+use Rattle.model_proxy.specs.Forwarding.{IsReply, IsUsed, HasFailed}
+use Rattle.model_proxy.specs.Happenings.{Link, Happenings}
 use Rattle.model_proxy.specs.Carried.{ForwarderKept, nothing, waits, is_sent}
 use Rattle.model_proxy.specs.Moves.{HasBrought, IsQuiet}
 use Rattle.model_proxy.proofs.SoFar.{so_far}

@@ -1,6 +1,6 @@
 -- A forwarder that serves its client does so behind each turn that puts nothing of a reply.
-use Rattle.std.proofs.Common.{◌≡◌, ◌⊎◌, ℕ, ◌+◌, ◌<◌, Bool, true, false, cond, not, ◌&&◌, zero, suc, List, [], ◌∷◌, ◌++◌, length, map, filter, reverse, drop, refl, sym, ap, ap₂, ◌∙◌, subst, append-nil, arith, inl, inr, Option, Some, None, is_some}
-use Rattle.std.specs.Prelude.{⊤, IsTrue, ◌||◌, is_none, nat_lt, if◌then◌else◌}
+use Rattle.std.proofs.Common.{◌≡◌, ◌⊎◌, ℕ, ◌+◌, ◌<◌, Bool, true, false, cond, not, ◌&&◌, zero, suc, List, [], ◌∷◌, ◌++◌, length, map, filter, reverse, drop, refl, sym, ap, ap₂, ◌∙◌, subst, arith, inl, inr, Option, Some, None, is_some}
+use Rattle.std.specs.Prelude.{IsTrue, ◌||◌, is_none, nat_lt, if◌then◌else◌}
 use Rattle.std.specs.List.{list_any, AllByRecursion}
 use Rattle.std.proofs.lemmas.Bool.{false≢true, lt-ltb}
 use Rattle.std.proofs.lemmas.List.{map-append, reverse-append}
@@ -30,25 +30,24 @@ use Rattle.model_client.proofs.Written.{is_text}
 use Rattle.model_client.proofs.NextAnswers.{fine_while, allowed_while}
 use Rattle.model_proxy.specs.Edge.{Edge}
 use Rattle.model_proxy.specs.Forward.{is_forwardable, Sent, forwarded, forwarded_size}
-use Rattle.model_proxy.specs.Past.{ProxyStep, Server, servers, server_at, now, first_of}
+use Rattle.model_proxy.specs.Past.{ProxyStep, Server, servers, server_at, now}
 use Rattle.model_proxy.specs.Exchange.{Pulled, unpulled, Exchange, is_on, sent_on}
 use Rattle.model_proxy.specs.Exchange as requests
 use Rattle.model_proxy.specs.Forwarding.{IsUsed}
 use Rattle.model_proxy.specs.Happenings.{Request, Link, Happenings, server_of, text_sent, methods_sent, IsLink}
 use Rattle.model_proxy.specs.Happenings as happened
-use Rattle.model_proxy.specs.Carried.{ForwarderKept, UnderWay, nothing, waits, is_sent, IsIdle, IsWaiting, IsSentOn, IsNewest}
+use Rattle.model_proxy.specs.Carried.{ForwarderKept, nothing, waits, is_sent, IsIdle, IsWaiting, IsNewest}
 use Rattle.model_proxy.specs.Moves.{HasBrought, IsQuiet}
 use Rattle.model_proxy.proofs.Given.{given_and_waiting}
 use Rattle.model_proxy.proofs.Quiet.{BringsNothing}
 use Rattle.model_proxy.proofs.Server.{comes_true}
 use Rattle.model_proxy.proofs.Turns.{keeps_waiting}
-use Rattle.model_proxy.proofs.SentPlaces.{AreOn, link_at, newest_link, counted}
+use Rattle.model_proxy.proofs.SentPlaces.{AreOn, newest_link, counted}
 use Rattle.model_proxy.proofs.PlacesKept.{first_all, sent_now}
 use Rattle.model_proxy.proofs.SilentSteps.{IsSilent, silent_exchanges}
 use Rattle.model_proxy.proofs.TurnMoves.{head_exchanges}
-use Rattle.model_proxy.proofs.SentMoves.{LastIsAlone, IsFreshFor}
+use Rattle.model_proxy.proofs.SentMoves.{LastIsAlone}
 use Rattle.model_proxy.proofs.TurnsForward.{tells_silent, tells_quiet, tells_closed, tells_head, tells_sent}
-use Rattle.model_proxy.proofs.BodiesForward.{tells_piece, tells_end, tells_broken}
 use Rattle.model_proxy.proofs.FreshLinks.{nothing_came}
 use Rattle.model_proxy.proofs.AskedSince.{same_end}
 use Rattle.model_proxy.proofs.ReadsOn.{asked_so}

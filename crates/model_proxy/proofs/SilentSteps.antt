@@ -1,18 +1,17 @@
 -- Steps of the client's connection that put nothing of a reply, and hand out no request.
-use Rattle.std.proofs.Common.{◌≡◌, ℕ, Bool, true, false, cond, List, [], ◌∷◌, ◌++◌, refl, sym, ap, ◌∙◌, subst, Option, Some, None}
+use Rattle.std.proofs.Common.{◌≡◌, ℕ, Bool, true, false, cond, List, [], ◌∷◌, ◌++◌, refl, sym, ap, ◌∙◌, subst, Option, None}
 use Rattle.std.specs.Prelude.{◌||◌, is_some}
 use Rattle.std.specs.List.{list_any, AllByRecursion}
 use Rattle.std.proofs.lemmas.Bool.{false≢true}
 use Rattle.model_h1.specs.Request.{Head}
 use Rattle.model_h1.specs.Setting.{Setting}
 use Rattle.model_h1.specs.Event as on
-use Rattle.model_h1.specs.Sums as sums
 use Rattle.model_h1.specs.Sums.{Step, head_of, since_head, is_drain, is_body_error, is_draining, came_since_head}
 use Rattle.model_h1.specs.Laws.Exchanges.{Exchange, exchanges, changed_by, newest_changed, with_head}
 use Rattle.model_proxy.specs.Edge.{Edge}
 use Rattle.model_proxy.specs.Past.{ProxyStep}
 use Rattle.model_proxy.specs.Exchange as requests
-use Rattle.model_proxy.specs.Forwarding.{IsToldRightly, AreReplies, HasFailed}
+use Rattle.model_proxy.specs.Forwarding.{IsToldRightly, AreReplies}
 use Rattle.model_proxy.proofs.Halves.{IsJudged}
 
 abbrev pub is_silent : on.Event → Bool

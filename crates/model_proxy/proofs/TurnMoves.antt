@@ -1,10 +1,9 @@
 -- What holds of replies and answers holds behind what a turn does of a request: its head is handed out, more of it is taken, or it is sent on.
-use Rattle.std.proofs.Common.{◌≡◌, ◌⊎◌, ℕ, ◌+◌, ◌<◌, ◌≤◌, Bool, true, false, cond, eqb, suc, List, [], ◌∷◌, ◌++◌, length, map, filter, reverse, refl, sym, ap, ◌∙◌, subst, inl, inr, Option, Some, None}
-use Rattle.std.specs.Prelude.{⊤, not}
+use Rattle.std.proofs.Common.{◌≡◌, ℕ, Bool, true, false, cond, List, [], ◌∷◌, ◌++◌, length, filter, reverse, refl, sym, ap, subst, inl, inr, Option, Some, None}
 use Rattle.std.specs.List.{AllByRecursion}
-use Rattle.std.proofs.lemmas.Bool.{false≢true, eqb-true, eqb-false}
+use Rattle.std.proofs.lemmas.Bool.{false≢true}
 use Rattle.std.proofs.lemmas.List.{reverse-append}
-use Rattle.model_h1.specs.Request.{Head, has_body}
+use Rattle.model_h1.specs.Request.{Head}
 use Rattle.model_h1.specs.Setting.{Setting}
 use Rattle.model_h1.specs.Event as on
 use Rattle.model_h1.specs.Sums.{Step, since_head}
@@ -13,10 +12,9 @@ use Rattle.model_h1.specs.Laws.Exchanges as replies
 use Rattle.model_proxy.specs.Edge.{Edge}
 use Rattle.model_proxy.specs.Judged.{is_refused}
 use Rattle.model_proxy.specs.Forward.{is_forwardable}
-use Rattle.model_proxy.specs.Past.{ProxyStep, Server, servers, server_at, first_of}
-use Rattle.model_proxy.specs.Exchange.{Pulled, unpulled, Exchange, is_on, first_sent, until}
-use Rattle.model_proxy.specs.Forwarding.{IsReplyFrom, IsReplyBy, IsReply, AreReplies, IsToldRightly, IsAlone, IsAloneBefore, IsAloneOn, AreAlone, IsCleanAtFirst, IsUsed, IsUsedBefore, HasFailed}
-use Rattle.model_proxy.proofs.PlacesKept.{first_all, sent_now}
+use Rattle.model_proxy.specs.Past.{ProxyStep, Server, server_at}
+use Rattle.model_proxy.specs.Exchange.{unpulled, Exchange, is_on, first_sent, until}
+use Rattle.model_proxy.specs.Forwarding.{IsReplyFrom, IsReplyBy, IsReply, AreReplies, IsToldRightly, IsAloneBefore, IsAloneOn, AreAlone, IsCleanAtFirst, IsUsed}
 use Rattle.model_proxy.proofs.Halves.{IsJudged}
 use Rattle.model_proxy.proofs.SilentSteps.{none_changed}
 

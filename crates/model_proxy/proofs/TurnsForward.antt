@@ -1,9 +1,9 @@
 -- A forwarder that is one behind an event is one behind each turn.
-use Rattle.std.proofs.Common.{◌≡◌, ◌⊎◌, ℕ, ◌+◌, ◌<◌, ◌≤◌, Bool, true, false, suc, List, [], ◌∷◌, ◌++◌, length, map, filter, refl, sym, ap, ◌∙◌, subst, arith, inl, inr, Option, Some, None}
-use Rattle.std.specs.Prelude.{⊤, IsTrue, not, is_some}
+use Rattle.std.proofs.Common.{◌≡◌, ◌⊎◌, ℕ, ◌+◌, Bool, true, false, suc, List, [], ◌∷◌, ◌++◌, length, filter, refl, sym, ap, ◌∙◌, subst, arith, inl, inr, Option, Some, None}
+use Rattle.std.specs.Prelude.{IsTrue, is_some}
 use Rattle.std.specs.List.{AllByRecursion}
 use Rattle.std.proofs.lemmas.Bool.{false≢true}
-use Rattle.model_h1.specs.Request.{Head, has_body}
+use Rattle.model_h1.specs.Request.{Head}
 use Rattle.model_h1.specs.Setting.{Setting}
 use Rattle.model_h1.specs.Answer.{BodySize}
 use Rattle.model_h1.specs.Event as on
@@ -18,22 +18,22 @@ use Rattle.model_client.specs.ClientKept.{ClientKept, client_allows}
 use Rattle.model_client.specs.ClientStep.{IsClientStep}
 use Rattle.model_client.specs.ClientTrace.{Happened, IsClientTrace, now_of}
 use Rattle.model_proxy.specs.Edge.{Edge}
-use Rattle.model_proxy.specs.Past.{ProxyStep, Server, servers, server_at, now, first_of}
-use Rattle.model_proxy.specs.Exchange.{Pulled, unpulled, Exchange, is_on}
+use Rattle.model_proxy.specs.Past.{ProxyStep, servers, server_at, now, first_of}
+use Rattle.model_proxy.specs.Exchange.{unpulled, Exchange, is_on}
 use Rattle.model_proxy.specs.Forwarding.{IsUsed}
 use Rattle.model_proxy.specs.Happenings.{Request, Link, Happenings}
 use Rattle.model_proxy.specs.Happenings as happened
-use Rattle.model_proxy.specs.Carried.{ForwarderKept, nothing, waits, is_sent, IsIdle, IsWaiting, IsSentOn, Carries}
+use Rattle.model_proxy.specs.Carried.{ForwarderKept, nothing, waits, is_sent, IsIdle, IsWaiting, Carries}
 use Rattle.model_proxy.specs.Moves.{HasBrought, IsQuiet}
 use Rattle.model_proxy.proofs.Quiet.{BringsNothing}
 use Rattle.model_proxy.proofs.Turns.{client_at, closed_at, server_at as link_at_server, head_at}
-use Rattle.model_proxy.proofs.Sends.{asked_at, piece_at, end_at, broken_at}
-use Rattle.model_proxy.proofs.LaterTurns.{IsSentInTurn, TurnsOn, NewestTurnsOn, IsBegun, AllTurnOn, turned}
+use Rattle.model_proxy.proofs.Sends.{asked_at}
+use Rattle.model_proxy.proofs.LaterTurns.{NewestTurnsOn, AllTurnOn, turned}
 use Rattle.model_proxy.proofs.SentPlaces.{IsPlaced, AreSame, AreOn, counted}
-use Rattle.model_proxy.proofs.PlacesKept.{sent_now, on_still, same_begun, same_sent, on_sent, same_taken, on_taken}
+use Rattle.model_proxy.proofs.PlacesKept.{sent_now, on_still, same_begun, same_sent, on_sent}
 use Rattle.model_proxy.proofs.Halves.{waiting_in, IsJudged, both_halves}
 use Rattle.model_proxy.proofs.SilentSteps.{IsSilent, judged_silent}
-use Rattle.model_proxy.proofs.TurnMoves.{judged_begun, taken_of, judged_taken}
+use Rattle.model_proxy.proofs.TurnMoves.{judged_begun}
 use Rattle.model_proxy.proofs.SentMoves.{LastIsAlone, IsFreshFor, judged_sent}
 use Rattle.model_proxy.proofs.EventsForward.{Tells, judged_now}
 

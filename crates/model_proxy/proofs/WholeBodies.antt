@@ -1,11 +1,11 @@
 -- A request's body that ended has as many bytes as its head states.
-use Rattle.std.proofs.Common.{◌≡◌, ℕ, ◌+◌, ◌-◌, ◌<◌, ◌≤◌, Bool, true, false, List, [], ◌∷◌, ◌++◌, length, map, drop, reverse, Option, Some, None, MatchOption, unwrap_or, refl, sym, ap, ap₂, ◌∙◌, subst, arith, append-nil}
-use Rattle.std.specs.Prelude.{⊤, ◌==◌, nat_le, nat_lt, slice_range, if◌then◌else◌}
+use Rattle.std.proofs.Common.{◌≡◌, ℕ, ◌+◌, ◌≤◌, Bool, true, false, List, [], ◌∷◌, ◌++◌, length, drop, reverse, Option, Some, None, MatchOption, unwrap_or, refl, sym, ap, ap₂, ◌∙◌, subst, arith, append-nil}
+use Rattle.std.specs.Prelude.{⊤, ◌==◌, nat_le, slice_range, if◌then◌else◌}
 use Rattle.std.specs.Option.{option_or}
 use Rattle.std.proofs.lemmas.Bool.{false≢true, leb-true, le-ltb}
 use Rattle.std.proofs.lemmas.List.{reverse-append}
 use Rattle.model_h1.specs.Answer.{shape_none, shape_length}
-use Rattle.model_h1.specs.Request.{Head, BodyKind, no_body, fixed_body, chunked_body, raw_body, has_body, Reading, head_is, faulty}
+use Rattle.model_h1.specs.Request.{Head, BodyKind, no_body, fixed_body, chunked_body, raw_body, Reading, head_is, faulty}
 use Rattle.model_h1.specs.Setting.{Setting}
 use Rattle.model_h1.specs.Event as on
 use Rattle.model_h1.specs.Parse.{Input, Message, Body, no_content, content, ended_at, run_between, open_or_cut, fixed_content, next_start, IsBodyOf, IsBodyAfter, AreMessages}
@@ -27,7 +27,7 @@ use Rattle.model_client.proofs.Written.{is_text}
 use Rattle.model_proxy.specs.Edge.{Edge}
 use Rattle.model_proxy.specs.Forward.{states_length, size_by, forwarded_size}
 use Rattle.model_proxy.specs.Answers.{fate_of}
-use Rattle.model_proxy.specs.Exchange.{Pulled, unpulled, pulled_by, newest_pulled, with_head, pulled}
+use Rattle.model_proxy.specs.Exchange.{Pulled, pulled_by, newest_pulled, with_head, pulled}
 use Rattle.model_proxy.specs.Happenings.{Request, Link}
 use Rattle.model_proxy.specs.Carried.{IsSentOn}
 use Rattle.model_proxy.specs.Forwarding.{IsWhole}

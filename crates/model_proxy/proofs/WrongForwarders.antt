@@ -1,5 +1,5 @@
 -- What isn't one of a forwarder, whatever is claimed of its requests.
-use Rattle.std.proofs.Common.{◌≡◌, ◌⊎◌, ℕ, ◌+◌, ◌≤◌, ◌<◌, Bool, true, false, zero, suc, cond, filter, map, reverse, drop, flat_map, List, [], ◌∷◌, ◌++◌, length, codes, refl, sym, ap, ◌∙◌, subst, arith, inl, inr, lit<, Option, Some, None}
+use Rattle.std.proofs.Common.{◌≡◌, ◌⊎◌, ℕ, ◌≤◌, Bool, true, false, zero, suc, cond, filter, map, reverse, drop, flat_map, List, [], ◌∷◌, ◌++◌, length, codes, refl, sym, ap, ◌∙◌, subst, arith, inl, inr, lit<, Option, Some, None}
 use Rattle.std.proofs.lemmas.Bool.{false≢true}
 use Rattle.httparse.specs.Grammar.{trim_ows}
 use Rattle.model_h1.specs.Sums as sums

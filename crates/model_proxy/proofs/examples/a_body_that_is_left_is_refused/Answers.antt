@@ -1,4 +1,4 @@
-use Rattle.std.proofs.Common.{◌<◌, ℕ, true, false, Some, List, refl, sym, inl, lit<}
+use Rattle.std.proofs.Common.{ℕ, Some, List, refl, sym, inl, lit<}
 use Rattle.std.proofs.lemmas.Bool.{false≢true}
 use Rattle.std.specs.Str.{is_utf8, chars}
 use Rattle.std.specs.Char.{encode_utf8}

@@ -1,4 +1,4 @@
-use Rattle.std.proofs.Common.{◌<◌, true, false, None, refl, inl, lit<}
+use Rattle.std.proofs.Common.{None, refl, inl, lit<}
 use Rattle.std.proofs.lemmas.Bool.{false≢true}
 use Rattle.std.specs.Str.{is_utf8, chars}
 use Rattle.std.specs.Char.{encode_utf8}

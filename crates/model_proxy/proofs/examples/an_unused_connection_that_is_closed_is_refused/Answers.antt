@@ -1,4 +1,4 @@
-use Rattle.std.proofs.Common.{false, true, [], ◌∷◌, None, refl, inl, inr}
+use Rattle.std.proofs.Common.{false, [], ◌∷◌, None, refl, inl, inr}
 use Rattle.std.proofs.lemmas.Bool.{false≢true}
 use Rattle.model_h1.specs.Past.{steps}
 use Rattle.model_h1.specs.Laws.ExampleTraces.{usual}
