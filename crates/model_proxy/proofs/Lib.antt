@@ -51,6 +51,7 @@ pub mod Served
 pub mod ServedTurns
 pub mod ServedReplies
 pub mod ServedFailures
+pub mod ServedFirst
 pub mod ServedHeads
 pub mod ServedOpened
 pub mod GivenRequests

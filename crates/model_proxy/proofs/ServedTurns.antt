@@ -40,7 +40,7 @@ use Rattle.model_proxy.proofs.Served.{IsServed, ClientPuts, ServerHands, HasLink
 
 -- ---- the request that is under way
 
-some_waits : (edge : Edge) (q : ClientRequest) (size : BodySize) (whole broken : Bool) (rs : List Request) (server : Option ClientKept) (links : List Link)
+pub some_waits : (edge : Edge) (q : ClientRequest) (size : BodySize) (whole broken : Bool) (rs : List Request) (server : Option ClientKept) (links : List Link)
     → IsUnderWay edge (waits q size whole broken) rs server links → rs ≡ [] → ⊥
 some_waits edge q size whole broken [] server links x e = x
 some_waits edge q size whole broken (r ∷ rs) server links x e = let no : r ∷ rs ≡ [] = e in cc no
