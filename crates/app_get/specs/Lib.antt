@@ -5,3 +5,4 @@ pub mod Fetching
 pub mod Heads
 pub mod Patience
 pub mod Places
+pub mod Redirects
