@@ -7,10 +7,11 @@ from checks import check, differs, free_port, has, run, wait_for
 
 class Parrot:
     """A server on a port of its own. Each of its connections says one answer for each head that it reads, and closes after
-    its last one; None is an answer that never comes. One that resets breaks the connection instead."""
+    its last one; None is an answer that never comes. One that resets breaks the connection instead. PLACE in an answer stands
+    for another server's URL."""
 
     def __init__(self, *connections, resets=False):
-        self.heads, self.count, self.resets = [], 0, resets
+        self.heads, self.count, self.resets, self.place = [], 0, resets, b""
         self.listener = socket.create_server(("127.0.0.1", 0))
         self.url = "http://127.0.0.1:%d" % self.listener.getsockname()[1]
         self.thread = threading.Thread(target=self.serve, args=(connections,), daemon=True)
@@ -39,7 +40,7 @@ class Parrot:
                 # The client gives up and closes.
                 sock.recv(65536)
                 return
-            sock.sendall(answer)
+            sock.sendall(answer.replace(b"PLACE", self.place))
 
 
 def get_clients(program, files, hello, folder):
@@ -77,6 +78,8 @@ def get_clients(program, files, hello, folder):
     parrot_clients(program, folder, get)
     field_clients(program, folder)
     output_clients(program, url, small, big)
+    redirect_clients(program, folder)
+    foreign_clients(program)
     python_server(program, folder, get, small, big)
     nginx_server(program, folder, get, small, big)
 
@@ -204,6 +207,84 @@ def output_clients(program, url, small, big):
     written("a refusal and then a body to a file", 22, small, "-f", f"{url}/nothing", f"{url}/a.txt", before=b"old")
     written("a server that isn't there, which leaves the file as it is", 4, b"old", "http://127.0.0.1:%d/" % free_port(), before=b"old")
     check("app_get, a file that can't be written", lambda: differs(run(program, "-o", "/proc/nothing/x", f"{url}/a.txt").returncode, 1))
+
+
+def moved(status, place):
+    location = b"location: " + place + b"\r\n" if place is not None else b""
+    return b"HTTP/1.1 %d Moved\r\n%scontent-length: 5\r\n\r\nmoved" % (status, location)
+
+
+def redirect_clients(program, folder):
+    ok = b"HTTP/1.1 200 OK\r\ncontent-length: 2\r\n\r\nhi"
+    gone = b"HTTP/1.1 410 Gone\r\ncontent-length: 0\r\n\r\n"
+
+    def led(name, status, wanted, answers, firsts, *words):
+        def make():
+            parrot = Parrot(*[[answer] for answer in answers])
+            done = run(program, *words, parrot.url + "/d/a")
+            seen = [head.split(b" HTTP/1.1")[0] for head in parrot.heads]
+            return differs((done.returncode, done.stdout, seen), (status, wanted, firsts))
+        check("app_get, " + name, make)
+    led("a redirect that isn't followed", 0, b"moved", [moved(302, b"/b")], [b"GET /d/a"])
+    for status in (301, 302, 303, 307, 308):
+        led(f"-L and {status}", 0, b"hi", [moved(status, b"/b"), ok], [b"GET /d/a", b"GET /b"], "-L")
+    for status in (300, 305, 309):
+        led(f"-L and {status}, which isn't followed", 0, b"moved", [moved(status, b"/b")], [b"GET /d/a"], "-L")
+    for place, target in ((b"b", b"/d/b"), (b"../b?c=d", b"/b?c=d"), (b"?c", b"/d/a?c"), (b"#f", b"/d/a"), (b"./../../b/./c/..", b"/b/"),
+                          (b"/b c", b"/b%20c")):
+        led(f"-L to {place!r}", 0, b"hi", [moved(302, place), ok], [b"GET /d/a", b"GET " + target], "--location")
+    for status, second in ((301, b"GET"), (302, b"GET"), (303, b"GET"), (307, b"POST"), (308, b"POST")):
+        led(f"-L and POST, by {status}", 0, b"hi", [moved(status, b"/b"), ok], [b"POST /d/a", second + b" /b"], "-L", "-d", "x")
+        led(f"-L and PUT, by {status}", 0, b"hi", [moved(status, b"/b"), ok], [b"PUT /d/a", (b"GET" if status == 303 else b"PUT") + b" /b"],
+            "-L", "-X", "PUT", f"{folder}/a.txt")
+    led("-L and a GET in place of a POST, which stays one", 0, b"hi", [moved(303, b"/b"), moved(307, b"/c"), ok],
+        [b"POST /d/a", b"GET /b", b"GET /c"], "-L", "-d", "x")
+    led("-L and HEAD, by 303", 0, b"HTTP/1.1 303 Moved\nlocation: /b\ncontent-length: 5\n\nHTTP/1.1 200 OK\ncontent-length: 2\n\n",
+        [moved(303, b"/b")[:-5], ok[:-2]], [b"HEAD /d/a", b"HEAD /b"], "-L", "-I")
+    led("-L and ten redirects", 0, b"hi", [moved(302, b"/b")] * 10 + [ok], [b"GET /d/a"] + [b"GET /b"] * 10, "-L")
+    led("-L and eleven redirects", 6, b"", [moved(302, b"/b")] * 11, [b"GET /d/a"] + [b"GET /b"] * 10, "-L")
+    led("-L and no Location", 6, b"", [moved(302, None)], [b"GET /d/a"], "-L")
+    led("-L to no URL", 6, b"", [moved(302, b"http://[")], [b"GET /d/a"], "-L")
+    led("-L to what is no text", 6, b"", [moved(302, b"/\xff")], [b"GET /d/a"], "-L")
+    led("-L to another scheme", 2, b"", [moved(302, b"https://127.0.0.1/")], [b"GET /d/a"], "-L")
+    led("-L to a URL with a user", 2, b"", [moved(302, b"http://a:b@127.0.0.1/")], [b"GET /d/a"], "-L")
+    led("-L and a redirect of which only the head came", 0, b"hi", [moved(302, b"/b")[:-5], ok], [b"GET /d/a", b"GET /b"], "-L")
+    led("-L and a refusal", 8, b"", [moved(302, b"/b"), gone], [b"GET /d/a", b"GET /b"], "-L")
+    led("-L, --fail and a refusal", 22, b"", [moved(302, b"/b"), gone], [b"GET /d/a", b"GET /b"], "-L", "-f")
+
+    def escaped():
+        parrot = Parrot([ok])
+        done = run(program, parrot.url.replace("http", "HTTP") + "/a b/../\u00fc?\"#x")
+        return differs((done.returncode, [head.split(b" HTTP/1.1")[0] for head in parrot.heads]), (0, [b"GET /%C3%BC?%22"]))
+    check("app_get, a URL with what is escaped", escaped)
+
+    def written():
+        parrot = Parrot([moved(302, b"/b")[:-5]], [ok[:-2]])
+        with tempfile.TemporaryDirectory() as place:
+            done = run(program, "-I", "-L", "-o", f"{place}/out", parrot.url + "/")
+            seen = open(f"{place}/out", "rb").read()
+        return differs((done.returncode, done.stdout, seen.count(b"HTTP/1.1 ")), (0, b"", 2))
+    check("app_get, both heads of a redirect to a file", written)
+
+
+def foreign_clients(program):
+    """What is sent of the user's own fields to the host that they were meant for, to another one, and to the first again."""
+    given = ["authorization: a", "cookie: b=c", "host: h.example", "proxy-authorization: d", "x-own: e", "content-type: text/plain"]
+    words = [word for field in given for word in ("-H", field)]
+    secret = set(given[:4])
+
+    def sent(name, wanted, status, *more):
+        def make():
+            first = Parrot([moved(status, b"/a")], [moved(status, b"PLACE/b")], [b"HTTP/1.1 204 No Content\r\n\r\n"])
+            other = Parrot([moved(status, b"PLACE/c")])
+            first.place, other.place = other.url.encode(), first.url.encode()
+            done = run(program, "-L", *words, *more, first.url + "/")
+            heads = [*first.heads[:2], *other.heads, *first.heads[2:]]
+            seen = [set(given) & set(head.decode().split("\r\n")) for head in heads]
+            return differs((done.returncode, seen), (0, wanted))
+        check("app_get, -L and " + name, make)
+    sent("the user's fields at another host", [set(given)] * 2 + [set(given) - secret] * 2, 307, "-d", "x")
+    sent("the user's fields without a body", [set(given)] + [set(given[:5])] + [{given[4]}] * 2, 303, "-d", "x")
 
 
 def get_reset(program):

@@ -8,7 +8,7 @@ use Rattle.app_get.specs.Fetching.{Done, fetched, told_status, told_error, Notes
 
 -- ---- what is noted
 
-notes_none : {A : Type 0} (a : Option (List A)) → Notes a [] a
+pub notes_none : {A : Type 0} (a : Option (List A)) → Notes a [] a
 notes_none None = tt
 notes_none (Some before) = refl
 

@@ -31,6 +31,14 @@ abbrev pub hop_has_body : Hop → Bool → Bool
 hop_has_body hop has_body = has_body && not hop.by_get
 
 -- what the user meant for one host alone isn't sent to another
+abbrev pub without_secrets : Bool → Entries → Entries
+without_secrets is_foreign fields =
+    if is_foreign then remove (remove (remove (remove fields (codes "host")) (codes "authorization")) (codes "cookie")) (codes "proxy-authorization") else fields
+
+-- what tells of a body isn't sent where there is none any more
+abbrev pub without_content : Bool → Entries → Entries
+without_content by_get fields =
+    if by_get then remove (remove (remove (remove fields (codes "content-type")) (codes "content-encoding")) (codes "content-language")) (codes "content-location") else fields
+
 abbrev pub hop_fields : Hop → Entries → Entries
-hop_fields hop fields =
-    if hop.is_foreign then remove (remove (remove fields (codes "host")) (codes "authorization")) (codes "cookie") else fields
+hop_fields hop fields = without_content hop.by_get (without_secrets hop.is_foreign fields)

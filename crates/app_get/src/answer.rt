@@ -1,5 +1,7 @@
 // What comes of the answer.
-ghost use Rattle.std.specs.Prelude.{◌≡◌, ◌≢◌, false, None, Some, IsSome, IfOk, IfErr, OnErr, if◌then◌else◌};
+ghost use Rattle.std.specs.Prelude.{◌≡◌, ◌≢◌, false, None, Some, codes, IsSome, IfOk, IfErr, OnErr, if◌then◌else◌};
+ghost use Rattle.h1_decoder.specs.declared.response.ResponseItem.{ResponseItem};
+ghost use Rattle.http_map.specs.HeaderMap.{get};
 ghost use Rattle.h1_client.specs.Answers.{SaysNext};
 ghost use Rattle.h1_client.specs.ClientMeaning.{setting_of};
 ghost use Rattle.h1_client.specs.State.{IsAllowed};
@@ -15,7 +17,7 @@ use crate::redirect::is_redirect;
 use crate::show::{write_all, write_head};
 use h1_client::{AnswerFault, BodyFault, ClientEnd, NextAnswer, Pulled, ResponseItem};
 use http_header::LOCATION;
-use http_types::{NoMemory, Sink, Source};
+use http_types::{HeaderValue, NoMemory, ResponseHead, Sink, Source};
 use net_sockets::{TimedSink, TimedSource};
 
 /// What is wanted of an answer.
@@ -79,7 +81,7 @@ impl<S: TimedSource + Drop, K: TimedSink + Drop, B: Source + Drop, O: Sink + Dro
         }
     }
 
-    // The next head, or that there is none. The status of one that isn't interim is noted.
+    // The next head, or that there is none. The status of one that isn't interim is noted, and where it leads.
     fn next_answer(&mut self) -> Result<NextAnswer, NoMemory>
         requires can_next { IsAllowed self.old.state on.next }
         requires none { self.old.status ≡ None }
@@ -87,6 +89,7 @@ impl<S: TimedSource + Drop, K: TimedSink + Drop, B: Source + Drop, O: Sink + Dro
         ensures err { OnErr result (self.new.out ≡ self.old.out) }
     {
         let next = self.connection.next()?;
+        self.location = location_of(&next)?;
         self.status = noted(&next, self.status);
         Ok(next)
     }
@@ -96,24 +99,11 @@ impl<S: TimedSource + Drop, K: TimedSink + Drop, B: Source + Drop, O: Sink + Dro
         ensures part { IfOk result (λ taken. (taken ≡ Taken.Part) × Goes self.old self.new) }
         ensures stops { IfErr result (λ error. Stops self.old self.new error) }
     {
-        self.note_location(item)?;
-
         // The status of an interim one isn't noted.
         if self.wanted.head && self.status.is_some() {
             write_head(self.alloc, item, &mut self.out)?;
         }
         Ok(Taken::Part)
-    }
-
-    // Where a redirect leads, where the head names it once.
-    fn note_location(&mut self, item: &ResponseItem) -> Result<(), NoMemory>
-        ensures { self.new ≡ self.old }
-    {
-        self.location = match item.head.headers.get(LOCATION) {
-            Some(value) => Some(value.clone()?),
-            None => None,
-        };
-        Ok(())
     }
 
     // What comes next of the body. Nobody asked for another protocol.
@@ -214,6 +204,28 @@ impl<S: TimedSource + Drop, K: TimedSink + Drop, B: Source + Drop, O: Sink + Dro
         } else {
             GetError::Unanswered
         }
+    }
+}
+
+// Where an answer leads, where its head names that.
+fn location_of(next: &NextAnswer) -> Result<Option<HeaderValue>, NoMemory>
+    ensures { IfOk result (λ found. (item : ResponseItem) → next.now ≡ NextAnswer.Answer item → found ≡ get item.head.headers (codes "location")) }
+{
+    match next {
+        NextAnswer::Answer(item) => location_in(&item.head),
+        NextAnswer::Fault(_) => Ok(None),
+        NextAnswer::Pending => Ok(None),
+        NextAnswer::Closed(_) => Ok(None),
+    }
+}
+
+// The Location of a head, the first where there are several.
+fn location_in(head: &ResponseHead) -> Result<Option<HeaderValue>, NoMemory>
+    ensures { IfOk result (λ found. found ≡ get head.now.headers (codes "location")) }
+{
+    match head.headers.get(LOCATION) {
+        Some(value) => Ok(Some(value.clone()?)),
+        None => Ok(None),
     }
 }
 

@@ -38,7 +38,7 @@ pub struct Exchange<S: TimedSource, K: TimedSink, B: Source, O: Sink> {
     // A byte of the answer came.
     pub(crate) has_begun: bool,
 
-    // Where the last head says that the answer is.
+    // Where the answer leads, where its head names that.
     pub(crate) location: Option<HeaderValue>,
 }
 
@@ -108,8 +108,8 @@ impl<S: TimedSource + Drop, K: TimedSink + Drop, B: Source + Drop, O: Sink + Dro
         }
     }
 
-    /// The connection, which may be used again where it says so, and the sink of the answer's body.
-    pub fn into_parts(self) -> (ClientConnection, O)
+    /// The connection, which may be used again where it says so, the sink of the answer's body, and where the answer leads.
+    pub fn into_parts(self) -> (ClientConnection, O, Option<HeaderValue>)
         ensures connection { result.0 ≡ self.state }
         ensures out { O.given result.1 ≡ self.out }
     {
@@ -123,9 +123,9 @@ impl<S: TimedSource + Drop, K: TimedSink + Drop, B: Source + Drop, O: Sink + Dro
             wanted: _,
             status: _,
             has_begun: _,
-            location: _,
+            location,
         } = self;
-        (connection, out)
+        (connection, out, location)
     }
 
     /// Sends the request and takes its answer, until the answer is whole, and gives its status. Nothing may move for at most

@@ -5,10 +5,11 @@ use crate::answer::Wanted;
 use crate::each::{Fetches, fetch_each};
 use crate::error::GetError;
 use crate::exchange::Exchange;
+use crate::follow::{Asks, Reply, Stage, follow};
 use crate::link::Link;
 use crate::options::Options;
 use crate::output::OutputFile;
-use crate::redirect::{Hop, is_redirect, is_same_place, resolve};
+use crate::redirect::Hop;
 use crate::request::{ask, head_for, is_repeatable, method_for};
 use crate::target::Target;
 use crate::tries::{Tries, try_twice};
@@ -21,9 +22,6 @@ use std::io::ErrorKind;
 
 /// The status of the program where an answer says that it isn't what was asked for.
 const NO_SUCCESS: u8 = 8;
-
-/// How many redirects of a URL are followed.
-const MOST_REDIRECTS: usize = 10;
 
 /// Fetches all, and gives the status of the program.
 pub fn fetch_all(rt: HostRuntime, options: &Options<'_>) -> u8 {
@@ -50,10 +48,10 @@ struct Fetcher<'a, 'w> {
     options: &'a Options<'w>,
     kept: Option<Link>,
 
-    // A body was written to the file for bodies.
+    // Something was written to the file for bodies.
     has_written: bool,
 
-    // What redirects have changed, and where the last answer says that it is.
+    // What redirects have changed, and where the last answer leads.
     hop: Hop,
     location: Option<HeaderValue>,
 }
@@ -87,81 +85,41 @@ impl<'a, 'w> Fetcher<'a, 'w> {
         body: Option<B>,
         size: BodySize,
     ) -> Result<u16, GetError> {
-        let Some(path) = self.options.output else {
-            let out = StdSink::new(self.rt.stdout());
-            let answer = self.fetch_over(target, kept, body, size, out)?;
-            self.kept = link_of(answer.whole);
-            return Ok(answer.status);
-        };
-        let out = OutputFile::new(self.rt, path, self.has_written);
-        let answer = self.fetch_over(target, kept, body, size, out)?;
-        if let Some((link, out)) = answer.whole {
-            self.kept = Some(link);
-            self.has_written = true;
-            out.finish()?;
-        }
-        Ok(answer.status)
-    }
-
-    // Fetches one over this connection, or over a new one.
-    fn fetch_over<B: Source + Drop, O: Sink + Drop>(
-        &mut self,
-        target: &Target,
-        kept: Option<Link>,
-        body: Option<B>,
-        size: BodySize,
-        out: O,
-    ) -> Result<Answered<O>, GetError> {
         let link = ask_over(self.rt, self.options, self.hop, target, kept, size)?;
-        let (answer, location) = exchange_over(self.rt, self.options, link, body, out)?;
+        match self.options.output {
+            Some(path) => {
+                let out = OutputFile::new(self.rt, path, self.has_written);
+                let (answer, out) = exchange_over(self.rt, self.options, link, body, out)?;
+                self.has_written = out.end(answer.link.is_some())?;
+                Ok(self.note(answer))
+            }
+            None => {
+                let out = StdSink::new(self.rt.stdout());
+                let (answer, _) = exchange_over(self.rt, self.options, link, body, out)?;
+                Ok(self.note(answer))
+            }
+        }
+    }
+
+    // Keeps the connection, and where the answer leads.
+    fn note(&mut self, answer: Answer) -> u16 {
+        let Answer {
+            status,
+            location,
+            link,
+        } = answer;
         self.location = location;
-        Ok(answer)
-    }
-
-    // Where the redirect leads, if this was one that is to be followed.
-    fn next_place(&mut self, place: &str, status: u16) -> Result<Option<String>, GetError> {
-        let location = self.location.take();
-        if !self.options.follows || !is_redirect(status) {
-            return Ok(None);
-        }
-        match location {
-            Some(location) => match location.to_str() {
-                Ok(text) => Ok(Some(resolve(self.rt.alloc(), place, text)?)),
-                Err(_) => Err(GetError::Location),
-            },
-            None => Err(GetError::Location),
-        }
-    }
-
-    // Asks, and says where a redirect leads.
-    fn ask_at(&mut self, target: &Target, place: &str) -> Result<(u16, Option<String>), GetError> {
-        let is_once = !is_repeatable(self.options);
-        let status = try_twice(self, target, is_once)?;
-        Ok((status, self.next_place(place, status)?))
-    }
-
-    // Goes to where a redirect of this status leads.
-    fn go_to(&mut self, old: &Target, place: &str, status: u16) -> Result<Target, GetError> {
-        let new = Target::read(self.rt.alloc(), place)?;
-        let method = method_for(self.options, self.hop)?;
-        let is_same = is_same_place(old, &new);
-        self.hop = self.hop.after(status, method.as_str().as_bytes(), is_same);
-        Ok(new)
+        self.kept = link;
+        status
     }
 }
 
-// What came of an exchange: the status, and where the answer was taken to its end the connection and the output.
+// What came of an exchange: the status, where the answer leads, and the connection, if the answer was taken to its end.
 #[derive(Drop)]
-struct Answered<O> {
+struct Answer {
     status: u16,
-    whole: Option<(Link, O)>,
-}
-
-fn link_of<O: Drop>(ended: Option<(Link, O)>) -> Option<Link> {
-    match ended {
-        Some((link, _)) => Some(link),
-        None => None,
-    }
+    location: Option<HeaderValue>,
+    link: Option<Link>,
 }
 
 impl<'a, 'w> Fetches for Fetcher<'a, 'w> {
@@ -169,21 +127,10 @@ impl<'a, 'w> Fetches for Fetcher<'a, 'w> {
     ghost done = { λ _. None };
 
     fn fetch(&mut self, url: &str) -> Result<u16, GetError> {
-        self.hop = Hop::first();
-        let mut target = Target::read(self.rt.alloc(), url)?;
-        let Ok(mut place) = String::from_str(self.rt.alloc(), url) else {
-            return Err(GetError::NoMemory);
-        };
-        for _ in 0..=MOST_REDIRECTS {
-            match self.ask_at(&target, place.as_str())? {
-                (status, None) => return Ok(status),
-                (status, Some(next)) => {
-                    target = self.go_to(&target, next.as_str(), status)?;
-                    place = next;
-                }
-            }
-        }
-        Err(GetError::Redirects)
+        let method = method_for(self.options, Hop::first())?;
+        let alloc = self.rt.alloc();
+        let follows = self.options.follows;
+        follow(alloc, self, url, method.as_str().as_bytes(), follows)
     }
 
     fn tell_status(&mut self, url: &str, status: u16) {
@@ -195,6 +142,19 @@ impl<'a, 'w> Fetches for Fetcher<'a, 'w> {
         let rt = self.rt;
         let about = about_of(self.options, error).unwrap_or(url);
         let _ = eprintln!(rt; "app_get: {about}: {error}");
+    }
+}
+
+impl<'a, 'w> Asks for Fetcher<'a, 'w> {
+    // Nor is what is asked.
+    ghost asked = { λ _. None };
+
+    fn ask_at(&mut self, stage: &Stage) -> Result<Reply, GetError> {
+        self.hop = stage.hop;
+        let is_once = !is_repeatable(self.options);
+        let status = try_twice(self, &stage.target, is_once)?;
+        let location = self.location.take();
+        Ok(Reply { status, location })
     }
 }
 
@@ -227,14 +187,14 @@ impl<'a, 'w> Tries for Fetcher<'a, 'w> {
     }
 }
 
-// Takes the answer. It also says where the last head has the answer's place.
+// Takes the answer. What is left of one that isn't wanted isn't read.
 fn exchange_over<B: Source + Drop, O: Sink + Drop>(
     rt: HostRuntime,
     options: &Options<'_>,
     link: Link,
     body: Option<B>,
     out: O,
-) -> Result<(Answered<O>, Option<HeaderValue>), GetError> {
+) -> Result<(Answer, O), GetError> {
     let Link {
         stream,
         connection,
@@ -249,26 +209,27 @@ fn exchange_over<B: Source + Drop, O: Sink + Drop>(
         out,
         wanted_of(options),
     );
-    match exchange.run(options.wait) {
-        Ok(status) => {
-            let (connection, out) = exchange.into_parts();
-            let link = Link {
-                stream,
-                connection,
-                place,
-            };
-            let whole = Some((link, out));
-            Ok((Answered { status, whole }, None))
-        }
-        // What is left of the answer isn't read.
-        Err(GetError::Unwanted) => {
-            let status = exchange.status.unwrap_or(0);
-            let location = exchange.location.take();
-            let whole = None;
-            Ok((Answered { status, whole }, location))
-        }
-        Err(error) => Err(error),
-    }
+    let (status, is_whole) = match exchange.run(options.wait) {
+        Ok(status) => (status, true),
+        Err(GetError::Unwanted) => (exchange.status.unwrap_or(0), false),
+        Err(error) => return Err(error),
+    };
+    let (connection, out, location) = exchange.into_parts();
+    let link = if is_whole {
+        Some(Link {
+            stream,
+            connection,
+            place,
+        })
+    } else {
+        None
+    };
+    let answer = Answer {
+        status,
+        location,
+        link,
+    };
+    Ok((answer, out))
 }
 
 // Asks over this connection, or over a new one.

@@ -7,6 +7,7 @@ mod error;
 mod exchange;
 mod fetch;
 mod fields;
+mod follow;
 mod link;
 mod options;
 mod output;

@@ -19,7 +19,7 @@ Asks for each URL by HTTP/1.1, and writes the bodies of the answers to the stand
   -f, --fail            don't write the body of an answer of a status of 400 or above
   -H, --header FIELD    send the field 'NAME: VALUE' too, in place of the program's own of that name; any number of them
   -I, --head            ask by HEAD, and write the head of each answer
-  -L, --location        follow redirects, at most ten; another host isn't sent the user's Authorization, Cookie and Host
+  -L, --location        follow redirects, at most ten; another host isn't sent the user's Host, Authorization and Cookie
   -o, --output NAME     write to this file, which is made anew when its first byte comes
   -X, --request METHOD  ask by this method; such a request is asked only once
   --chunked             send what is sent in chunks, as if nobody knew its length
@@ -27,7 +27,7 @@ Asks for each URL by HTTP/1.1, and writes the bodies of the answers to the stand
   --help                print this and end
   --version             print the version and end
 
-URLs of one host and port share a connection as long as the server keeps it. 
+URLs of one host and port share a connection as long as the server keeps it.
 
 It ends with status 0; 1 where the output takes no more; 2 for words out of form; 3 where FILE can't be read; 4 where
 no connection can be made; 5 where memory runs out; 6 where the connection or the answer breaks off or is none of

@@ -29,14 +29,15 @@ impl<'a> OutputFile<'a> {
         }
     }
 
-    /// Ends what is written: a file of no bytes is made too.
-    pub fn finish(mut self) -> Result<(), GetError> {
-        self.open();
-        if self.file.is_some() {
-            Ok(())
-        } else {
-            Err(GetError::Output)
+    /// Ends what is written. Of a whole answer a file of no bytes is made too. It says whether the file is begun.
+    pub fn end(mut self, is_whole: bool) -> Result<bool, GetError> {
+        if is_whole {
+            self.open();
+            if self.file.is_none() {
+                return Err(GetError::Output);
+            }
         }
+        Ok(self.is_begun || self.file.is_some())
     }
 
     fn open(&mut self) {

@@ -1,12 +1,12 @@
 //! Where a redirect leads, and what is asked there.
-ghost use Rattle.std.specs.Prelude.{◌≡◌, ◌×◌, None, Ok, Some, false, string_bytes, IfOk};
+ghost use Rattle.std.specs.Prelude.{◌≡◌, ◌⊎◌, None, Ok, Some, true, false, IfOk, IfErr};
 ghost use Rattle.url.specs.Parser.{parse_url};
-ghost use Rattle.url.specs.Parts.{Parts, serialize};
-ghost use Rattle.app_get.specs.Redirects.{is_redirect, turns_to_get, is_same_place, IsHop};
+ghost use Rattle.app_get.specs.Redirects.{is_redirect, turns_to_get, is_same_place, IsHop, hop_method};
+ghost use Rattle.app_get.specs.Following.{is_of_url, NamesNone};
 
 use crate::error::GetError;
 use crate::target::Target;
-use http_types::Method;
+use http_types::HeaderValue;
 use std::alloc::Global;
 use url::{ParseError, Url};
 
@@ -16,7 +16,7 @@ pub struct Hop {
     /// It is asked by GET, and without a body.
     pub by_get: bool,
 
-    /// It goes to another host or port than the first.
+    /// It goes, or went, to another host or port than the first.
     pub is_foreign: bool,
 }
 
@@ -39,6 +39,13 @@ impl Hop {
             by_get: self.by_get || turns_to_get(status, method),
             is_foreign: self.is_foreign || !is_same,
         }
+    }
+
+    /// The method, where the first one was this.
+    pub fn method<'a>(self, first: &'a [u8]) -> &'a [u8]
+        ensures { result.now ≡ hop_method self first.now }
+    {
+        if self.by_get { b"GET" } else { first }
     }
 }
 
@@ -63,24 +70,30 @@ pub fn is_same_place(old: &Target, new: &Target) -> bool
     old.port == new.port && old.named_host() == new.named_host()
 }
 
-/// The URL that a Location names, beside the URL that was asked for (RFC 3986, section 5.2, as the URL Standard has it).
-pub fn resolve(alloc: Global, base: &str, location: &str) -> Result<String, GetError>
-    ensures { IfOk result (λ text. (from : Parts) × (to : Parts) × (parse_url None base.now ≡ Ok from) × (parse_url (Some from) location.now ≡ Ok to) × (string_bytes text ≡ serialize to)) }
+/// Reads a URL that the user names. What a URL can't hold is escaped, as the URL Standard has it.
+pub fn read_url(alloc: Global, text: &str) -> Result<Url, GetError>
+    ensures ok { IfOk result (λ url. parse_url None text.now ≡ Ok url) }
+    ensures err { IfErr result (λ error. is_of_url error ≡ true) }
 {
-    let base = known(Url::parse(alloc, base))?;
-    let place = known(base.join(location))?;
-    match String::from_str(alloc, place.as_str()) {
-        Ok(text) => Ok(text),
-        Err(_) => Err(GetError::NoMemory),
+    match Url::parse(alloc, text) {
+        Ok(url) => Ok(url),
+        Err(ParseError::OutOfMemory) => Err(GetError::NoMemory),
+        Err(_) => Err(GetError::Url),
     }
 }
 
-fn known(parsed: Result<Url, ParseError>) -> Result<Url, GetError>
-    ensures { IfOk result (λ url. parsed ≡ Ok url) }
+/// The URL that a Location names, beside the URL that was asked for (RFC 3986, section 5.2, as the URL Standard has it).
+pub fn resolve(base: &Url, location: &HeaderValue) -> Result<Url, GetError>
+    ensures ok { IfOk result (λ url. parse_url (Some base.now) location.now.bytes ≡ Ok url) }
+    ensures err { IfErr result (λ error. (error ≡ GetError.NoMemory) ⊎ ((error ≡ GetError.Location) × NamesNone base.now (Some location.now))) }
 {
-    match parsed {
+    let Ok(text) = location.to_str() else {
+        return Err(GetError::Location);
+    };
+    match base.join(text) {
         Ok(url) => Ok(url),
         Err(ParseError::OutOfMemory) => Err(GetError::NoMemory),
+        Err(ParseError::Overflow) => Err(GetError::NoMemory),
         Err(_) => Err(GetError::Location),
     }
 }

@@ -1,10 +1,9 @@
 //! What is asked.
-ghost use Rattle.std.specs.Prelude.{◌≡◌, ◌||◌, None, codes, is_some, OnOk, IfOk, IfErr};
+ghost use Rattle.std.specs.Prelude.{◌≡◌, ◌||◌, None, is_some, OnOk, IfOk, IfErr};
 ghost use Rattle.http_header.specs.FieldValue.{plain_value};
 ghost use Rattle.h1_client.specs.ClientMeaning.{request_of};
 ghost use Rattle.h1_encoder.specs.Meaning.{size_of};
-ghost use Rattle.http_map.specs.HeaderMap.{remove};
-ghost use Rattle.app_get.specs.Redirects.{hop_method, hop_has_body, hop_fields};
+ghost use Rattle.app_get.specs.Redirects.{hop_method, hop_has_body, without_secrets, without_content, hop_fields};
 ghost use Rattle.app_get.specs.Asking.{TellsTime, Asks, IsUnasked};
 ghost use Rattle.app_get.specs.Heads.{asked_method, is_repeatable, target_authority, general_headers, body_type, typed, asked_headers, AsksFor};
 
@@ -15,7 +14,9 @@ use crate::redirect::Hop;
 use crate::target::Target;
 use h1_client::ClientConnection;
 use http_framing::BodySize;
-use http_header::{AUTHORIZATION, USER_AGENT};
+use http_header::{
+    AUTHORIZATION, CONTENT_ENCODING, CONTENT_LANGUAGE, CONTENT_LOCATION, PROXY_AUTHORIZATION, USER_AGENT,
+};
 use http_types::header::{
     ACCEPT, CONTENT_TYPE, COOKIE, HOST, HeaderMap, HeaderValue, value_of_str,
 };
@@ -108,11 +109,7 @@ fn headers_for(
 {
     let mut headers = general_headers(alloc, target)?;
     put_type(&mut headers, has_body(options, hop), options.is_form)?;
-    if hop.is_foreign {
-        put_fields(&mut headers, &without_secrets(&options.fields)?)?;
-    } else {
-        put_fields(&mut headers, &options.fields)?;
-    }
+    put_fields(&mut headers, &own_fields(&options.fields, hop)?)?;
     Ok(headers)
 }
 
@@ -132,15 +129,40 @@ fn put_type(headers: &mut HeaderMap, has_body: bool, is_form: bool) -> Result<()
     headers.append(CONTENT_TYPE, type_of(is_form))
 }
 
-// What the user meant for one host alone isn't sent to another.
-fn without_secrets(fields: &HeaderMap) -> Result<HeaderMap, NoMemory>
-    ensures { IfOk result (λ left. left ≡ remove (remove (remove fields.now (codes "host")) (codes "authorization")) (codes "cookie")) }
+// The user's own fields that are still sent.
+fn own_fields(fields: &HeaderMap, hop: Hop) -> Result<HeaderMap, NoMemory>
+    ensures { IfOk result (λ left. left ≡ hop_fields hop fields.now) }
 {
     let mut left = fields.copy()?;
-    left.remove(HOST);
-    left.remove(AUTHORIZATION);
-    left.remove(COOKIE);
+    drop_secrets(&mut left, hop.is_foreign);
+    drop_content(&mut left, hop.by_get);
     Ok(left)
+}
+
+// What the user meant for one host alone isn't sent to another.
+fn drop_secrets(fields: &mut HeaderMap, is_foreign: bool)
+    ensures { fields.new ≡ without_secrets is_foreign fields.old }
+{
+    if !is_foreign {
+        return;
+    }
+    fields.remove(HOST);
+    fields.remove(AUTHORIZATION);
+    fields.remove(COOKIE);
+    fields.remove(PROXY_AUTHORIZATION);
+}
+
+// What tells of a body isn't sent where there is none any more.
+fn drop_content(fields: &mut HeaderMap, by_get: bool)
+    ensures { fields.new ≡ without_content by_get fields.old }
+{
+    if !by_get {
+        return;
+    }
+    fields.remove(CONTENT_TYPE);
+    fields.remove(CONTENT_ENCODING);
+    fields.remove(CONTENT_LANGUAGE);
+    fields.remove(CONTENT_LOCATION);
 }
 
 fn type_of(is_form: bool) -> HeaderValue
