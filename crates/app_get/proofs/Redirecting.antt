@@ -1,6 +1,6 @@
 -- Redirect after redirect.
 use Rattle.std.specs.Prelude.{◌≡◌, ℕ, ◌+◌, ◌≤◌, Bool, true, false, List, [], ◌∷◌, ◌++◌, length, Option, Result, Ok, Err}
-use Rattle.std.proofs.Common.{refl, inl, inr, arith}
+use Rattle.std.proofs.Common.{refl, ◌∙◌, inl, inr, arith}
 use Rattle.app_get.specs.declared.error.GetError.{GetError}
 use Rattle.app_get.specs.declared.error.GetError.TheVariants as get_error
 use Rattle.app_get.specs.declared.follow.Stage.{Stage}
@@ -70,12 +70,12 @@ gone_barred a b c text method follows count stage reply error gone few noted fol
 }
 
 -- one too many
-pub gone_beyond : (a b c : Option (List Asked)) (text method : List ℕ) (follows : Bool) (stage : Stage) (reply : Reply)
-    → HasGone a text method follows 10 b stage → Notes b (came stage (Ok reply) ∷ []) c → is_followed follows reply ≡ true
+pub gone_beyond : (a b c : Option (List Asked)) (text method : List ℕ) (follows : Bool) (count : ℕ) (stage : Stage) (reply : Reply)
+    → HasGone a text method follows count b stage → count ≡ 10 → Notes b (came stage (Ok reply) ∷ []) c → is_followed follows reply ≡ true
     → Follows a text method follows c (Err get_error.Redirects)
-gone_beyond a b c text method follows stage reply gone noted followed = record {
+gone_beyond a b c text method follows count stage reply gone all noted followed = record {
   asked = came stage (Ok reply) ∷ gone.asked;
   few = omega (arith, gone.many);
   notes = notes_then a b c gone.asked (came stage (Ok reply) ∷ []) gone.notes noted;
-  ends = (gone.way, (followed, inl (refl, gone.many)));
+  ends = (gone.way, (followed, inl (refl, gone.many ∙ all)));
 }

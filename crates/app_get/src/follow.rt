@@ -99,7 +99,9 @@ impl Stage {
         let url = resolve(&self.url, location)?;
         let target = Target::read(alloc, url.as_str())?;
         let is_same = is_same_place(&self.target, &target);
-        let hop = self.hop.after(reply.status, self.hop.method(method), is_same);
+        let hop = self
+            .hop
+            .after(reply.status, self.hop.method(method), is_same);
         Ok(Stage { url, target, hop })
     }
 }

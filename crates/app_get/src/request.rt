@@ -15,7 +15,8 @@ use crate::target::Target;
 use h1_client::ClientConnection;
 use http_framing::BodySize;
 use http_header::{
-    AUTHORIZATION, CONTENT_ENCODING, CONTENT_LANGUAGE, CONTENT_LOCATION, PROXY_AUTHORIZATION, USER_AGENT,
+    AUTHORIZATION, CONTENT_ENCODING, CONTENT_LANGUAGE, CONTENT_LOCATION, PROXY_AUTHORIZATION,
+    USER_AGENT,
 };
 use http_types::header::{
     ACCEPT, CONTENT_TYPE, COOKIE, HOST, HeaderMap, HeaderValue, value_of_str,
