@@ -1,6 +1,6 @@
 -- Redirect after redirect.
-use Rattle.std.specs.Prelude.{◌≡◌, ℕ, ◌+◌, ◌≤◌, Bool, true, false, List, [], ◌∷◌, ◌++◌, length, Option, Result, Ok, Err}
-use Rattle.std.proofs.Common.{refl, ◌∙◌, inl, inr, arith}
+use Rattle.std.specs.Prelude.{◌≡◌, ℕ, ◌+◌, ◌≤◌, Bool, true, false, List, [], ◌∷◌, ◌++◌, length, Option, Result, Ok, Err, IsErrAnd}
+use Rattle.std.proofs.Common.{refl, sym, subst, ◌∙◌, inl, inr, arith}
 use Rattle.app_get.specs.declared.error.GetError.{GetError}
 use Rattle.app_get.specs.declared.error.GetError.TheVariants as get_error
 use Rattle.app_get.specs.declared.follow.Stage.{Stage}
@@ -79,3 +79,9 @@ gone_beyond a b c text method follows count stage reply gone all noted followed 
   notes = notes_then a b c gone.asked (came stage (Ok reply) ∷ []) gone.notes noted;
   ends = (gone.way, (followed, inl (refl, gone.many ∙ all)));
 }
+
+-- where it is known which error there is
+pub gone_err : (r : Result ℕ GetError) (error : GetError) (a b : Option (List Asked)) (text method : List ℕ) (follows : Bool) → IsErrAnd r (λ d. d ≡ error)
+    → Follows a text method follows b (Err error) → Follows a text method follows b r
+gone_err (Ok status) error a b text method follows is ends = absurd is
+gone_err (Err d) error a b text method follows is ends = subst (λ (e : GetError). Follows a text method follows b (Err e)) (sym is) ends
