@@ -27,7 +27,9 @@ returns-in_err-reply-2 g c =
     gone_err _ _ _ _ _ _ _ c.from_residual-in_err-reply-2.ensures.1 (gone_failed _ _ _ _ _ _ _ _ _ c.loop-turn.invariant (omega arith) c.in_err-reply-2.ensures)
 
 pub returns-then-is_followed : goal.returns-then-is_followed
-returns-then-is_followed g c = ?
+returns-then-is_followed g c =
+    gone_beyond _ _ _ _ _ _ _ _ _ c.loop-turn.invariant (omega arith) c.in_ok-reply-2.ensures (sym c.is_followed-2.ensures ∙ c.if-is_followed.true)
 
 pub returns : goal.returns
-returns g c = ?
+returns g c =
+    gone_answered _ _ _ _ _ _ _ _ _ c.loop-turn.invariant (omega arith) c.in_ok-reply-2.ensures (sym c.is_followed-2.ensures ∙ c.if-is_followed.false)
