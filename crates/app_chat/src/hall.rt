@@ -1,8 +1,9 @@
 //! All members, and the limits that are theirs together.
+use crate::control::Farewell;
 use crate::house::House;
 use crate::member::{Joining, Member, Stage};
 use crate::serve::serve;
-use crate::watch::watch;
+use crate::watch::{dismiss, watch};
 use rooms::{NoMemory, ServiceConfig};
 use std::alloc::Global;
 
@@ -24,6 +25,12 @@ const COUNT_AFTER: usize = 8 * 1024 * 1024;
 /// The most bytes of payload that wait for members who are gone, before a new hub is begun.
 const MAX_LOST: usize = 32 * 1024 * 1024;
 
+/// The most bytes of unfinished messages in all. Where more have come, members with more than their share are let go.
+const MAX_BEGUN: usize = 32 * 1024 * 1024;
+
+/// The share of a member.
+const SHARE: usize = MAX_BEGUN / MAX_MEMBERS;
+
 /// How many connections an idle hub has had at least before a new one is begun in its place.
 const IDLE_NUMBERS: usize = 1024;
 
@@ -33,6 +40,7 @@ const MAX_STALL: u64 = 30_000;
 /// The sockets of the rooms, by the numbers of their connections.
 #[derive(Drop)]
 pub struct Hall {
+    alloc: Global,
     house: House,
     members: Vec<Option<Member>>,
 
@@ -57,6 +65,7 @@ impl Hall {
     /// A hall without a member.
     pub fn new(alloc: Global, config: ServiceConfig) -> Result<Hall, NoMemory> {
         Ok(Hall {
+            alloc,
             house: House::new(alloc, config),
             members: Vec::new(alloc),
             present: Vec::new(alloc),
@@ -87,43 +96,34 @@ impl Hall {
         Some(self.house.len())
     }
 
-    /// A member joins. The moment is in milliseconds since 1970, the other one is of uptime. One whose connection doesn't take
-    /// its request is dropped.
+    /// A member joins. The moment is in milliseconds since 1970, the other one is of uptime.
     pub fn admit(&mut self, joining: Joining, moment: u64, uptime: u64) -> Result<(), NoMemory> {
-        let Joining {
-            stream,
-            owed,
-            request,
-        } = joining;
+        let member = Member::new(self.alloc, joining, uptime)?;
         let Some(number) = self.house.open()? else {
             return Ok(());
         };
-        self.house.tick(number, moment)?;
-        if !self.house.read(number, request.as_slice())? {
-            return Ok(());
-        }
         // Numbers are given one after another.
         for _ in self.members.len()..number {
             self.members.push(None)?;
         }
-        self.members.push(Some(Member::new(stream, owed, uptime)))?;
+        self.members.push(Some(member))?;
         self.present.push(number)?;
+        self.house.tick(number, moment)?;
         Ok(())
     }
 
     /// The member with this number may be read from, or written to.
     pub fn note(&mut self, number: usize, may_read: bool, may_write: bool) {
         if let Some(Some(member)) = self.members.get_mut(number) {
-            let standing = &mut member.standing;
-            standing.may_read = standing.may_read || may_read;
-            standing.may_write = standing.may_write || may_write;
+            member.may_read = member.may_read || may_read;
+            member.standing.may_write = member.standing.may_write || may_write;
         }
     }
 
     /// A round of all members. It says whether anything moved. The moment is of uptime, in milliseconds.
     pub fn round(&mut self, uptime: u64) -> Result<bool, NoMemory> {
         if self.read >= COUNT_AFTER {
-            self.count();
+            self.count()?;
         }
         let mut moved = false;
         let mut place = 0;
@@ -158,6 +158,7 @@ impl Hall {
         };
         let reads = !self.is_full;
         let served = serve(
+            self.alloc,
             &mut self.house,
             number,
             member,
@@ -181,14 +182,49 @@ impl Hall {
         }
     }
 
-    // Counts the bytes that wait.
-    fn count(&mut self) {
-        let mut bytes: usize = 0;
+    // Counts the bytes that wait and those of unfinished messages. Where these are too many, members with more than their
+    // share are let go.
+    fn count(&mut self) -> Result<(), NoMemory> {
+        let mut waiting: usize = 0;
+        let mut begun: usize = 0;
         for &number in &self.present {
-            bytes = bytes.saturating_add(self.house.waiting_bytes(number));
+            waiting = waiting.saturating_add(self.house.waiting_bytes(number));
+            begun = begun.saturating_add(self.begun(number));
         }
         self.read = 0;
-        self.is_full = bytes > MAX_WAITING;
+        self.is_full = waiting.saturating_add(begun) > MAX_WAITING;
+        if begun > MAX_BEGUN {
+            self.shed()?;
+        }
+        Ok(())
+    }
+
+    // How many bytes have come of an unfinished message of the member with this number.
+    fn begun(&self, number: usize) -> usize {
+        match self.members.get(number) {
+            Some(Some(member)) => member.splitter.begun(),
+            _ => 0,
+        }
+    }
+
+    // Lets members go of whose unfinished message more than their share has come.
+    fn shed(&mut self) -> Result<(), NoMemory> {
+        for place in 0..self.present.len() {
+            let Some(&number) = self.present.get(place) else {
+                break;
+            };
+            if let Some(Some(member)) = self.members.get_mut(number)
+                && member.splitter.begun() > SHARE
+            {
+                dismiss(
+                    &mut self.house,
+                    number,
+                    &mut member.standing,
+                    Farewell::NoRoom,
+                )?;
+            }
+        }
+        Ok(())
     }
 
     // A hub without a connection takes the place of the old one, of whose members none is there any more.
@@ -201,14 +237,15 @@ impl Hall {
 
     /// A second has passed. The moment is in milliseconds since 1970, the other one is of uptime.
     pub fn tick(&mut self, moment: u64, uptime: u64) -> Result<(), NoMemory> {
-        self.count();
+        self.count()?;
+        let reads = !self.is_full;
         for place in 0..self.present.len() {
             let Some(&number) = self.present.get(place) else {
                 break;
             };
             if let Some(Some(member)) = self.members.get_mut(number) {
                 tick_one(&mut self.house, number, member, moment, uptime)?;
-                watch(&mut self.house, number, member, !self.is_full, uptime)?;
+                watch(&mut self.house, number, member, reads, uptime)?;
                 if self.is_renewing {
                     self.house.drain(number)?;
                 }

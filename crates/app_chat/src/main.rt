@@ -6,12 +6,14 @@ mod flow;
 mod gate;
 mod hall;
 mod house;
+mod inlet;
 mod member;
 mod options;
 mod page;
 mod round;
 mod serve;
 mod server;
+mod splitter;
 mod text;
 mod visit;
 mod watch;
@@ -36,8 +38,8 @@ const NO_PORT: u8 = 4;
 /// Memory has run out.
 const NO_MEMORY: u8 = 5;
 
-/// The most bytes of a request's head, and of a frame with its own head: its payload has at most 65,536.
-const HOLD_SIZE: usize = 65_550;
+/// The most bytes of a request's head, and of a frame with its own head.
+const HOLD_SIZE: usize = 16_384;
 
 /// How long a peer may take for what is left once its connection ends, in milliseconds.
 const DISCONNECT_TIMEOUT: u64 = 10_000;

@@ -2,8 +2,11 @@
 ghost use Rattle.std.specs.Prelude.{◌≡◌, true};
 
 use crate::control::Farewell;
+use crate::splitter::Splitter;
 use bytes::Bytes;
 use mio::net::TcpStream;
+use rooms::NoMemory;
+use std::alloc::Global;
 
 /// How far a socket has come.
 #[derive(Clone, Copy, PartialEq, Eq)]
@@ -83,12 +86,13 @@ impl Standing {
     }
 }
 
-/// One that joins: its socket, what is owed to it, and its request with what it sent behind that.
+/// One that joins: its socket, what is owed to it, its request, and what it sent behind that.
 #[derive(Drop)]
 pub struct Joining {
     pub stream: TcpStream,
     pub owed: Bytes,
     pub request: Vec<u8>,
+    pub early: Vec<u8>,
 }
 
 /// A socket of the rooms.
@@ -96,6 +100,18 @@ pub struct Joining {
 pub struct Member {
     pub stream: TcpStream,
     pub standing: Standing,
+
+    /// The socket may have something to read.
+    pub may_read: bool,
+
+    /// The socket gives no more bytes.
+    pub has_ended: bool,
+
+    /// Cuts its frames.
+    pub splitter: Splitter,
+
+    /// What came, and what its connection hasn't read.
+    pub inbox: Bytes,
 
     /// When something came last, in milliseconds of uptime.
     pub heard: u64,
@@ -105,15 +121,26 @@ pub struct Member {
 }
 
 impl Member {
-    /// One that joins now, in milliseconds of uptime. Its connection was told of its request.
-    pub fn new(stream: TcpStream, owed: Bytes, uptime: u64) -> Member {
-        let mut standing = Standing::new(owed);
-        standing.asks = true;
-        Member {
+    /// One that joins now, in milliseconds of uptime.
+    pub fn new(alloc: Global, joining: Joining, uptime: u64) -> Result<Member, NoMemory> {
+        let Joining {
             stream,
-            standing,
+            owed,
+            request,
+            early,
+        } = joining;
+        let mut splitter = Splitter::new(alloc);
+        let mut came = request;
+        splitter.take(early.as_slice(), &mut came)?;
+        Ok(Member {
+            stream,
+            standing: Standing::new(owed),
+            may_read: true,
+            has_ended: false,
+            splitter,
+            inbox: Bytes::from_vec(came)?,
             heard: uptime,
             pinged: None,
-        }
+        })
     }
 }

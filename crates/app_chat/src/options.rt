@@ -18,11 +18,11 @@ to chat with is served over HTTP/1 at http://ADDRESS:PORT/. The next port serves
   --help           print this and end
   --version        print the version and end
 
-It ends where the standard input ends. At most 512 members are there at once; a further one gets 503. A frame has at
-most 65,536 bytes and a message 1,048,576, else its member is told Close 1009. Who doesn't read is told Close 1008 once
-1024 frames wait for it, and is cut off where it takes nothing for 30 seconds. Who is silent for 20 seconds is sent a
-Ping, and is told Close 1008 after 20 more. Without --origin a page of any site that a member visits may join the rooms
-in that member's browser.
+It ends where the standard input ends. At most 512 members are there at once; a further one gets 503. A message has at
+most 1,048,576 bytes, else its member is told Close 1009. Who doesn't read is told Close 1008 once 1024 frames wait for
+it, and is cut off where it takes nothing for 30 seconds. Who is silent for 20 seconds is sent a Ping, and is told Close
+1008 after 20 more. Without --origin a page of any site that a member visits may join the rooms in that member's
+browser.
 
 It ends with status 0, 1 where the system fails to tell what is ready, 2 for words out of form, 4 where an address can't
 be listened on, and 5 where memory runs out.";

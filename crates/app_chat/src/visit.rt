@@ -24,8 +24,8 @@ const LONGEST: u64 = 30_000;
 /// How long a peer is waited for after the last byte was written, in milliseconds.
 const LINGER: u64 = 2000;
 
-/// The most bytes of a frame's payload.
-const FRAME: usize = 65_536;
+/// The most bytes of a frame's payload, which no frame of a member exceeds once it is cut.
+const FRAME: usize = 16_370;
 
 /// The lines of a request to join, but for its target and its key.
 const LINES: &[u8] =
@@ -216,17 +216,20 @@ impl Visit {
     /// What joins: its socket, with what is owed to it and what it sent.
     pub fn into_joining(self) -> Result<Joining, NoMemory> {
         let Visit {
+            alloc,
             stream,
             connection,
-            mut request,
+            request,
             owed,
             ..
         } = self;
-        put_held(&connection, &mut request)?;
+        let mut early = Vec::new(alloc);
+        put_held(&connection, &mut early)?;
         Ok(Joining {
             stream,
             owed,
             request,
+            early,
         })
     }
 
@@ -315,15 +318,13 @@ fn put_request(out: &mut Vec<u8>, target: &[u8], head: &RequestHead) -> Result<(
     Ok(())
 }
 
-// What a connection holds, behind other bytes.
+// What a connection holds, behind nothing else.
 fn put_held(connection: &Connection, out: &mut Vec<u8>) -> Result<(), NoMemory> {
-    let mut start: usize = 0;
     for _ in 0..connection.held() {
-        let piece = connection.held_bytes(start);
+        let piece = connection.held_bytes(out.len());
         if piece.is_empty() {
             break;
         }
-        start = start.saturating_add(piece.len());
         out.extend_from_slice(piece)?;
     }
     Ok(())

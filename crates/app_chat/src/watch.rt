@@ -32,7 +32,7 @@ pub fn watch(
     if uptime.saturating_sub(member.heard) >= IDLE
         && is_between_frames(house, number)
         && member.standing.stage == Stage::Open
-        && !member.standing.has_ended
+        && !member.has_ended
         && say(&mut member.standing.owed, PING)
     {
         member.pinged = Some(uptime);
