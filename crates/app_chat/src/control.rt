@@ -32,7 +32,17 @@ impl Farewell {
         }
     }
 
-    /// The Close that says so, without a text: 1002, 1009, 1008 or 1013.
+    /// Its code.
+    pub fn code(self) -> u16 {
+        match self {
+            Farewell::Broken => 1002,
+            Farewell::TooBig => 1009,
+            Farewell::Silent => 1008,
+            Farewell::NoRoom => 1013,
+        }
+    }
+
+    /// The Close that says so, without a text.
     pub fn close(self) -> &'static [u8] {
         match self {
             Farewell::Broken => &[0x88, 2, 0x03, 0xea],

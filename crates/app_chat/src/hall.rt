@@ -1,23 +1,20 @@
 //! All members, and the limits that are theirs together.
 use crate::control::Farewell;
 use crate::house::House;
+use crate::limits::Limits;
 use crate::member::{Joining, Member, Stage};
-use crate::serve::serve;
+use crate::record::Gone;
+use crate::serve::{Pace, serve};
 use crate::watch::{dismiss, watch};
 use rooms::{NoMemory, ServiceConfig};
 use std::alloc::Global;
+use std::mem;
 
 /// The most bytes that are read at once.
 pub const READ_SIZE: usize = 16_384;
 
-/// The most members at once.
-pub const MAX_MEMBERS: usize = 512;
-
 /// The most connections that a hub numbers.
 const MAX_NUMBERS: usize = 4096;
-
-/// The most bytes of payload that may wait in all. Where more do, nobody is read.
-const MAX_WAITING: usize = 64 * 1024 * 1024;
 
 /// After how many bytes that were read the waiting ones are counted anew.
 const COUNT_AFTER: usize = 8 * 1024 * 1024;
@@ -25,22 +22,14 @@ const COUNT_AFTER: usize = 8 * 1024 * 1024;
 /// The most bytes of payload that wait for members who are gone, before a new hub is begun.
 const MAX_LOST: usize = 32 * 1024 * 1024;
 
-/// The most bytes of unfinished messages in all. Where more have come, members with more than their share are let go.
-const MAX_BEGUN: usize = 32 * 1024 * 1024;
-
-/// The share of a member.
-const SHARE: usize = MAX_BEGUN / MAX_MEMBERS;
-
 /// How many connections an idle hub has had at least before a new one is begun in its place.
 const IDLE_NUMBERS: usize = 1024;
-
-/// For how long a member may take nothing of what it is owed, in milliseconds.
-const MAX_STALL: u64 = 30_000;
 
 /// The sockets of the rooms, by the numbers of their connections.
 #[derive(Drop)]
 pub struct Hall {
     alloc: Global,
+    limits: Limits,
     house: House,
     members: Vec<Option<Member>>,
 
@@ -59,13 +48,17 @@ pub struct Hall {
 
     // Everybody is let go, and then a new hub is begun.
     is_renewing: bool,
+
+    // Those who left, and whom nobody asked for since.
+    gone: Vec<Gone>,
 }
 
 impl Hall {
     /// A hall without a member.
-    pub fn new(alloc: Global, config: ServiceConfig) -> Result<Hall, NoMemory> {
+    pub fn new(alloc: Global, config: ServiceConfig, limits: Limits) -> Result<Hall, NoMemory> {
         Ok(Hall {
             alloc,
+            limits,
             house: House::new(alloc, config),
             members: Vec::new(alloc),
             present: Vec::new(alloc),
@@ -74,6 +67,7 @@ impl Hall {
             is_full: false,
             lost: 0,
             is_renewing: false,
+            gone: Vec::new(alloc),
         })
     }
 
@@ -90,7 +84,7 @@ impl Hall {
         if self.house.len() >= MAX_NUMBERS {
             self.is_renewing = true;
         }
-        if self.is_renewing || self.present.len() >= MAX_MEMBERS {
+        if self.is_renewing || self.present.len() as u64 >= self.limits.members {
             return None;
         }
         Some(self.house.len())
@@ -98,7 +92,7 @@ impl Hall {
 
     /// A member joins. The moment is in milliseconds since 1970, the other one is of uptime.
     pub fn admit(&mut self, joining: Joining, moment: u64, uptime: u64) -> Result<(), NoMemory> {
-        let member = Member::new(self.alloc, joining, uptime)?;
+        let member = Member::new(self.alloc, joining, self.limits.message, uptime)?;
         let Some(number) = self.house.open()? else {
             return Ok(());
         };
@@ -135,7 +129,7 @@ impl Hall {
                 if place < self.present.len() {
                     self.present.swap_remove(place);
                 }
-                self.let_go(number);
+                self.let_go(number)?;
             } else {
                 place = place.saturating_add(1);
             }
@@ -156,30 +150,46 @@ impl Hall {
         let Some(Some(member)) = self.members.get_mut(number) else {
             return Ok(true);
         };
-        let reads = !self.is_full;
-        let served = serve(
-            self.alloc,
-            &mut self.house,
-            number,
-            member,
-            &mut self.room,
-            reads,
+        let pace = Pace {
+            alloc: self.alloc,
+            limits: self.limits,
+            reads: !self.is_full,
             uptime,
-        )?;
+        };
+        let served = serve(&mut self.house, number, member, &mut self.room, &pace)?;
         self.read = self.read.saturating_add(served.round.read);
         *moved = *moved || served.round.moved;
         Ok(served.is_over)
     }
 
     // Its socket is done with.
-    fn let_go(&mut self, number: usize) {
-        if let Some(place) = self.members.get_mut(number) {
-            *place = None;
+    fn let_go(&mut self, number: usize) -> Result<(), NoMemory> {
+        if let Some(place) = self.members.get_mut(number)
+            && let Some(member) = place.take()
+        {
+            self.gone.push(member.into_gone())?;
         }
         self.lost = self.lost.saturating_add(self.house.waiting_bytes(number));
         if self.lost > MAX_LOST {
             self.is_renewing = true;
         }
+        Ok(())
+    }
+
+    /// Those who left since this was asked last.
+    pub fn take_gone(&mut self) -> Vec<Gone> {
+        mem::replace(&mut self.gone, Vec::new(self.alloc))
+    }
+
+    /// The program ends: all leave.
+    pub fn dismiss_all(&mut self) -> Result<(), NoMemory> {
+        for place in &mut self.members {
+            if let Some(member) = place.take() {
+                self.gone.push(member.into_gone())?;
+            }
+        }
+        self.present.clear();
+        Ok(())
     }
 
     // Counts the bytes that wait and those of unfinished messages. Where these are too many, members with more than their
@@ -192,8 +202,8 @@ impl Hall {
             begun = begun.saturating_add(self.begun(number));
         }
         self.read = 0;
-        self.is_full = waiting.saturating_add(begun) > MAX_WAITING;
-        if begun > MAX_BEGUN {
+        self.is_full = waiting.saturating_add(begun) as u64 > self.limits.waiting;
+        if begun as u64 > self.limits.unfinished {
             self.shed()?;
         }
         Ok(())
@@ -214,7 +224,7 @@ impl Hall {
                 break;
             };
             if let Some(Some(member)) = self.members.get_mut(number)
-                && member.splitter.begun() > SHARE
+                && member.splitter.begun() as u64 > self.limits.share()
             {
                 dismiss(
                     &mut self.house,
@@ -238,14 +248,14 @@ impl Hall {
     /// A second has passed. The moment is in milliseconds since 1970, the other one is of uptime.
     pub fn tick(&mut self, moment: u64, uptime: u64) -> Result<(), NoMemory> {
         self.count()?;
-        let reads = !self.is_full;
+        let (reads, limits) = (!self.is_full, self.limits);
         for place in 0..self.present.len() {
             let Some(&number) = self.present.get(place) else {
                 break;
             };
             if let Some(Some(member)) = self.members.get_mut(number) {
-                tick_one(&mut self.house, number, member, moment, uptime)?;
-                watch(&mut self.house, number, member, reads, uptime)?;
+                tick_one(&mut self.house, number, member, moment, limits.stall, uptime)?;
+                watch(&mut self.house, number, member, reads, &limits, uptime)?;
                 if self.is_renewing {
                     self.house.drain(number)?;
                 }
@@ -261,10 +271,11 @@ fn tick_one(
     number: usize,
     member: &mut Member,
     moment: u64,
+    stall: u64,
     uptime: u64,
 ) -> Result<(), NoMemory> {
     if let Some(since) = member.standing.stalled
-        && uptime.saturating_sub(since) >= MAX_STALL
+        && uptime.saturating_sub(since) >= stall
     {
         member.standing.lose();
     }

@@ -2,6 +2,7 @@
 ghost use Rattle.std.specs.Prelude.{◌≡◌, true};
 
 use crate::control::Farewell;
+use crate::record::{Gone, Record};
 use crate::splitter::Splitter;
 use bytes::Bytes;
 use mio::net::TcpStream;
@@ -56,6 +57,12 @@ pub struct Standing {
 
     /// Why it is let go, as it is told once its connection has ended and all is written.
     pub last: Option<Farewell>,
+
+    /// The code of the Close that it was sent.
+    pub code: Option<u16>,
+
+    /// How many bytes were written.
+    pub written: u64,
 }
 
 impl Standing {
@@ -72,6 +79,8 @@ impl Standing {
             is_lost: false,
             stalled: None,
             last: None,
+            code: None,
+            written: 0,
         }
     }
 
@@ -86,10 +95,12 @@ impl Standing {
     }
 }
 
-/// One that joins: its socket, what is owed to it, its request, and what it sent behind that.
+/// One that joins: its socket, what is owed to it, its request, and what it sent behind that. Where a log is kept, its target.
 #[derive(Drop)]
 pub struct Joining {
     pub stream: TcpStream,
+    pub record: Record,
+    pub target: Vec<u8>,
     pub owed: Bytes,
     pub request: Vec<u8>,
     pub early: Vec<u8>,
@@ -100,6 +111,10 @@ pub struct Joining {
 pub struct Member {
     pub stream: TcpStream,
     pub standing: Standing,
+
+    /// What the log tells of it.
+    pub record: Record,
+    target: Vec<u8>,
 
     /// The socket may have something to read.
     pub may_read: bool,
@@ -121,20 +136,29 @@ pub struct Member {
 }
 
 impl Member {
-    /// One that joins now, in milliseconds of uptime.
-    pub fn new(alloc: Global, joining: Joining, uptime: u64) -> Result<Member, NoMemory> {
+    /// One that joins now, in milliseconds of uptime. Its messages have at most so many bytes.
+    pub fn new(
+        alloc: Global,
+        joining: Joining,
+        message: u64,
+        uptime: u64,
+    ) -> Result<Member, NoMemory> {
         let Joining {
             stream,
+            record,
+            target,
             owed,
             request,
             early,
         } = joining;
-        let mut splitter = Splitter::new(alloc);
+        let mut splitter = Splitter::new(alloc, message);
         let mut came = request;
         splitter.take(early.as_slice(), &mut came)?;
         Ok(Member {
             stream,
             standing: Standing::new(owed),
+            record,
+            target,
             may_read: true,
             has_ended: false,
             splitter,
@@ -142,5 +166,16 @@ impl Member {
             heard: uptime,
             pinged: None,
         })
+    }
+
+    /// What the log tells of it, now that it is gone.
+    pub fn into_gone(self) -> Gone {
+        let mut record = self.record;
+        record.sent = record.sent.saturating_add(self.standing.written);
+        Gone {
+            record,
+            target: self.target,
+            code: self.standing.code,
+        }
     }
 }

@@ -1,9 +1,11 @@
 //! One round of a member, whose socket is closed once its connection has ended and all was written.
-use crate::control::say;
+use crate::control::{Farewell, say};
 use crate::house::House;
 use crate::inlet::Inlet;
+use crate::limits::{Limits, MOST_MESSAGE};
 use crate::member::{Member, Stage};
 use crate::round::{Round, buffered, go_round};
+use crate::watch::dismiss;
 use bytes::Bytes;
 use http_types::Source;
 use mio::net::TcpStream;
@@ -20,9 +22,6 @@ const READS: u32 = 16;
 /// The most reads of a round of one whose bytes are dropped.
 const DROPS: u32 = 4;
 
-/// How long a peer is waited for after the last byte was written, in milliseconds.
-const LINGER: u64 = 2000;
-
 /// What a round of a member did.
 #[derive(Clone, Copy)]
 pub struct Served {
@@ -32,29 +31,45 @@ pub struct Served {
     pub is_over: bool,
 }
 
-/// A round of a member. Where `reads` is false nothing is read. The moment is of uptime, in milliseconds.
+/// What the rounds of all members have in common.
+#[derive(Clone, Copy)]
+pub struct Pace {
+    pub alloc: Global,
+    pub limits: Limits,
+
+    /// Somebody is read.
+    pub reads: bool,
+
+    /// In milliseconds.
+    pub uptime: u64,
+}
+
+/// A round of a member.
 pub fn serve(
-    alloc: Global,
     house: &mut House,
     number: usize,
     member: &mut Member,
     room: &mut [u8],
-    reads: bool,
-    uptime: u64,
+    pace: &Pace,
 ) -> Result<Served, NoMemory> {
+    let uptime = pace.uptime;
     if let Stage::Lingering(until) = member.standing.stage {
         return Ok(linger(member, room, until, uptime));
     }
-    let limit = if reads { room.len() } else { 0 };
-    let came = fill(alloc, member, &mut room[..limit], uptime)?;
+    let limit = if pace.reads { room.len() } else { 0 };
+    let came = fill(pace.alloc, member, &mut room[..limit], uptime)?;
+    // The hub itself has the greatest limit of a message.
+    if pace.limits.message < MOST_MESSAGE && member.splitter.begun() as u64 > pace.limits.message {
+        dismiss(house, number, &mut member.standing, Farewell::TooBig)?;
+    }
     let mut round = go(house, number, member, &mut room[..limit], uptime)?;
     round.moved = round.moved || came;
-    let is_over = end(house, number, member, uptime, &mut round.moved);
+    let is_over = end(house, number, member, pace, &mut round.moved);
     Ok(Served { round, is_over })
 }
 
 // Ends what has nothing more to do, and says whether its socket is done with.
-fn end(house: &House, number: usize, member: &mut Member, uptime: u64, moved: &mut bool) -> bool {
+fn end(house: &House, number: usize, member: &mut Member, pace: &Pace, moved: &mut bool) -> bool {
     let standing = &mut member.standing;
     if standing.stage != Stage::Ended || !standing.owed.is_empty() {
         return false;
@@ -68,10 +83,11 @@ fn end(house: &House, number: usize, member: &mut Member, uptime: u64, moved: &m
     *moved = true;
     if let Some(farewell) = standing.last {
         standing.last = None;
+        standing.code = Some(farewell.code());
         say(&mut standing.owed, farewell.close());
         return false;
     }
-    shut(member, uptime);
+    shut(member, pace.uptime.saturating_add(pace.limits.linger));
     false
 }
 
@@ -139,6 +155,7 @@ fn read(
         Brought::Bytes(count) => {
             member.heard = uptime;
             member.pinged = None;
+            member.record.receive(count);
             member.splitter.take(&room[..count.min(room.len())], came)?;
             Ok(true)
         }
@@ -184,8 +201,8 @@ fn go(
     Ok(round)
 }
 
-// All was written, and no more will be.
-fn shut(member: &mut Member, uptime: u64) {
+// All was written, and no more will be. Its end is waited for until then.
+fn shut(member: &mut Member, until: u64) {
     if member.stream.shutdown(Shutdown::Write).is_err() {
         member.standing.lose();
         return;
@@ -193,7 +210,7 @@ fn shut(member: &mut Member, uptime: u64) {
     // What still comes is dropped.
     member.inbox = Bytes::new();
     member.may_read = true;
-    member.standing.stage = Stage::Lingering(uptime.saturating_add(LINGER));
+    member.standing.stage = Stage::Lingering(until);
 }
 
 // Drops what still comes, until it ends or the time is up.
@@ -215,7 +232,10 @@ fn linger(member: &mut Member, room: &mut [u8], until: u64, uptime: u64) -> Serv
                 served.is_over = true;
                 return served;
             }
-            Ok(_) => served.round.moved = true,
+            Ok(count) => {
+                member.record.receive(count);
+                served.round.moved = true;
+            }
             Err(_) => {
                 member.may_read = false;
                 return served;

@@ -2,8 +2,10 @@
 //!
 //! A browser sends each message as one frame, however large. A program between two ends may cut a frame into fragments (RFC
 //! 6455, section 5.4), so a connection has to hold no more than a piece of one.
-ghost use Rattle.std.specs.Prelude.{◌≡◌, ◌<◌, ◌≤◌, ◌^◌, ◌++◌, ◌∷◌, [], ◌&&◌, not, OnOk, length, slice_index};
-ghost use Rattle.app_chat.specs.Pieces.{fresh, all_told, after_all, told, after, begun_frame, frame_head, next_piece, next_head, ended, is_whole, head_size, length_size, stated_size, number, is_masked, is_control, is_last, is_cut, piece_head};
+ghost use Rattle.std.specs.Prelude.{◌≡◌, ◌<◌, ◌≤◌, ◌+◌, ◌^◌, ◌++◌, ◌∷◌, [], ◌&&◌, not, true, false, ℕ, OnOk, IfOk, length, take, slice_index};
+ghost use Rattle.model_h1.specs.FrameText.{frame_start, length_bytes, payload_length_of};
+
+ghost use Rattle.app_chat.specs.Pieces.{fresh, all_told, after_all, told, after, ran, spelled_at, begun_frame, frame_head, next_piece, next_head, ended, is_whole, head_size, stated_size, is_masked, is_control, is_last, is_cut, length_field, piece_head};
 
 use http_types::NoMemory;
 use std::alloc::Global;
@@ -12,25 +14,14 @@ use std::marker::Model;
 /// The most bytes of payload of a piece. They are a multiple of 4, so that the mask of the frame is that of each piece.
 pub const PIECE: usize = 16_368;
 
-/// The most bytes of payload of a frame that is cut.
-pub const LONGEST: u64 = 1_048_576;
-
-const FIN: u8 = 0x80;
-
-const RESERVED: u8 = 0x70;
-
-const OPCODE: u8 = 0x0f;
-
-/// The least opcode of a control frame.
-const CONTROL: u8 = 8;
-
-const MASKED: u8 = 0x80;
-
 /// Cuts what a member sends behind its handshake. A frame of at most 16,368 bytes of payload goes as it came. A larger one of a
-/// message goes as fragments of 16,368 bytes and a last one of what is left. From a frame on that has more than 1,048,576 bytes,
-/// or that the connection refuses by its head, all goes as it came.
+/// message goes as fragments of 16,368 bytes and a last one of what is left. From a frame on that has more bytes than the longest
+/// one may have, or that the connection refuses by its head, all goes as it came.
 #[derive(Drop)]
 pub struct Splitter {
+    // The most bytes of payload of a frame that is cut.
+    longest: u64,
+
     // The head of the frame that is under way, as far as it has come.
     head: Vec<u8>,
 
@@ -48,15 +39,16 @@ impl Model for Splitter {
 
     ghost Value = { Cutter };
 
-    ghost view = { λ s. record { head = s.head.items; piece = s.piece; rest = s.rest; begun = s.begun; is_raw = s.is_raw } };
+    ghost view = { λ s. record { longest = s.longest; head = s.head.items; piece = s.piece; rest = s.rest; begun = s.begun; is_raw = s.is_raw } };
 }
 
 impl Splitter {
-    /// One to which nothing has come.
-    pub fn new(alloc: Global) -> Splitter
-        ensures { result ≡ fresh }
+    /// One to which nothing has come. Of the frames that are cut none has more bytes of payload than the longest.
+    pub fn new(alloc: Global, longest: u64) -> Splitter
+        ensures { result ≡ fresh longest }
     {
         Splitter {
+            longest,
             head: Vec::new(alloc),
             piece: 0,
             rest: 0,
@@ -77,55 +69,93 @@ impl Splitter {
         ensures told { OnOk result (out.new.items ≡ out.old.items ++ all_told self.old bytes.now) }
         ensures after { OnOk result (self.new ≡ after_all self.old bytes.now) }
     {
-        for byte in bytes {
-            self.step(*byte, out)?;
+        let mut rest = bytes;
+        while !rest.is_empty() {
+            let count = self.take_some(rest, out)?;
+            rest = &rest[count..];
         }
         Ok(())
     }
 
-    // The same of one byte.
-    fn step(&mut self, byte: u8, out: &mut Vec<u8>) -> Result<(), NoMemory>
+    // The same of the first bytes, at least one: how many they were.
+    fn take_some(&mut self, bytes: &[u8], out: &mut Vec<u8>) -> Result<usize, NoMemory>
+        requires { 0 < length bytes.now }
+        ensures some { IfOk result (λ n. 0 < n) }
+        ensures within { IfOk result (λ n. n ≤ length bytes.now) }
+        ensures told { IfOk result (λ n. out.new.items ≡ out.old.items ++ all_told self.old (take n bytes.now)) }
+        ensures after { IfOk result (λ n. self.new ≡ after_all self.old (take n bytes.now)) }
+    {
+        if self.is_raw {
+            out.extend_from_slice(bytes)?;
+            return Ok(bytes.len());
+        }
+        if self.piece == 0 {
+            self.take_head_byte(bytes[0], out)?;
+            return Ok(1);
+        }
+        let count = self.piece.min(bytes.len());
+        self.take_run(&bytes[..count], out)?;
+        Ok(count)
+    }
+
+    // The same of a byte of a head.
+    fn take_head_byte(&mut self, byte: u8, out: &mut Vec<u8>) -> Result<(), NoMemory>
+        requires raw { self.old.is_raw ≡ false }
+        requires piece { self.old.piece ≡ 0 }
         ensures told { OnOk result (out.new.items ≡ out.old.items ++ told self.old byte) }
         ensures after { OnOk result (self.new ≡ after self.old byte) }
     {
-        if self.is_raw {
-            out.push(byte)?;
-            return Ok(());
+        self.head.push(byte)?;
+        if is_whole(self.head.as_slice()) {
+            self.begin(out)?;
         }
-        if self.piece == 0 {
-            self.head.push(byte)?;
-            if is_whole(self.head.as_slice()) {
-                self.begin(out)?;
-            }
-            return Ok(());
-        }
-        out.push(byte)?;
-        self.piece -= 1;
-        if !is_control(self.head.as_slice()) {
-            self.begun = self.begun.saturating_add(1);
-        }
+        Ok(())
+    }
+
+    // The same of bytes of a piece.
+    fn take_run(&mut self, bytes: &[u8], out: &mut Vec<u8>) -> Result<(), NoMemory>
+        requires raw { self.old.is_raw ≡ false }
+        requires some { 0 < length bytes.now }
+        requires within { length bytes.now ≤ self.old.piece }
+        ensures told { OnOk result (out.new.items ≡ out.old.items ++ all_told self.old bytes.now) }
+        ensures after { OnOk result (self.new ≡ after_all self.old bytes.now) }
+    {
+        out.extend_from_slice(bytes)?;
+        self.count(bytes.len());
         if self.piece == 0 {
             self.go_on(out)?;
         }
         Ok(())
     }
 
+    // So many bytes of a piece have come.
+    fn count(&mut self, count: usize)
+        requires { count ≤ self.old.piece }
+        ensures { self.new ≡ ran self.old count }
+    {
+        self.piece -= count;
+        if !is_control(self.head.as_slice()) {
+            self.begun = self.begun.saturating_add(count);
+        }
+    }
+
     // A head is whole.
     fn begin(&mut self, out: &mut Vec<u8>) -> Result<(), NoMemory>
+        requires { is_whole self.old.head ≡ true }
         ensures told { OnOk result (out.new.items ≡ out.old.items ++ frame_head self.old) }
         ensures after { OnOk result (self.new ≡ begun_frame self.old) }
     {
         let size = stated_size(self.head.as_slice());
-        if !may_be_cut(self.head.as_slice(), size) {
-            out.extend_from_slice(self.head.as_slice())?;
-            self.is_raw = !is_masked(self.head.as_slice()) || size > PIECE as u64;
-            self.piece = size.min(PIECE as u64) as usize;
-            self.rest = 0;
-        } else {
+        if may_be_cut(self.head.as_slice(), size, self.longest) {
             put_head(self.head.as_slice(), true, false, PIECE, out)?;
             self.piece = PIECE;
-            self.rest = size.min(LONGEST).saturating_sub(PIECE as u64) as usize;
+            self.rest = size.saturating_sub(PIECE as u64) as usize;
+            return Ok(());
         }
+        out.extend_from_slice(self.head.as_slice())?;
+        self.is_raw = !is_masked(self.head.as_slice()) || size > PIECE as u64;
+        self.piece = size.min(PIECE as u64) as usize;
+        self.rest = 0;
         if self.piece == 0 {
             self.end();
         }
@@ -163,65 +193,56 @@ impl Splitter {
 fn is_whole(head: &[u8]) -> bool
     ensures { result ≡ is_whole head.now }
 {
-    match head.get(1) {
-        Some(second) => head.len() >= head_size(*second),
-        None => false,
-    }
+    head.len() >= 2 && head.len() >= head_size(head[1])
 }
 
 // How many bytes the head has, by its second.
 fn head_size(second: u8) -> usize
     ensures { result ≡ head_size second }
 {
-    let key: usize = if second & MASKED == 0 { 2 } else { 6 };
-    length_size(second).saturating_add(key)
-}
-
-// How many further bytes the length has, by the second of a head.
-fn length_size(second: u8) -> usize
-    ensures { result ≡ length_size second }
-{
-    match second & 0x7f {
-        126 => 2,
-        127 => 8,
-        _ => 0,
+    let mask_bytes: usize = if second >= 128 { 4 } else { 0 };
+    match second % 128 {
+        126 => 4 + mask_bytes,
+        127 => 10 + mask_bytes,
+        _ => 2 + mask_bytes,
     }
 }
 
 // How many bytes of payload a whole head states.
 fn stated_size(head: &[u8]) -> u64
+    requires { is_whole head.now ≡ true }
     ensures { result ≡ stated_size head.now }
 {
-    let Some(second) = head.get(1) else {
-        return 0;
-    };
-    let count = length_size(*second);
-    if count == 0 {
-        return u64::from(*second & 0x7f);
-    }
-    let end = count.saturating_add(2).min(head.len());
-    number(&head[2.min(end)..end])
+    read_length(head[1], &head[2..])
 }
 
-// The number that these bytes are, the first being the highest.
-fn number(bytes: &[u8]) -> u64
-    requires { length bytes.now ≤ 8 }
-    ensures { result ≡ number 0 bytes.now }
+// The length, by the second byte and those behind it.
+fn read_length(second: u8, more: &[u8]) -> u64
+    requires { length_bytes (frame_start 0 second) ≤ length more.now }
+    ensures { (first : ℕ) → result ≡ payload_length_of (frame_start first second) more.now }
 {
-    let mut value: u64 = 0;
-    for byte in bytes {
-        value = value.wrapping_mul(256).wrapping_add(u64::from(*byte));
+    match second % 128 {
+        126 => more[0] as u64 * 256 + more[1] as u64,
+        127 => read_u32(more, 0) * 4_294_967_296 + read_u32(more, 4),
+        short => short as u64,
     }
-    value
+}
+
+// Four bytes in network order.
+fn read_u32(bytes: &[u8], at: usize) -> u64
+    requires { at + 4 ≤ length bytes.now }
+    ensures value { result ≡ spelled_at bytes.now at }
+    ensures bound { result < 2 ^ 32 }
+{
+    ((bytes[at] as u64 * 256 + bytes[at + 1] as u64) * 256 + bytes[at + 2] as u64) * 256
+        + bytes[at + 3] as u64
 }
 
 fn is_masked(head: &[u8]) -> bool
+    requires { 2 ≤ length head.now }
     ensures { result ≡ is_masked head.now }
 {
-    match head.get(1) {
-        Some(second) => second & MASKED != 0,
-        None => false,
-    }
+    head[1] >= 128
 }
 
 fn first_of(head: &[u8]) -> u8
@@ -236,25 +257,26 @@ fn first_of(head: &[u8]) -> u8
 fn is_control(head: &[u8]) -> bool
     ensures { result ≡ is_control head.now }
 {
-    first_of(head) & OPCODE >= CONTROL
+    first_of(head) % 16 >= 8
 }
 
 fn ends_message(head: &[u8]) -> bool
     ensures { result ≡ (not (is_control head.now) && is_last head.now) }
 {
-    !is_control(head) && first_of(head) & FIN != 0
+    !is_control(head) && first_of(head) >= 128
 }
 
 // Whether a frame is one of a message, and too large to go as it is.
-fn may_be_cut(head: &[u8], size: u64) -> bool
-    requires { size ≡ stated_size head.now }
-    ensures { result ≡ is_cut head.now }
+fn may_be_cut(head: &[u8], size: u64, longest: u64) -> bool
+    requires whole { 2 ≤ length head.now }
+    requires size { size ≡ stated_size head.now }
+    ensures { result ≡ is_cut longest head.now }
 {
     size > PIECE as u64
-        && size <= LONGEST
+        && size <= longest
         && is_masked(head)
         && !is_control(head)
-        && first_of(head) & RESERVED == 0
+        && first_of(head) / 16 % 8 == 0
 }
 
 // The head of a piece: of the first or a further one, and of the last or another, with so many bytes of payload.
@@ -268,17 +290,26 @@ fn put_head(
     requires { size < 65536 }
     ensures { OnOk result (out.new.items ≡ out.old.items ++ piece_head head.now is_first is_last size) }
 {
-    let opcode = if is_first { first_of(head) & OPCODE } else { 0 };
-    let fin = if is_last { first_of(head) & FIN } else { 0 };
-    out.push(fin | opcode)?;
+    let first = first_of(head);
+    let opcode = if is_first { first % 16 } else { 0 };
+    let mark: u8 = if is_last && first >= 128 { 128 } else { 0 };
+    out.push(mark + opcode)?;
+    put_length(size, out)?;
+    out.extend_from_slice(&head[head.len().saturating_sub(4)..])?;
+    Ok(())
+}
+
+// A length, with the mark of a mask.
+fn put_length(size: usize, out: &mut Vec<u8>) -> Result<(), NoMemory>
+    requires { size < 65536 }
+    ensures { OnOk result (out.new.items ≡ out.old.items ++ length_field size) }
+{
     if size < 126 {
-        out.push(MASKED | size as u8)?;
-    } else {
-        out.push(MASKED | 126)?;
-        out.push((size >> 8 & 0xff) as u8)?;
-        out.push((size & 0xff) as u8)?;
+        out.push(128 + size as u8)?;
+        return Ok(());
     }
-    let key = &head[head.len().saturating_sub(4)..];
-    out.extend_from_slice(key)?;
+    out.push(254)?;
+    out.push((size / 256) as u8)?;
+    out.push((size % 256) as u8)?;
     Ok(())
 }
