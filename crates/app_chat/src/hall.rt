@@ -209,10 +209,10 @@ impl Hall {
         Ok(())
     }
 
-    // How many bytes have come of an unfinished message of the member with this number.
+    // How many bytes have come of an unfinished message of the member with this number. That of one who is let go is forgotten.
     fn begun(&self, number: usize) -> usize {
         match self.members.get(number) {
-            Some(Some(member)) => member.splitter.begun(),
+            Some(Some(member)) if member.standing.is_heard() => member.splitter.begun(),
             _ => 0,
         }
     }

@@ -141,8 +141,8 @@ impl Journal {
         self.lines.extend_from_slice(line.as_bytes())
     }
 
-    // Says how many lines were lost, once all others are written.
-    fn tell_loss(&mut self) -> Result<(), NoMemory> {
+    /// Says how many lines were lost, once all others are written.
+    pub fn tell_loss(&mut self) -> Result<(), NoMemory> {
         if self.lost == 0 || !self.lines.is_empty() {
             return Ok(());
         }
@@ -157,35 +157,37 @@ impl Journal {
 
     /// Writes what there is room for, and has itself told by this token when there is room again.
     pub fn flush(&mut self, poll: &Poll, token: usize) {
-        if self.lines.is_empty() || self.room == Room::Later {
-            return;
-        }
-        let count = match self.write() {
-            Some(count) => count,
-            // Nobody will read it.
-            None => self.lines.len(),
-        };
-        let _ = self.lines.drain(..count.min(self.lines.len()));
-        if self.room == Room::Now {
-            self.room = Room::Later;
-            let mut source = SourceFd(&ERRORS);
-            let _ = poll
-                .registry()
-                .reregister(&mut source, Token(token), Interest::WRITABLE);
+        for _ in 0..=MOST / PIECE {
+            if self.lines.is_empty() || self.room == Room::Later {
+                return;
+            }
+            self.write();
+            if self.room == Room::Now {
+                self.ask_for_room(poll, token);
+            }
         }
     }
 
-    // Writes once, and says how many bytes that were; nothing where it failed.
-    fn write(&mut self) -> Option<usize> {
+    fn ask_for_room(&mut self, poll: &Poll, token: usize) {
+        self.room = Room::Later;
+        let mut source = SourceFd(&ERRORS);
+        let _ = poll
+            .registry()
+            .reregister(&mut source, Token(token), Interest::WRITABLE);
+    }
+
+    // Writes once. What nobody will read is dropped.
+    fn write(&mut self) {
         let mut errors = self.rt.stderr();
         let end = self.lines.len().min(PIECE);
-        match errors.write(&self.lines[..end]) {
-            Ok(count) => Some(count),
+        let count = match errors.write(&self.lines[..end]) {
+            Ok(count) => count.min(self.lines.len()),
             Err(error) => match error.kind() {
-                ErrorKind::WouldBlock | ErrorKind::Interrupted => Some(0),
-                _ => None,
+                ErrorKind::WouldBlock | ErrorKind::Interrupted => 0,
+                _ => self.lines.len(),
             },
-        }
+        };
+        let _ = self.lines.drain(..count);
     }
 
     /// Whether all was written.

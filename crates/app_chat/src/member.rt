@@ -84,6 +84,11 @@ impl Standing {
         }
     }
 
+    /// Its messages are still taken.
+    pub fn is_heard(&self) -> bool {
+        self.stage == Stage::Open && !self.is_told && !self.is_lost
+    }
+
     /// The peer is gone.
     pub fn lose(&mut self)
         ensures { self.new.is_lost ≡ true }

@@ -164,6 +164,7 @@ impl Server {
         self.log_gone(self.now())?;
         let mut events = Events::with_capacity(self.alloc, EVENTS)?;
         for _ in 0..LAST_WAITS {
+            self.journal.tell_loss()?;
             self.journal.flush(&self.poll, LOG_TOKEN);
             if self.journal.is_empty() {
                 break;
