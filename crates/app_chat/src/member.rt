@@ -175,12 +175,17 @@ impl Member {
 
     /// What the log tells of it, now that it is gone.
     pub fn into_gone(self) -> Gone {
-        let mut record = self.record;
-        record.sent = record.sent.saturating_add(self.standing.written);
+        let Member {
+            standing,
+            mut record,
+            target,
+            ..
+        } = self;
+        record.sent = record.sent.saturating_add(standing.written);
         Gone {
             record,
-            target: self.target,
-            code: self.standing.code,
+            target,
+            code: standing.code,
         }
     }
 }

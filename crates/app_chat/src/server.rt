@@ -161,7 +161,8 @@ impl Server {
     // Cuts all members off, and writes the rest of the log where somebody reads it.
     fn end(&mut self) -> Result<(), ServeError> {
         self.hall.dismiss_all()?;
-        self.log_gone(self.now())?;
+        let now = self.now();
+        self.log_gone(now)?;
         let mut events = Events::with_capacity(self.alloc, EVENTS)?;
         for _ in 0..LAST_WAITS {
             self.journal.tell_loss()?;
@@ -192,7 +193,8 @@ impl Server {
 
     // Logs those who left.
     fn log_gone(&mut self, now: Now) -> Result<(), NoMemory> {
-        for gone in &self.hall.take_gone() {
+        let left = self.hall.take_gone();
+        for gone in &left {
             let asked = Asked {
                 method: "GET",
                 target: gone.target.as_slice(),

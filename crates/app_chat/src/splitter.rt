@@ -3,9 +3,9 @@
 //! A browser sends each message as one frame, however large. A program between two ends may cut a frame into fragments (RFC
 //! 6455, section 5.4), so a connection has to hold no more than a piece of one.
 ghost use Rattle.std.specs.Prelude.{◌≡◌, ◌<◌, ◌≤◌, ◌+◌, ◌^◌, ◌++◌, ◌∷◌, [], ◌&&◌, not, true, false, ℕ, OnOk, IfOk, length, take, slice_index};
-ghost use Rattle.model_h1.specs.FrameText.{frame_start, length_bytes, payload_length_of};
+ghost use Rattle.model_h1.specs.FrameText.{frame_start, length_bytes, mask_bytes, payload_length_of};
 
-ghost use Rattle.app_chat.specs.Pieces.{fresh, all_told, after_all, told, after, ran, spelled_at, begun_frame, frame_head, next_piece, next_head, ended, is_whole, head_size, stated_size, is_masked, is_control, is_last, is_cut, length_field, piece_head};
+ghost use Rattle.app_chat.specs.Pieces.{fresh, all_told, after_all, told, after, ran, spelled_at, begun_frame, frame_head, next_piece, next_head, ended, is_whole, head_size, stated_size, is_masked, is_control, is_last, is_cut, is_refused, first_byte, length_field, piece_head};
 
 use http_types::NoMemory;
 use std::alloc::Global;
@@ -134,9 +134,10 @@ impl Splitter {
         ensures { self.new ≡ ran self.old count }
     {
         self.piece -= count;
-        if !is_control(self.head.as_slice()) {
-            self.begun = self.begun.saturating_add(count);
+        if is_control(self.head.as_slice()) {
+            return;
         }
+        self.begun = self.begun.saturating_add(count);
     }
 
     // A head is whole.
@@ -153,7 +154,7 @@ impl Splitter {
             return Ok(());
         }
         out.extend_from_slice(self.head.as_slice())?;
-        self.is_raw = !is_masked(self.head.as_slice()) || size > PIECE as u64;
+        self.is_raw = is_refused(self.head.as_slice(), size);
         self.piece = size.min(PIECE as u64) as usize;
         self.rest = 0;
         if self.piece == 0 {
@@ -182,10 +183,11 @@ impl Splitter {
     fn end(&mut self)
         ensures { self.new ≡ ended self.old }
     {
-        if ends_message(self.head.as_slice()) {
+        let ends_message = ends_message(self.head.as_slice());
+        self.head.clear();
+        if ends_message {
             self.begun = 0;
         }
-        self.head.clear();
     }
 }
 
@@ -200,12 +202,27 @@ fn is_whole(head: &[u8]) -> bool
 fn head_size(second: u8) -> usize
     ensures { result ≡ head_size second }
 {
-    let mask_bytes: usize = if second >= 128 { 4 } else { 0 };
+    2 + length_bytes(second) + mask_bytes(second)
+}
+
+// How many further bytes hold the length.
+fn length_bytes(second: u8) -> usize
+    ensures value { result ≡ length_bytes (frame_start 0 second) }
+    ensures bound { result ≤ 8 }
+{
     match second % 128 {
-        126 => 4 + mask_bytes,
-        127 => 10 + mask_bytes,
-        _ => 2 + mask_bytes,
+        126 => 2,
+        127 => 8,
+        _ => 0,
     }
+}
+
+// How many bytes the mask has.
+fn mask_bytes(second: u8) -> usize
+    ensures value { result ≡ mask_bytes (frame_start 0 second) }
+    ensures bound { result ≤ 4 }
+{
+    if second >= 128 { 4 } else { 0 }
 }
 
 // How many bytes of payload a whole head states.
@@ -279,6 +296,15 @@ fn may_be_cut(head: &[u8], size: u64, longest: u64) -> bool
         && first_of(head) / 16 % 8 == 0
 }
 
+// Whether the connection refuses a frame, which isn't cut, by its head.
+fn is_refused(head: &[u8], size: u64) -> bool
+    requires whole { 2 ≤ length head.now }
+    requires size { size ≡ stated_size head.now }
+    ensures { result ≡ is_refused head.now }
+{
+    !is_masked(head) || size > PIECE as u64
+}
+
 // The head of a piece: of the first or a further one, and of the last or another, with so many bytes of payload.
 fn put_head(
     head: &[u8],
@@ -290,13 +316,23 @@ fn put_head(
     requires { size < 65536 }
     ensures { OnOk result (out.new.items ≡ out.old.items ++ piece_head head.now is_first is_last size) }
 {
-    let first = first_of(head);
-    let opcode = if is_first { first % 16 } else { 0 };
-    let mark: u8 = if is_last && first >= 128 { 128 } else { 0 };
-    out.push(mark + opcode)?;
+    out.push(first_byte(head, is_first, is_last))?;
     put_length(size, out)?;
     out.extend_from_slice(&head[head.len().saturating_sub(4)..])?;
     Ok(())
+}
+
+// The first byte of a piece: the mark of a last one, and the opcode, which is 0 behind the first.
+fn first_byte(head: &[u8], is_first: bool, is_last: bool) -> u8
+    ensures { result ≡ first_byte head.now is_first is_last }
+{
+    let first = first_of(head);
+    match (is_last && first >= 128, is_first) {
+        (true, true) => 128 + first % 16,
+        (true, false) => 128,
+        (false, true) => first % 16,
+        (false, false) => 0,
+    }
 }
 
 // A length, with the mark of a mask.

@@ -144,10 +144,13 @@ impl Visit {
     ) -> Result<(), NoMemory> {
         let mut record = self.record;
         record.send(self.connection.buffered());
-        let asked = item.map(|item| Asked {
-            method: item.head.method.as_str(),
-            target: item.target.as_slice(),
-        });
+        let asked = match item {
+            Some(item) => Some(Asked {
+                method: item.head.method.as_str(),
+                target: item.target.as_slice(),
+            }),
+            None => None,
+        };
         journal.tell(Deed::Answered(status), asked, &record, now)
     }
 
