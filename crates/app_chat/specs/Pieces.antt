@@ -1,5 +1,5 @@
 -- A member's frames as its connection is told of them: a large one comes in pieces (RFC 6455, sections 5.2 and 5.4).
-use Rattle.std.specs.Prelude.{◌≡◌, ℕ, suc, ◌+◌, ◌-◌, ◌*◌, ◌/◌, ◌%◌, ◌==◌, Bool, true, false, not, ◌&&◌, ◌||◌, List, [], ◌∷◌, ◌++◌, length, take, drop, min, nat_lt, nat_le, slice_index, ◌^◌, if◌then◌else◌}
+use Rattle.std.specs.Prelude.{◌≡◌, ℕ, zero, suc, ◌+◌, ◌-◌, ◌*◌, ◌/◌, ◌%◌, ◌==◌, Bool, true, false, not, ◌&&◌, ◌||◌, List, [], ◌∷◌, ◌++◌, length, take, drop, min, nat_lt, nat_le, slice_index, ◌^◌, if◌then◌else◌}
 use Rattle.model_h1.specs.FrameText.{FrameStart, frame_start, length_bytes, mask_bytes, payload_length_of}
 
 -- ---- the head of a frame
@@ -60,7 +60,7 @@ first_byte head first last = (if last && is_last head then 128 else 0) + (if fir
 
 -- its length, with the mark of a mask
 abbrev pub length_field : ℕ → List ℕ
-length_field size = if nat_lt size 126 then 128 + size ∷ [] else 254 ∷ size / 256 ∷ size % 256 ∷ []
+length_field size = if nat_lt size 126 then (128 + size) ∷ [] else 254 ∷ (size / 256) ∷ (size % 256) ∷ []
 
 -- The head of a piece of the frame with this head: the first or a further one, the last or another one, of so many bytes. The
 -- mask is that of the frame.
@@ -139,3 +139,32 @@ all_told c (byte ∷ rest) = told c byte ++ all_told (after c byte) rest
 abbrev pub after_all : Cutter → List ℕ → Cutter
 after_all c [] = c
 after_all c (byte ∷ rest) = after_all (after c byte) rest
+
+-- ---- what it is for: a large frame is told as its fragments
+
+-- nothing is under way
+pub record IsIdle (c : Cutter) : Type 0 where
+  pub head : c.head ≡ []
+  pub piece : c.piece ≡ 0
+  pub raw : c.is_raw ≡ false
+
+-- a whole head and no more, and as much payload as it states, of a frame that is cut
+pub record IsLargeFrame (longest : ℕ) (head payload : List ℕ) : Type 0 where
+  pub whole : is_whole head ≡ true
+  pub exact : length head ≡ head_size (slice_index head 1)
+  pub cut : is_cut longest head ≡ true
+  pub stated : length payload ≡ stated_size head
+
+-- the fragments of a payload, at most so many: the first has the opcode of the frame, the others that of a continuation, and none
+-- but the last is its message's last
+abbrev pub fragments : ℕ → List ℕ → Bool → List ℕ → List ℕ
+fragments zero head first payload = []
+fragments (suc n) head first payload =
+    if nat_le (length payload) PIECE
+    then piece_head head first true (length payload) ++ payload
+    else piece_head head first false PIECE ++ take PIECE payload ++ fragments n head false (drop PIECE payload)
+
+-- a large frame is told as its fragments, and then nothing is under way
+pub record IsToldInPieces (c : Cutter) (head payload : List ℕ) : Type 0 where
+  pub told : all_told c (head ++ payload) ≡ fragments (length payload) head true payload
+  pub idle : IsIdle (after_all c (head ++ payload))
