@@ -168,3 +168,8 @@ fragments (suc n) head first payload =
 pub record IsToldInPieces (c : Cutter) (head payload : List ℕ) : Type 0 where
   pub told : all_told c (head ++ payload) ≡ fragments (length payload) head true payload
   pub idle : IsIdle (after_all c (head ++ payload))
+
+-- what was put behind these bytes are the fragments, and nothing is under way
+pub record TellsFragments (before after : List ℕ) (c : Cutter) (head payload : List ℕ) : Type 0 where
+  pub told : after ≡ before ++ fragments (length payload) head true payload
+  pub idle : IsIdle c

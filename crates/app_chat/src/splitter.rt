@@ -2,10 +2,10 @@
 //!
 //! A browser sends each message as one frame, however large. A program between two ends may cut a frame into fragments (RFC
 //! 6455, section 5.4), so a connection has to hold no more than a piece of one.
-ghost use Rattle.std.specs.Prelude.{◌≡◌, ◌<◌, ◌≤◌, ◌+◌, ◌^◌, ◌++◌, ◌∷◌, [], ◌&&◌, not, true, false, ℕ, OnOk, IfOk, length, take, slice_index};
+ghost use Rattle.std.specs.Prelude.{◌≡◌, ◌<◌, ◌≤◌, ◌+◌, ◌^◌, ◌++◌, ◌∷◌, [], ◌&&◌, ◌==◌, not, true, false, ℕ, List, OnOk, IfOk, length, take, slice_index};
 ghost use Rattle.model_h1.specs.FrameText.{frame_start, length_bytes, mask_bytes, payload_length_of};
 
-ghost use Rattle.app_chat.specs.Pieces.{fresh, all_told, after_all, told, after, ran, spelled_at, begun_frame, frame_head, next_piece, next_head, ended, is_whole, head_size, stated_size, is_masked, is_control, is_last, is_cut, is_refused, first_byte, length_field, piece_head};
+ghost use Rattle.app_chat.specs.Pieces.{fresh, all_told, after_all, told, after, with_head_byte, IsIdle, IsLargeFrame, TellsFragments, ran, spelled_at, begun_frame, frame_head, next_piece, next_head, ended, is_whole, head_size, stated_size, is_masked, is_control, is_last, is_cut, is_refused, first_byte, length_field, piece_head};
 
 use http_types::NoMemory;
 use std::alloc::Global;
@@ -64,8 +64,19 @@ impl Splitter {
         self.begun
     }
 
-    /// Puts what these bytes become behind others. Once memory ran out, it is of no use.
+    /// Puts what these bytes become behind others. A large frame becomes its fragments. Once memory ran out, it is of no use.
     pub fn take(&mut self, bytes: &[u8], out: &mut Vec<u8>) -> Result<(), NoMemory>
+        ensures told { OnOk result (out.new.items ≡ out.old.items ++ all_told self.old bytes.now) }
+        ensures after { OnOk result (self.new ≡ after_all self.old bytes.now) }
+        ensures cut { OnOk result ((head payload : List ℕ) → IsIdle self.old → IsLargeFrame self.old.longest head payload
+            → bytes.now ≡ head ++ payload → TellsFragments out.old.items out.new.items self.new head payload) }
+    {
+        self.take_all(bytes, out)?;
+        Ok(())
+    }
+
+    // The same without a word of large frames.
+    fn take_all(&mut self, bytes: &[u8], out: &mut Vec<u8>) -> Result<(), NoMemory>
         ensures told { OnOk result (out.new.items ≡ out.old.items ++ all_told self.old bytes.now) }
         ensures after { OnOk result (self.new ≡ after_all self.old bytes.now) }
     {
@@ -86,8 +97,9 @@ impl Splitter {
         ensures after { IfOk result (λ n. self.new ≡ after_all self.old (take n bytes.now)) }
     {
         if self.is_raw {
-            out.extend_from_slice(bytes)?;
-            return Ok(bytes.len());
+            let count = bytes.len();
+            self.put_raw(&bytes[..count], out)?;
+            return Ok(count);
         }
         if self.piece == 0 {
             self.take_head_byte(bytes[0], out)?;
@@ -98,6 +110,16 @@ impl Splitter {
         Ok(count)
     }
 
+    // The same where all goes as it came.
+    fn put_raw(&self, bytes: &[u8], out: &mut Vec<u8>) -> Result<(), NoMemory>
+        requires { self.now.is_raw ≡ true }
+        ensures told { OnOk result (out.new.items ≡ out.old.items ++ all_told self.now bytes.now) }
+        ensures after { self.now ≡ after_all self.now bytes.now }
+    {
+        out.extend_from_slice(bytes)?;
+        Ok(())
+    }
+
     // The same of a byte of a head.
     fn take_head_byte(&mut self, byte: u8, out: &mut Vec<u8>) -> Result<(), NoMemory>
         requires raw { self.old.is_raw ≡ false }
@@ -105,11 +127,24 @@ impl Splitter {
         ensures told { OnOk result (out.new.items ≡ out.old.items ++ told self.old byte) }
         ensures after { OnOk result (self.new ≡ after self.old byte) }
     {
-        self.head.push(byte)?;
-        if is_whole(self.head.as_slice()) {
+        self.push_head_byte(byte)?;
+        if self.has_whole_head() {
             self.begin(out)?;
         }
         Ok(())
+    }
+
+    fn push_head_byte(&mut self, byte: u8) -> Result<(), NoMemory>
+        ensures { OnOk result (self.new ≡ with_head_byte self.old byte) }
+    {
+        self.head.push(byte)?;
+        Ok(())
+    }
+
+    fn has_whole_head(&self) -> bool
+        ensures { result ≡ is_whole self.now.head }
+    {
+        is_whole(self.head.as_slice())
     }
 
     // The same of bytes of a piece.
@@ -122,10 +157,16 @@ impl Splitter {
     {
         out.extend_from_slice(bytes)?;
         self.count(bytes.len());
-        if self.piece == 0 {
+        if self.has_whole_piece() {
             self.go_on(out)?;
         }
         Ok(())
+    }
+
+    fn has_whole_piece(&self) -> bool
+        ensures { result ≡ (self.now.piece == 0) }
+    {
+        self.piece == 0
     }
 
     // So many bytes of a piece have come.

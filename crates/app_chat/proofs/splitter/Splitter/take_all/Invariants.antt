@@ -1,7 +1,7 @@
 -- What is told so far, and then what the rest becomes, is what all bytes become.
 use Rattle.std.specs.Prelude.{◌≡◌, ◌++◌, length}
 use Rattle.app_chat.specs.Pieces.{all_told, after_all}
-use Rattle.app_chat.proofs.splitter.Splitter.take.Given as goal
+use Rattle.app_chat.proofs.splitter.Splitter.take_all.Given as goal
 
 abbrev pub invariant-loop-rest : goal.invariant-loop-rest
 invariant-loop-rest l = record {
