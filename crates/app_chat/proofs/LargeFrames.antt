@@ -12,10 +12,10 @@ not_there : (done rest : List ℕ) → length (done ++ rest) ≡ head_size (get_
 not_there done rest exact some = elim (cases_lt (length done) 2) [
   | inl short ↦ ap (λ (b : Bool). b && nat_le (head_size (get_or done 1 0)) (length done)) (lt-leb 2 (length done) short)
   | inr two ↦
-    let second : get_or (done ++ rest) 1 0 ≡ get_or done 1 0 = get_or_append_left done rest 0 1 (omega arith) in
-    let size : head_size (get_or done 1 0) ≡ length (done ++ rest) = ap head_size (sym second) ∙ sym exact in
-    let fewer : length done < head_size (get_or done 1 0) = omega (arith, size, length-append done rest) in
-    ap₂ (λ (a b : Bool). a && b) (le-leb 2 (length done) two) (lt-leb (head_size (get_or done 1 0)) (length done) fewer)
+      let second : get_or (done ++ rest) 1 0 ≡ get_or done 1 0 = get_or_append_left done rest 0 1 (omega arith) in
+      let size : head_size (get_or done 1 0) ≡ length (done ++ rest) = ap head_size (sym second) ∙ sym exact in
+      let fewer : length done < head_size (get_or done 1 0) = omega (arith, size, length-append done rest) in
+      ap₂ (λ (a b : Bool). a && b) (le-leb 2 (length done) two) (lt-leb (head_size (get_or done 1 0)) (length done) fewer)
 ]
 
 -- the bytes of a head, of which some may have come
@@ -68,18 +68,18 @@ fragments_split : (n : ℕ) (head : List ℕ) (first : Bool) (payload : List ℕ
     ≡ piece_head head first (nat_le (length payload) PIECE) (min (length payload) PIECE) ++ behind_head n head payload
 fragments_split n head first payload = elim (cases_lt PIECE (length payload)) [
   | inl more ↦
-    let above = lt-leb (length payload) PIECE more in
-    let size : min (length payload) PIECE ≡ PIECE = omega arith in
-    cond-false _ _ _ above
-    ∙ append_assoc (piece_head head first false PIECE) (take PIECE payload) (fragments n head false (drop PIECE payload))
-    ∙ sym (ap₂ (λ (b : Bool) (s : ℕ). piece_head head first b s ++ behind_head n head payload) above size
-    ∙ ap (λ (t : List ℕ). piece_head head first false PIECE ++ t) (cond-false _ _ _ above))
+      let above = lt-leb (length payload) PIECE more in
+      let size : min (length payload) PIECE ≡ PIECE = omega arith in
+      cond-false _ _ _ above
+      ∙ append_assoc (piece_head head first false PIECE) (take PIECE payload) (fragments n head false (drop PIECE payload))
+      ∙ sym (ap₂ (λ (b : Bool) (s : ℕ). piece_head head first b s ++ behind_head n head payload) above size
+      ∙ ap (λ (t : List ℕ). piece_head head first false PIECE ++ t) (cond-false _ _ _ above))
   | inr within ↦
-    let below = le-leb (length payload) PIECE within in
-    let size : min (length payload) PIECE ≡ length payload = omega arith in
-    cond-true _ _ _ below
-    ∙ sym (ap₂ (λ (b : Bool) (s : ℕ). piece_head head first b s ++ behind_head n head payload) below size
-    ∙ ap (λ (t : List ℕ). piece_head head first true (length payload) ++ t) (cond-true _ _ _ below))
+      let below = le-leb (length payload) PIECE within in
+      let size : min (length payload) PIECE ≡ length payload = omega arith in
+      cond-true _ _ _ below
+      ∙ sym (ap₂ (λ (b : Bool) (s : ℕ). piece_head head first b s ++ behind_head n head payload) below size
+      ∙ ap (λ (t : List ℕ). piece_head head first true (length payload) ++ t) (cond-true _ _ _ below))
 ]
 
 -- whether a piece is the last one
@@ -96,7 +96,7 @@ record Next (c : Cutter) (payload : List ℕ) : Type 0 where
   has : HasPiece cutter (drop PIECE payload)
   after : after_all c (take PIECE payload) ≡ cutter
   told : all_told c (take PIECE payload) ≡ take PIECE payload
-    ++ piece_head c.head false (nat_le (length (drop PIECE payload)) PIECE) (min (length (drop PIECE payload)) PIECE)
+      ++ piece_head c.head false (nat_le (length (drop PIECE payload)) PIECE) (min (length (drop PIECE payload)) PIECE)
 
 next_of : (c : Cutter) (payload : List ℕ) → HasPiece c payload → PIECE < length payload → Next c payload
 next_of c payload has more =
@@ -120,8 +120,8 @@ next_of c payload has more =
       };
       after = after_whole c p raw (omega arith) all ∙ cond-false _ _ _ some;
       told = told_whole c p raw (omega arith) all ∙ ap (λ (t : List ℕ). p ++ t) (cond-false _ _ _ some
-    ∙ ap (λ (n : ℕ). piece_head c.head false (n - min n PIECE == 0) (min n PIECE)) left
-    ∙ ap (λ (b : Bool). piece_head c.head false b (min (length (drop PIECE payload)) PIECE)) (last_piece (length (drop PIECE payload))));
+          ∙ ap (λ (n : ℕ). piece_head c.head false (n - min n PIECE == 0) (min n PIECE)) left
+          ∙ ap (λ (b : Bool). piece_head c.head false b (min (length (drop PIECE payload)) PIECE)) (last_piece (length (drop PIECE payload))));
     }
 
 -- a payload in one piece
@@ -149,17 +149,17 @@ payload_told zero c payload has fits = one_told zero c payload has (omega arith)
 payload_told (suc n) c payload has fits = elim (cases_lt PIECE (length payload)) [
   | inr within ↦ one_told (suc n) c payload has within
   | inl more ↦
-    let next = next_of c payload has more in
-    let p = take PIECE payload in
-    let q = drop PIECE payload in
-    let others : all_told next.cutter q ≡ behind_head n c.head q
-    = payload_told n next.cutter q next.has (omega (arith, length-drop PIECE payload)) ∙ ap (λ (h : List ℕ). behind_head n h q) next.same in
-    let head = piece_head c.head false (nat_le (length q) PIECE) (min (length q) PIECE) in
-    ap (all_told c) (sym (take-append-drop PIECE payload)) ∙ all_told-append c p q
-    ∙ ap₂ (λ (a : List ℕ) (b : Cutter). a ++ all_told b q) next.told next.after
-    ∙ ap (λ (t : List ℕ). (p ++ head) ++ t) others ∙ append_assoc p head (behind_head n c.head q)
-    ∙ ap (λ (t : List ℕ). p ++ t) (sym (fragments_split n c.head false q))
-    ∙ sym (cond-false _ _ _ (lt-leb (length payload) PIECE more))
+      let next = next_of c payload has more in
+      let p = take PIECE payload in
+      let q = drop PIECE payload in
+      let others : all_told next.cutter q ≡ behind_head n c.head q
+      = payload_told n next.cutter q next.has (omega (arith, length-drop PIECE payload)) ∙ ap (λ (h : List ℕ). behind_head n h q) next.same in
+      let head = piece_head c.head false (nat_le (length q) PIECE) (min (length q) PIECE) in
+      ap (all_told c) (sym (take-append-drop PIECE payload)) ∙ all_told-append c p q
+      ∙ ap₂ (λ (a : List ℕ) (b : Cutter). a ++ all_told b q) next.told next.after
+      ∙ ap (λ (t : List ℕ). (p ++ head) ++ t) others ∙ append_assoc p head (behind_head n c.head q)
+      ∙ ap (λ (t : List ℕ). p ++ t) (sym (fragments_split n c.head false q))
+      ∙ sym (cond-false _ _ _ (lt-leb (length payload) PIECE more))
 ]
 
 payload_idle : (n : ℕ) (c : Cutter) (payload : List ℕ) → HasPiece c payload → length payload ≤ suc n → IsIdle (after_all c payload)
@@ -167,12 +167,12 @@ payload_idle zero c payload has fits = one_idle c payload has (omega arith)
 payload_idle (suc n) c payload has fits = elim (cases_lt PIECE (length payload)) [
   | inr within ↦ one_idle c payload has within
   | inl more ↦
-    let next = next_of c payload has more in
-    let p = take PIECE payload in
-    let q = drop PIECE payload in
-    let same : after_all c payload ≡ after_all next.cutter q
-    = ap (after_all c) (sym (take-append-drop PIECE payload)) ∙ after_all-append c p q ∙ ap (λ (d : Cutter). after_all d q) next.after in
-    subst IsIdle (sym same) (payload_idle n next.cutter q next.has (omega (arith, length-drop PIECE payload)))
+      let next = next_of c payload has more in
+      let p = take PIECE payload in
+      let q = drop PIECE payload in
+      let same : after_all c payload ≡ after_all next.cutter q
+      = ap (after_all c) (sym (take-append-drop PIECE payload)) ∙ after_all-append c p q ∙ ap (λ (d : Cutter). after_all d q) next.after in
+      subst IsIdle (sym same) (payload_idle n next.cutter q next.has (omega (arith, length-drop PIECE payload)))
 ]
 
 -- ---- the frame
@@ -209,9 +209,10 @@ large_head c x rest payload idle large =
     let is : c.head ++ head ≡ head = ap (λ (h : List ℕ). h ++ head) idle.head in
     let whole : is_whole (c.head ++ head) ≡ true = ap is_whole is ∙ large.whole in
     let exact : length (c.head ++ head) ≡ head_size (get_or (c.head ++ head) 1 0)
-    = subst (λ (h : List ℕ). length h ≡ head_size (get_or h 1 0)) (sym is) large.exact in
-    ( heads_told c x rest idle.raw idle.piece whole exact ∙ ap (λ (h : List ℕ). frame_head (record c { head = h })) is ∙ cond-true _ _ _ large.cut
-    , heads_after c x rest idle.raw idle.piece whole exact ∙ ap (λ (h : List ℕ). begun_frame (record c { head = h })) is ∙ cond-true _ _ _ large.cut )
+    = subst (λ (h : List ℕ). length h ≡ head_size (get_or h 1 0)) (sym is) large.exact in (
+      heads_told c x rest idle.raw idle.piece whole exact ∙ ap (λ (h : List ℕ). frame_head (record c { head = h })) is ∙ cond-true _ _ _ large.cut,
+      heads_after c x rest idle.raw idle.piece whole exact ∙ ap (λ (h : List ℕ). begun_frame (record c { head = h })) is ∙ cond-true _ _ _ large.cut,
+    )
 
 large_from : (c : Cutter) (head payload : List ℕ) → IsIdle c → IsLargeFrame c.longest head payload
     → (all_told c head ≡ piece_head head true false PIECE) × (after_all c head ≡ begun_with c head) → IsToldInPieces c head payload
@@ -225,9 +226,9 @@ large_from c head payload idle large begins =
     = after_all-append c head payload ∙ ap (λ (d : Cutter). after_all d payload) begins.1 in
     record {
       told = all_told-append c head payload ∙ ap₂ (λ (a : List ℕ) (b : Cutter). a ++ all_told b payload) begins.0 begins.1
-    ∙ ap (λ (t : List ℕ). piece_head head true false PIECE ++ t) (payload_told n (begun_with c head) payload has (omega arith))
-    ∙ sym (ap₂ (λ (b : Bool) (s : ℕ). piece_head head true b s ++ behind_head n head payload) (lt-leb (length payload) PIECE more) size)
-    ∙ sym (fragments_split n head true payload) ∙ ap (λ (k : ℕ). fragments k head true payload) one_more;
+          ∙ ap (λ (t : List ℕ). piece_head head true false PIECE ++ t) (payload_told n (begun_with c head) payload has (omega arith))
+          ∙ sym (ap₂ (λ (b : Bool) (s : ℕ). piece_head head true b s ++ behind_head n head payload) (lt-leb (length payload) PIECE more) size)
+          ∙ sym (fragments_split n head true payload) ∙ ap (λ (k : ℕ). fragments k head true payload) one_more;
       idle = subst IsIdle (sym after) (payload_idle n (begun_with c head) payload has (omega arith));
     }
 

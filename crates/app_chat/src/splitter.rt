@@ -4,7 +4,6 @@
 //! 6455, section 5.4), so a connection has to hold no more than a piece of one.
 ghost use Rattle.std.specs.Prelude.{◌≡◌, ◌<◌, ◌≤◌, ◌+◌, ◌^◌, ◌++◌, ◌∷◌, [], ◌&&◌, ◌==◌, not, true, false, ℕ, List, OnOk, IfOk, length, take, slice_index};
 ghost use Rattle.model_h1.specs.FrameText.{frame_start, length_bytes, mask_bytes, payload_length_of};
-
 ghost use Rattle.app_chat.specs.Pieces.{fresh, all_told, after_all, told, after, with_head_byte, IsIdle, IsLargeFrame, TellsFragments, ran, spelled_at, begun_frame, frame_head, next_piece, next_head, ended, is_whole, head_size, stated_size, is_masked, is_control, is_last, is_cut, is_refused, first_byte, length_field, piece_head};
 
 use http_types::NoMemory;
