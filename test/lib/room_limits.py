@@ -2,44 +2,17 @@
 import json, re, socket, subprocess, threading, time
 
 from checks import check, connect, differs, free_port, read_all, statuses_of, wait_for
-from rooms import ASKED, SECONDS, frame, frames_of, head, joined
+from rooms import ASKED, SECONDS, frame, frames_of, joined
 
 # What the limits of the server are whose limits are tried, and its words.
-TIGHT = {"members": 4, "joining": 8, "message": 20_000, "unfinished": 30_000, "waiting": 1_000_000, "idle": 1000, "answer": 1000,
+TIGHT = {"members": 4, "joining": 8, "waiting": 1_000_000, "idle": 1000, "answer": 1000,
          "stall": 2000, "head": 1000, "visit": 3000, "linger": 500}
 TIGHT_WORDS = ["--ignore-input"] + [word for name, number in TIGHT.items() for word in ("--limit", f"{name}={number}")]
 
 GET = b"GET /none HTTP/1.1\r\nHost: a\r\n\r\n"
 
 
-def without_pings(frames):
-    return [one for one in frames if one != (0x89, b"")]
-
-
 def limited_rooms(address):
-    def ended(name, sent, wanted):
-        def make():
-            sock, _ = joined(address, b"/end")
-            with sock:
-                sock.sendall(sent)
-                return differs(without_pings(frames_of(read_all(sock))), wanted)
-        check("rooms with limits, " + name, make)
-    ended("a frame of 20,000 bytes", frame(0x82, bytes(20_000)) + frame(0x88, b""), [(0x88, b"")])
-    ended("a frame of 20,001 bytes, by its head", head(0x82, 20_001), [(0x88, b"\x03\xf1")])
-    ended("40,000 bytes in four fragments", frame(0x02, bytes(10_000)) + frame(0x00, bytes(10_000)) * 3, [(0x88, b"\x03\xf1")])
-
-    def hoarded():
-        members = [joined(address, b"/hoard")[0] for _ in range(3)]
-        for sock, size in zip(members, (18_000, 18_000, 7000)):
-            sock.sendall(frame(0x02, bytes(size)))
-        ends = [without_pings(frames_of(read_all(sock))) for sock in members[:2]]
-        members[2].sendall(frame(0x80, b"") + frame(0x88, b""))
-        wrong = differs(without_pings(frames_of(read_all(members[2]))), [(0x88, b"")])
-        for sock in members:
-            sock.close()
-        return wrong or differs(ends, [[(0x88, b"\x03\xf5")]] * 2)
-    check("rooms with limits, unfinished messages of 43,000 bytes", hoarded)
-
     def silent():
         sock, _ = joined(address, b"/silent")
         began, seen = time.monotonic(), []
@@ -271,7 +244,6 @@ def ended_rooms(program):
     ends("a wrong option", 64, "no such option", "8080", "--what")
     ends("an unknown limit", 64, "NAME=NUMBER", "8080", "--limit", "size=1")
     ends("no member at all", 64, "NAME=NUMBER", "8080", "--limit", "members=0")
-    ends("a message of 2 MiB", 64, "NAME=NUMBER", "8080", "--limit", "message=2097152")
     ends("an address of another machine", 1, "no such address", "8080", "--bind", "192.0.2.1")
     with socket.socket() as taken:
         taken.bind(("127.0.0.1", 0))

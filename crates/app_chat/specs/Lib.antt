@@ -1,4 +1,3 @@
 pub mod House
 pub mod Moves
 pub mod Flow
-pub mod Pieces

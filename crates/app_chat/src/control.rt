@@ -13,14 +13,11 @@ pub enum Farewell {
     /// It broke a rule of the protocol.
     Broken,
 
-    /// It sent a message that is too big.
+    /// It sent a frame that is too big.
     TooBig,
 
     /// It isn't heard any more.
     Silent,
-
-    /// There is no room for its message now.
-    NoRoom,
 }
 
 impl Farewell {
@@ -38,7 +35,6 @@ impl Farewell {
             Farewell::Broken => 1002,
             Farewell::TooBig => 1009,
             Farewell::Silent => 1008,
-            Farewell::NoRoom => 1013,
         }
     }
 
@@ -48,7 +44,6 @@ impl Farewell {
             Farewell::Broken => &[0x88, 2, 0x03, 0xea],
             Farewell::TooBig => &[0x88, 2, 0x03, 0xf1],
             Farewell::Silent => &[0x88, 2, 0x03, 0xf0],
-            Farewell::NoRoom => &[0x88, 2, 0x03, 0xf5],
         }
     }
 }

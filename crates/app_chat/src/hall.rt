@@ -1,11 +1,10 @@
 //! All members, and the limits that are theirs together.
-use crate::control::Farewell;
 use crate::house::House;
 use crate::limits::Limits;
 use crate::member::{Joining, Member, Stage};
 use crate::record::Gone;
 use crate::serve::{Pace, serve};
-use crate::watch::{dismiss, watch};
+use crate::watch::watch;
 use rooms::{NoMemory, ServiceConfig};
 use std::alloc::Global;
 use std::mem;
@@ -90,34 +89,38 @@ impl Hall {
         Some(self.house.len())
     }
 
-    /// A member joins. The moment is in milliseconds since 1970, the other one is of uptime.
+    /// A member joins. The moment is in milliseconds since 1970, the other one is of uptime. One whose connection doesn't take
+    /// its request is dropped.
     pub fn admit(&mut self, joining: Joining, moment: u64, uptime: u64) -> Result<(), NoMemory> {
-        let member = Member::new(self.alloc, joining, self.limits.message, uptime)?;
         let Some(number) = self.house.open()? else {
             return Ok(());
         };
+        self.house.tick(number, moment)?;
+        if !self.house.read(number, joining.request.as_slice())? {
+            return Ok(());
+        }
         // Numbers are given one after another.
         for _ in self.members.len()..number {
             self.members.push(None)?;
         }
-        self.members.push(Some(member))?;
+        self.members.push(Some(Member::new(joining, uptime)))?;
         self.present.push(number)?;
-        self.house.tick(number, moment)?;
         Ok(())
     }
 
     /// The member with this number may be read from, or written to.
     pub fn note(&mut self, number: usize, may_read: bool, may_write: bool) {
         if let Some(Some(member)) = self.members.get_mut(number) {
-            member.may_read = member.may_read || may_read;
-            member.standing.may_write = member.standing.may_write || may_write;
+            let standing = &mut member.standing;
+            standing.may_read = standing.may_read || may_read;
+            standing.may_write = standing.may_write || may_write;
         }
     }
 
     /// A round of all members. It says whether anything moved. The moment is of uptime, in milliseconds.
     pub fn round(&mut self, uptime: u64) -> Result<bool, NoMemory> {
         if self.read >= COUNT_AFTER {
-            self.count()?;
+            self.count();
         }
         let mut moved = false;
         let mut place = 0;
@@ -151,7 +154,6 @@ impl Hall {
             return Ok(true);
         };
         let pace = Pace {
-            alloc: self.alloc,
             limits: self.limits,
             reads: !self.is_full,
             uptime,
@@ -192,49 +194,14 @@ impl Hall {
         Ok(())
     }
 
-    // Counts the bytes that wait and those of unfinished messages. Where these are too many, members with more than their
-    // share are let go.
-    fn count(&mut self) -> Result<(), NoMemory> {
-        let mut waiting: usize = 0;
-        let mut begun: usize = 0;
+    // Counts the bytes that wait.
+    fn count(&mut self) {
+        let mut bytes: usize = 0;
         for &number in &self.present {
-            waiting = waiting.saturating_add(self.house.waiting_bytes(number));
-            begun = begun.saturating_add(self.begun(number));
+            bytes = bytes.saturating_add(self.house.waiting_bytes(number));
         }
         self.read = 0;
-        self.is_full = waiting.saturating_add(begun) as u64 > self.limits.waiting;
-        if begun as u64 > self.limits.unfinished {
-            self.shed()?;
-        }
-        Ok(())
-    }
-
-    // How many bytes have come of an unfinished message of the member with this number. That of one who is let go is forgotten.
-    fn begun(&self, number: usize) -> usize {
-        match self.members.get(number) {
-            Some(Some(member)) if member.standing.is_heard() => member.splitter.begun(),
-            _ => 0,
-        }
-    }
-
-    // Lets members go of whose unfinished message more than their share has come.
-    fn shed(&mut self) -> Result<(), NoMemory> {
-        for place in 0..self.present.len() {
-            let Some(&number) = self.present.get(place) else {
-                break;
-            };
-            if let Some(Some(member)) = self.members.get_mut(number)
-                && member.splitter.begun() as u64 > self.limits.share()
-            {
-                dismiss(
-                    &mut self.house,
-                    number,
-                    &mut member.standing,
-                    Farewell::NoRoom,
-                )?;
-            }
-        }
-        Ok(())
+        self.is_full = bytes as u64 > self.limits.waiting;
     }
 
     // A hub without a connection takes the place of the old one, of whose members none is there any more.
@@ -247,7 +214,7 @@ impl Hall {
 
     /// A second has passed. The moment is in milliseconds since 1970, the other one is of uptime.
     pub fn tick(&mut self, moment: u64, uptime: u64) -> Result<(), NoMemory> {
-        self.count()?;
+        self.count();
         let (reads, limits) = (!self.is_full, self.limits);
         for place in 0..self.present.len() {
             let Some(&number) = self.present.get(place) else {

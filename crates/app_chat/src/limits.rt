@@ -1,11 +1,5 @@
 //! What the program allows its peers.
 
-/// The most bytes of a message.
-pub const MOST_MESSAGE: u64 = 1_048_576;
-
-/// The least limit of a message, which one frame of any size that isn't cut keeps.
-const LEAST_MESSAGE: u64 = 16_384;
-
 /// The most members that may be allowed.
 const MOST_MEMBERS: u64 = 2048;
 
@@ -27,13 +21,7 @@ pub struct Limits {
     /// The most connections at once that haven't joined.
     pub joining: u64,
 
-    /// The most bytes of a message.
-    pub message: u64,
-
-    /// The most bytes of unfinished messages in all. Where more have come, members with more than their share are let go.
-    pub unfinished: u64,
-
-    /// The most bytes of payload that may wait in all, with those of unfinished messages. Where more do, nobody is read.
+    /// The most bytes of payload that may wait in all. Where more do, nobody is read.
     pub waiting: u64,
 
     /// After how long without a byte a member is sent a Ping,
@@ -64,8 +52,6 @@ impl Limits {
         Limits {
             members: 512,
             joining: 256,
-            message: MOST_MESSAGE,
-            unfinished: 32 * 1024 * 1024,
             waiting: 64 * 1024 * 1024,
             idle: 20_000,
             answer: 20_000,
@@ -94,8 +80,6 @@ impl Limits {
         match name {
             "members" => self.members = number,
             "joining" => self.joining = number,
-            "message" => self.message = number,
-            "unfinished" => self.unfinished = number,
             "waiting" => self.waiting = number,
             "idle" => self.idle = number,
             "answer" => self.answer = number,
@@ -108,11 +92,6 @@ impl Limits {
         }
         true
     }
-
-    /// A member's share of the bytes of unfinished messages.
-    pub fn share(&self) -> u64 {
-        self.unfinished / self.members.max(1)
-    }
 }
 
 // The least and the most number of a name, if there is such a one.
@@ -120,8 +99,7 @@ fn range_of(name: &str) -> Option<(u64, u64)> {
     match name {
         "members" => Some((1, MOST_MEMBERS)),
         "joining" => Some((1, MOST_JOINING as u64)),
-        "message" => Some((LEAST_MESSAGE, MOST_MESSAGE)),
-        "unfinished" | "waiting" => Some((0, MOST_BYTES)),
+        "waiting" => Some((0, MOST_BYTES)),
         "idle" | "answer" | "stall" | "visit" => Some((1, MOST_TIME)),
         "head" | "end" | "linger" => Some((0, MOST_TIME)),
         _ => None,

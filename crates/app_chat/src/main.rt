@@ -6,7 +6,6 @@ mod flow;
 mod gate;
 mod hall;
 mod house;
-mod inlet;
 mod journal;
 mod limits;
 mod member;
@@ -16,7 +15,6 @@ mod record;
 mod round;
 mod serve;
 mod server;
-mod splitter;
 mod text;
 mod visit;
 mod watch;
@@ -37,8 +35,8 @@ use std::{env, io};
 /// The words are out of form. All else that fails is 1.
 const USAGE: u8 = 64;
 
-/// The most bytes of a request's head, and of a frame with its own head.
-const HOLD_SIZE: usize = 16_384;
+/// The most bytes of a request's head, and of a frame with its own head: its payload has at most 65,536.
+const HOLD_SIZE: usize = 65_550;
 
 fn main(rt: HostRuntime) -> ExitCode {
     let alloc = rt.alloc();

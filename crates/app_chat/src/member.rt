@@ -3,11 +3,8 @@ ghost use Rattle.std.specs.Prelude.{◌≡◌, true};
 
 use crate::control::Farewell;
 use crate::record::{Gone, Record};
-use crate::splitter::Splitter;
 use bytes::Bytes;
 use mio::net::TcpStream;
-use rooms::NoMemory;
-use std::alloc::Global;
 
 /// How far a socket has come.
 #[derive(Clone, Copy, PartialEq, Eq)]
@@ -84,11 +81,6 @@ impl Standing {
         }
     }
 
-    /// Its messages are still taken.
-    pub fn is_heard(&self) -> bool {
-        self.stage == Stage::Open && !self.is_told && !self.is_lost
-    }
-
     /// The peer is gone.
     pub fn lose(&mut self)
         ensures { self.new.is_lost ≡ true }
@@ -100,7 +92,7 @@ impl Standing {
     }
 }
 
-/// One that joins: its socket, what is owed to it, its request, and what it sent behind that. Where a log is kept, its target.
+/// One that joins: its socket, what is owed to it, and its request with what it sent behind that. Where a log is kept, its target.
 #[derive(Drop)]
 pub struct Joining {
     pub stream: TcpStream,
@@ -108,7 +100,6 @@ pub struct Joining {
     pub target: Vec<u8>,
     pub owed: Bytes,
     pub request: Vec<u8>,
-    pub early: Vec<u8>,
 }
 
 /// A socket of the rooms.
@@ -121,18 +112,6 @@ pub struct Member {
     pub record: Record,
     target: Vec<u8>,
 
-    /// The socket may have something to read.
-    pub may_read: bool,
-
-    /// The socket gives no more bytes.
-    pub has_ended: bool,
-
-    /// Cuts its frames.
-    pub splitter: Splitter,
-
-    /// What came, and what its connection hasn't read.
-    pub inbox: Bytes,
-
     /// When something came last, in milliseconds of uptime.
     pub heard: u64,
 
@@ -141,36 +120,25 @@ pub struct Member {
 }
 
 impl Member {
-    /// One that joins now, in milliseconds of uptime. Its messages have at most so many bytes.
-    pub fn new(
-        alloc: Global,
-        joining: Joining,
-        message: u64,
-        uptime: u64,
-    ) -> Result<Member, NoMemory> {
+    /// One that joins now, in milliseconds of uptime. Its connection was told of its request.
+    pub fn new(joining: Joining, uptime: u64) -> Member {
         let Joining {
             stream,
             record,
             target,
             owed,
-            request,
-            early,
+            ..
         } = joining;
-        let mut splitter = Splitter::new(alloc, message);
-        let mut came = request;
-        splitter.take(early.as_slice(), &mut came)?;
-        Ok(Member {
+        let mut standing = Standing::new(owed);
+        standing.asks = true;
+        Member {
             stream,
-            standing: Standing::new(owed),
+            standing,
             record,
             target,
-            may_read: true,
-            has_ended: false,
-            splitter,
-            inbox: Bytes::from_vec(came)?,
             heard: uptime,
             pinged: None,
-        })
+        }
     }
 
     /// What the log tells of it, now that it is gone.

@@ -30,10 +30,7 @@ The limits, their defaults, and the least and the most that they may be:
 
   members=512          the most members at once, 1 to 2048; a further one gets 503
   joining=256          the most connections at once that haven't joined, 1 to 1024; others wait
-  message=1048576      the most bytes of a message, 16384 to 1048576, else its member is told Close 1009
-  unfinished=33554432  the most bytes of unfinished messages in all; above it members with more than their share of one are
-                       told Close 1013
-  waiting=67108864     the most bytes that wait for members in all, with unfinished messages; above it nobody is read
+  waiting=67108864     the most bytes that wait for members in all; above it nobody is read
   idle=20000           how long a member may be silent before it is sent a Ping,
   answer=20000         and how long after that before it is told Close 1008
   stall=30000          how long a member may take nothing of what waits for it before it is cut off
@@ -42,7 +39,8 @@ The limits, their defaults, and the least and the most that they may be:
   end=10000            how long a connection that ends has for what is left to write; 0: no limit
   linger=2000          how long a peer is waited for after the last byte was written
 
-It ends where the standard input ends. Who doesn't read is told Close 1008 once 1024 frames wait for it. Without --origin
+It ends where the standard input ends. A frame has at most 65,536 bytes and a message 1,048,576, else its member is told
+Close 1009. Who doesn't read is told Close 1008 once 1024 frames wait for it. Without --origin
 a page of any site that a member visits may join the rooms in that member's browser. Nothing waits for who reads the log: 64
 KiB of lines are kept meanwhile, further ones are lost, and a line says how many.
 

@@ -1,23 +1,13 @@
 //! One round of a member, whose socket is closed once its connection has ended and all was written.
-use crate::control::{Farewell, say};
+use crate::control::say;
 use crate::house::House;
-use crate::inlet::Inlet;
-use crate::limits::{Limits, MOST_MESSAGE};
+use crate::limits::Limits;
 use crate::member::{Member, Stage};
 use crate::round::{Round, buffered, go_round};
-use crate::watch::dismiss;
-use bytes::Bytes;
-use http_types::Source;
-use mio::net::TcpStream;
-use net_sockets::{Incoming, Outgoing, Polled};
+use net_sockets::{Incoming, Outgoing};
 use rooms::NoMemory;
-use std::alloc::Global;
 use std::io::Read;
-use std::mem;
 use std::net::Shutdown;
-
-/// The most reads of a round: the head of a frame has at most 14 bytes, and is held until it is whole.
-const READS: u32 = 16;
 
 /// The most reads of a round of one whose bytes are dropped.
 const DROPS: u32 = 4;
@@ -34,7 +24,6 @@ pub struct Served {
 /// What the rounds of all members have in common.
 #[derive(Clone, Copy)]
 pub struct Pace {
-    pub alloc: Global,
     pub limits: Limits,
 
     /// Somebody is read.
@@ -57,13 +46,12 @@ pub fn serve(
         return Ok(linger(member, room, until, uptime));
     }
     let limit = if pace.reads { room.len() } else { 0 };
-    let came = fill(pace.alloc, member, &mut room[..limit], uptime)?;
-    // The hub itself has the greatest limit of a message.
-    if pace.limits.message < MOST_MESSAGE && member.splitter.begun() as u64 > pace.limits.message {
-        dismiss(house, number, &mut member.standing, Farewell::TooBig)?;
-    }
     let mut round = go(house, number, member, &mut room[..limit], uptime)?;
-    round.moved = round.moved || came;
+    if round.read > 0 {
+        member.heard = uptime;
+        member.pinged = None;
+        member.record.receive(round.read);
+    }
     let is_over = end(house, number, member, pace, &mut round.moved);
     Ok(Served { round, is_over })
 }
@@ -91,90 +79,7 @@ fn end(house: &House, number: usize, member: &mut Member, pace: &Pace, moved: &m
     false
 }
 
-// Reads what came, where the last of it was taken, and says whether that was something. Its large frames are cut.
-fn fill(
-    alloc: Global,
-    member: &mut Member,
-    room: &mut [u8],
-    uptime: u64,
-) -> Result<bool, NoMemory> {
-    if room.is_empty()
-        || !member.inbox.is_empty()
-        || !member.may_read
-        || member.has_ended
-        || member.standing.is_lost
-        || member.standing.stage != Stage::Open
-    {
-        return Ok(false);
-    }
-    let mut came = Vec::new(alloc);
-    for _ in 0..READS {
-        if !came.is_empty() || !read(member, room, uptime, &mut came)? {
-            break;
-        }
-    }
-    if came.is_empty() {
-        return Ok(member.has_ended);
-    }
-    member.inbox = Bytes::from_vec(came)?;
-    Ok(true)
-}
-
-// What a read of a socket brought.
-#[derive(Clone, Copy)]
-enum Brought {
-    Bytes(usize),
-    End,
-    NotNow,
-    Lost,
-}
-
-fn read_once(stream: &TcpStream, room: &mut [u8]) -> Brought {
-    let mut source = Incoming::new(stream);
-    match source.read(room) {
-        Ok(0) => Brought::End,
-        Ok(count) => Brought::Bytes(count),
-        Err(_) => {
-            if source.is_not_now() {
-                Brought::NotNow
-            } else {
-                Brought::Lost
-            }
-        }
-    }
-}
-
-// Reads once, and says whether something came.
-fn read(
-    member: &mut Member,
-    room: &mut [u8],
-    uptime: u64,
-    came: &mut Vec<u8>,
-) -> Result<bool, NoMemory> {
-    match read_once(&member.stream, room) {
-        Brought::Bytes(count) => {
-            member.heard = uptime;
-            member.pinged = None;
-            member.record.receive(count);
-            member.splitter.take(&room[..count.min(room.len())], came)?;
-            Ok(true)
-        }
-        Brought::End => {
-            member.has_ended = true;
-            Ok(false)
-        }
-        Brought::NotNow => {
-            member.may_read = false;
-            Ok(false)
-        }
-        Brought::Lost => {
-            member.standing.lose();
-            Ok(false)
-        }
-    }
-}
-
-// A round over what came, and its socket.
+// A round over its socket.
 fn go(
     house: &mut House,
     number: usize,
@@ -182,13 +87,10 @@ fn go(
     room: &mut [u8],
     uptime: u64,
 ) -> Result<Round, NoMemory> {
-    let inbox = mem::replace(&mut member.inbox, Bytes::new());
-    let standing = &mut member.standing;
-    standing.may_read = !inbox.is_empty() && !standing.is_lost;
-    standing.has_ended = standing.is_lost || (member.has_ended && inbox.is_empty());
-    let mut source = Inlet::new(inbox);
+    let mut source = Incoming::new(&member.stream);
     let mut sink = Outgoing::new(&member.stream);
-    let round = go_round(
+    let standing = &mut member.standing;
+    go_round(
         house,
         number,
         standing,
@@ -196,9 +98,7 @@ fn go(
         &mut sink,
         room,
         uptime,
-    )?;
-    member.inbox = source.rest();
-    Ok(round)
+    )
 }
 
 // All was written, and no more will be. Its end is waited for until then.
@@ -207,9 +107,6 @@ fn shut(member: &mut Member, until: u64) {
         member.standing.lose();
         return;
     }
-    // What still comes is dropped.
-    member.inbox = Bytes::new();
-    member.may_read = true;
     member.standing.stage = Stage::Lingering(until);
 }
 
@@ -220,9 +117,9 @@ fn linger(member: &mut Member, room: &mut [u8], until: u64, uptime: u64) -> Serv
             moved: false,
             read: 0,
         },
-        is_over: member.has_ended || member.standing.is_lost || uptime >= until,
+        is_over: member.standing.has_ended || member.standing.is_lost || uptime >= until,
     };
-    if served.is_over || !member.may_read {
+    if served.is_over || !member.standing.may_read {
         return served;
     }
     for _ in 0..DROPS {
@@ -237,7 +134,7 @@ fn linger(member: &mut Member, room: &mut [u8], until: u64, uptime: u64) -> Serv
                 served.round.moved = true;
             }
             Err(_) => {
-                member.may_read = false;
+                member.standing.may_read = false;
                 return served;
             }
         }

@@ -21,8 +21,8 @@ use std::net::{Shutdown, SocketAddr};
 /// The most requests that are answered in one round.
 const TURNS: u32 = 16;
 
-/// The most bytes of a frame's payload, which no frame of a member exceeds once it is cut.
-const FRAME: usize = 16_370;
+/// The most bytes of a frame's payload.
+const FRAME: usize = 65_536;
 
 /// The lines of a request to join, but for its target and its key.
 const LINES: &[u8] =
@@ -261,24 +261,21 @@ impl Visit {
     /// What joins: its socket, with what is owed to it and what it sent.
     pub fn into_joining(self) -> Result<Joining, NoMemory> {
         let Visit {
-            alloc,
             stream,
             record,
             connection,
-            request,
+            mut request,
             target,
             owed,
             ..
         } = self;
-        let mut early = Vec::new(alloc);
-        put_held(&connection, &mut early)?;
+        put_held(&connection, &mut request)?;
         Ok(Joining {
             stream,
             record,
             target,
             owed,
             request,
-            early,
         })
     }
 
@@ -378,13 +375,15 @@ fn put_request(out: &mut Vec<u8>, target: &[u8], head: &RequestHead) -> Result<(
     Ok(())
 }
 
-// What a connection holds, behind nothing else.
+// What a connection holds, behind other bytes.
 fn put_held(connection: &Connection, out: &mut Vec<u8>) -> Result<(), NoMemory> {
+    let mut start: usize = 0;
     for _ in 0..connection.held() {
-        let piece = connection.held_bytes(out.len());
+        let piece = connection.held_bytes(start);
         if piece.is_empty() {
             break;
         }
+        start = start.saturating_add(piece.len());
         out.extend_from_slice(piece)?;
     }
     Ok(())

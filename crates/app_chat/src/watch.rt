@@ -28,7 +28,7 @@ pub fn watch(
     if uptime.saturating_sub(member.heard) >= limits.idle
         && is_between_frames(house, number)
         && member.standing.stage == Stage::Open
-        && !member.has_ended
+        && !member.standing.has_ended
         && say(&mut member.standing.owed, PING)
     {
         member.pinged = Some(uptime);
