@@ -221,7 +221,14 @@ impl Hall {
                 break;
             };
             if let Some(Some(member)) = self.members.get_mut(number) {
-                tick_one(&mut self.house, number, member, moment, limits.stall, uptime)?;
+                tick_one(
+                    &mut self.house,
+                    number,
+                    member,
+                    moment,
+                    limits.stall,
+                    uptime,
+                )?;
                 watch(&mut self.house, number, member, reads, &limits, uptime)?;
                 if self.is_renewing {
                     self.house.drain(number)?;

@@ -228,8 +228,14 @@ fn json_line(
     let time = log_time(alloc, now.moment)?;
     let (peer, name) = (record.peer, name_of(deed));
     let (method, target) = match asked {
-        Some(asked) => (quoted(alloc, asked.method.as_bytes())?, quoted(alloc, asked.target)?),
-        None => (String::from_str(alloc, "null")?, String::from_str(alloc, "null")?),
+        Some(asked) => (
+            quoted(alloc, asked.method.as_bytes())?,
+            quoted(alloc, asked.target)?,
+        ),
+        None => (
+            String::from_str(alloc, "null")?,
+            String::from_str(alloc, "null")?,
+        ),
     };
     let kind = match deed {
         Deed::Left(_) => "code",

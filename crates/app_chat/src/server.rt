@@ -262,8 +262,7 @@ impl Server {
                     && register(&self.poll, &mut stream, VISITS.saturating_add(slot))
                 {
                     let accepted = (stream, peer);
-                    let visit =
-                        Visit::new(self.alloc, self.config, &self.limits, accepted, uptime);
+                    let visit = Visit::new(self.alloc, self.config, &self.limits, accepted, uptime);
                     *place = Some(visit);
                 }
             }

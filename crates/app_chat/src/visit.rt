@@ -7,8 +7,8 @@ use crate::page::{Reply, forbidden, full, malformed, outdated, page_for};
 use crate::record::{Now, Record};
 use bytes::Bytes;
 use h1_connection::{
-    Accepted, BodySize, Connection, End, Expiry, HeadFault, HeadItem, NextHead, NoMemory, ReadFromError,
-    RequestHead, ServiceConfig,
+    Accepted, BodySize, Connection, End, Expiry, HeadFault, HeadItem, NextHead, NoMemory,
+    ReadFromError, RequestHead, ServiceConfig,
 };
 use http_types::Sink;
 use http_types::header::SEC_WEBSOCKET_KEY;
