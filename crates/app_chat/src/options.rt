@@ -121,17 +121,9 @@ pub fn read(alloc: Global, words: &[String]) -> Result<Command<'_>, UsageError> 
             "--ignore-input" => ignores_input = true,
             "--log" => lines = Some(LineForm::Long),
             "--log=json" => lines = Some(LineForm::Json),
-            "--limit" => {
-                let word = rest.next().ok_or(UsageError::Limit)?;
-                if !limits.set(word.as_str()) {
-                    return Err(UsageError::Limit);
-                }
-            }
+            "--limit" => set_limit(&mut limits, rest.next())?,
             "--bind" => address = Some(rest.next().ok_or(UsageError::Bind)?.as_str()),
-            "--origin" => {
-                let origin = rest.next().ok_or(UsageError::Origin)?;
-                add_origin(&mut origins, origin)?;
-            }
+            "--origin" => add_origin(&mut origins, rest.next())?,
             option if option.starts_with('-') => return Err(UsageError::Option),
             text if port.is_none() => {
                 port = Some(text.parse::<u16>().map_err(|_| UsageError::Port)?);
@@ -153,8 +145,19 @@ pub fn read(alloc: Global, words: &[String]) -> Result<Command<'_>, UsageError> 
     }))
 }
 
+// Sets a limit.
+fn set_limit(limits: &mut Limits, word: Option<&String>) -> Result<(), UsageError> {
+    match word {
+        Some(word) if limits.set(word.as_str()) => Ok(()),
+        _ => Err(UsageError::Limit),
+    }
+}
+
 // Adds one that a browser may name: a scheme and what follows, without a path.
-fn add_origin(origins: &mut Vec<String>, origin: &String) -> Result<(), UsageError> {
+fn add_origin(origins: &mut Vec<String>, word: Option<&String>) -> Result<(), UsageError> {
+    let Some(origin) = word else {
+        return Err(UsageError::Origin);
+    };
     let Some((scheme, host)) = origin.as_str().split_once("://") else {
         return Err(UsageError::Origin);
     };

@@ -99,15 +99,7 @@ impl Server {
         let Ok(poll) = Poll::new(&rt) else {
             return Err(ServeError::Poll);
         };
-        if poll
-            .registry()
-            .register(&mut rooms, Token(ROOMS_TOKEN), Interest::READABLE)
-            .is_err()
-            || poll
-                .registry()
-                .register(&mut pages, Token(PAGE_TOKEN), Interest::READABLE)
-                .is_err()
-        {
+        if !listens(&poll, &mut rooms, ROOMS_TOKEN) || !listens(&poll, &mut pages, PAGE_TOKEN) {
             return Err(ServeError::Poll);
         }
         journal.watch(&poll, LOG_TOKEN);
@@ -323,6 +315,13 @@ impl Server {
             }
         }
     }
+}
+
+// Has it told when a connection waits, and says whether that can be.
+fn listens(poll: &Poll, listener: &mut TcpListener, token: usize) -> bool {
+    poll.registry()
+        .register(listener, Token(token), Interest::READABLE)
+        .is_ok()
 }
 
 // Places for visits.
