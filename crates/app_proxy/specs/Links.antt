@@ -22,10 +22,10 @@ Begins server (begun.Connecting connection) = connection.server ≡ server
 Begins server begun.None = ⊤
 
 -- A connection that was begun is one to the server whose turn it was.
-abbrev pub IsChosen : ℕ → List Turn → Link → Type 0
-IsChosen now turns (link.Connecting connection) = (after : List Turn) × Gives now turns connection.server after
-IsChosen now turns (link.Open connection) = (after : List Turn) × Gives now turns connection.server after
-IsChosen now turns link.None = ⊤
+abbrev pub IsChosen : ℕ → List Turn → Link → List Turn → Type 0
+IsChosen now old (link.Connecting connection) new = Gives now old connection.server new
+IsChosen now old (link.Open connection) new = Gives now old connection.server new
+IsChosen now old link.None new = ⊤
 
 -- until when a server that fails now is left out
 abbrev pub until_of : Limits → ℕ → ℕ

@@ -77,7 +77,7 @@ impl Link {
         shared: &mut Shared,
         token: usize,
     ) -> Result<(), NoMemory>
-        ensures { OnOk result (IsChosen shared.old.uptime shared.old.upstream.servers self.new) }
+        ensures { OnOk result (IsChosen shared.old.uptime shared.old.upstream.servers self.new shared.new.upstream.servers) }
     {
         *self = Link::None;
         let Some(server) = shared.upstream.servers.give(shared.uptime) else {

@@ -1,6 +1,7 @@
 //! Which server is asked next.
-ghost use Rattle.std.specs.Prelude.{◌≡◌, ◌<◌, ◌≤◌, ◌+◌, ◌-◌, ◌^◌, ◌++◌, ◌∷◌, [], ℕ, IfSome, IfNone, OnOk, length, map, min, slice_get};
+ghost use Rattle.std.specs.Prelude.{◌≡◌, ◌<◌, ◌++◌, ◌∷◌, [], IfSome, IfNone, OnOk, Some, length, map, slice_get};
 ghost use Rattle.app_proxy.specs.Servers.{wait, Gives, IsSoonest, has_free, left_out, tries_another};
+ghost use Rattle.app_proxy.specs.declared.servers.Turn.{Turn};
 
 use std::alloc::{AllocError, Global};
 use std::marker::Model;
@@ -12,15 +13,6 @@ pub struct Turn {
 
     /// In milliseconds of uptime; 0 where it isn't left out.
     pub until: u64,
-}
-
-impl Turn {
-    // For how many milliseconds it is left out from now on.
-    fn wait(&self, uptime: u64) -> u64
-        ensures { result ≡ wait uptime self.now }
-    {
-        self.until.saturating_sub(uptime)
-    }
 }
 
 /// The servers in the order in which they were given last, the next one first.
@@ -60,6 +52,7 @@ impl Servers {
 
     /// The server that is asked next: the one that is left out for the least time, and of several the one that wasn't given for
     /// the longest. None where there is none.
+    #[tactic(auto, using(crate::proofs::Turns::goes_to_end))]
     pub fn give(&mut self, uptime: u64) -> Option<usize>
         ensures given { IfSome result (λ server. Gives uptime self.old server self.new) }
         ensures none { IfNone result (self.old ≡ []) }
@@ -67,53 +60,62 @@ impl Servers {
         if self.turns.is_empty() {
             return None;
         }
-        let place = self.soonest(uptime);
+        let place = soonest(&self.turns, uptime);
         let turn = self.turns[place];
         self.turns[place..].rotate_left(1);
         Some(turn.server)
-    }
-
-    // The place of the one that is left out for the least time, the first of several.
-    fn soonest(&self, uptime: u64) -> usize
-        requires { 0 < length self.now }
-        ensures { IsSoonest uptime self.now (length self.now) result }
-    {
-        let mut soonest: usize = 0;
-        for place in 1..self.turns.len() {
-            if self.turns[place].wait(uptime) < self.turns[soonest].wait(uptime) {
-                soonest = place;
-            }
-        }
-        soonest
-    }
-
-    // Whether one isn't left out.
-    fn has_free(&self, uptime: u64) -> bool
-        ensures { result ≡ has_free uptime self.now }
-    {
-        for turn in &self.turns {
-            if turn.until <= uptime {
-                return true;
-            }
-        }
-        false
     }
 
     /// Whether a request is tried on another server, where one failed for it, and so many others did before.
     pub fn tries_another(&self, tries: usize, uptime: u64) -> bool
         ensures { result ≡ tries_another uptime tries self.now }
     {
-        tries < self.turns.len().saturating_sub(1) && self.has_free(uptime)
+        tries < self.turns.len().saturating_sub(1) && has_free(&self.turns, uptime)
     }
 
     /// A server is left out until this moment of uptime; with 0 it isn't left out any more.
     pub fn leave_out(&mut self, server: usize, until: u64)
         ensures { self.new ≡ map (left_out server until) self.old }
     {
-        for turn in self.turns.iter_mut() {
-            if turn.server == server {
-                turn.until = until;
-            }
+        leave_out(&mut self.turns, server, until);
+    }
+}
+
+// The place of the one that is left out for the least time, the first of several.
+fn soonest(turns: &[Turn], uptime: u64) -> usize
+    requires { 0 < length turns.now }
+    ensures { IsSoonest uptime turns.now (length turns.now) result }
+{
+    let mut soonest: usize = 0;
+    for place in 1..turns.len() {
+        if wait_at(turns, place, uptime) < wait_at(turns, soonest, uptime) {
+            soonest = place;
+        }
+    }
+    soonest
+}
+
+// For how many milliseconds the one at this place is left out from now on.
+fn wait_at(turns: &[Turn], place: usize, uptime: u64) -> u64
+    requires { place < length turns.now }
+    ensures { (turn : Turn) → slice_get turns.now place ≡ Some turn → result ≡ wait uptime turn }
+{
+    turns[place].until.saturating_sub(uptime)
+}
+
+// Whether one isn't left out.
+fn has_free(turns: &[Turn], uptime: u64) -> bool
+    ensures { result ≡ has_free uptime turns.now }
+{
+    turns.iter().any(|turn| turn.until <= uptime)
+}
+
+fn leave_out(turns: &mut [Turn], server: usize, until: u64)
+    ensures { turns.new ≡ map (left_out server until) turns.old }
+{
+    for turn in turns.iter_mut() {
+        if turn.server == server {
+            turn.until = until;
         }
     }
 }

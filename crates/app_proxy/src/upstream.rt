@@ -1,6 +1,6 @@
 //! Connections to servers: new ones, and those that wait to be used again.
-ghost use Rattle.std.specs.Prelude.{◌≡◌, IfSome};
-ghost use Rattle.app_proxy.specs.Servers.{Begins};
+ghost use Rattle.std.specs.Prelude.{◌≡◌};
+ghost use Rattle.app_proxy.specs.Links.{Begins};
 
 use crate::limits::Limits;
 use crate::pool::{Connection, Idle, Pool};
@@ -63,7 +63,8 @@ impl Upstream {
         limits: &Limits,
         uptime: u64,
     ) -> Begun
-        ensures { Begins server result }
+        ensures begins { Begins server result }
+        ensures servers { self.new.servers ≡ self.old.servers }
     {
         if let Some(idle) = self.pool.take(server, limits.reuse, uptime) {
             let mut connection = idle.into_connection();
