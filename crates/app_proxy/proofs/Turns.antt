@@ -1,5 +1,5 @@
 -- Whose turn it is.
-use Rattle.std.proofs.Common.{◌≡◌, ◌<◌, ◌≤◌, ◌+◌, ◌++◌, ◌∷◌, ◌⊎◌, [], ℕ, zero, suc, List, Option, Some, None, length, take, drop, remove, slice_get, refl, ap, sym, subst, inl, inr, absurd, arith}
+use Rattle.std.proofs.Common.{◌≡◌, ◌<◌, ◌≤◌, ◌+◌, ◌++◌, ◌∷◌, ◌⊎◌, [], ℕ, zero, suc, List, Option, Some, None, length, take, drop, remove, slice_get, refl, ap, sym, subst, inl, inr, arith}
 use Rattle.app_proxy.specs.Servers.{wait, IsSoonest, Gives}
 use Rattle.app_proxy.specs.declared.servers.Turn.{Turn}
 

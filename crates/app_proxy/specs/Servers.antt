@@ -1,5 +1,6 @@
 -- Which server is asked.
-use Rattle.std.specs.Prelude.{◌≡◌, ◌<◌, ◌≤◌, ◌-◌, ◌==◌, ◌++◌, ◌∷◌, [], ℕ, Bool, List, Some, if◌then◌else◌, slice_get, remove, length, nat_le, nat_lt, ◌&&◌, list_any}
+use Rattle.std.specs.Prelude.{◌≡◌, ◌<◌, ◌≤◌, ◌-◌, ◌==◌, ◌++◌, ◌∷◌, [], ℕ, Bool, List, Some, if◌then◌else◌, slice_get, remove, length, nat_le, nat_lt, ◌&&◌}
+use Rattle.std.specs.List.{list_any}
 use Rattle.app_proxy.specs.declared.servers.Turn.{Turn}
 
 -- How long a server is left out from now on, in milliseconds: not at all where that has ended.

@@ -43,7 +43,7 @@ The limits, and their defaults:
   linger=2000      how long a client is waited for after the last byte was written
   end=10000        how long a connection that ends has for what is left to write
   reuse=4000       how long a connection to a server may be idle and still be used again
-  down=10000       how long a server that accepts no connection, or moves nothing for so long, is left out
+  down=10000       how long a server that failed is left out: it accepted no connection, or moved nothing for too long
 
 With 0 for head or end there is no such limit, and with idle=0 a connection ends behind its first reply.
 
