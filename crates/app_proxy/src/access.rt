@@ -124,7 +124,7 @@ fn version_of(request: Option<&RequestHead>) -> &'static str {
     };
     let mut is_old = head.version == Version::HTTP_10;
     for line in head.headers.get_all("via") {
-        is_old = is_old || line.as_bytes() == b"1.0 raspcream";
+        is_old = is_old || line.to_str().unwrap_or("") == "1.0 raspcream";
     }
     if is_old { "HTTP/1.0" } else { "HTTP/1.1" }
 }

@@ -23,7 +23,8 @@ pub fn look_up(rt: HostRuntime, words: &str) -> Result<Vec<SocketAddr>, LookupEr
     let mut servers = Vec::new(rt.alloc());
     for word in words.split(',') {
         if let Ok(port) = word.parse::<u16>() {
-            servers.push(SocketAddr::new(IpAddr::V4(Ipv4Addr::LOCALHOST), port))?;
+            let address = SocketAddr::new(IpAddr::V4(Ipv4Addr::LOCALHOST), port);
+            add(&mut servers, address)?;
             continue;
         }
         let before = servers.len();
@@ -31,13 +32,18 @@ pub fn look_up(rt: HostRuntime, words: &str) -> Result<Vec<SocketAddr>, LookupEr
             .to_socket_addrs(&rt)
             .map_err(|error| reason_of(&error))?;
         for address in found {
-            servers.push(address)?;
+            add(&mut servers, address)?;
         }
         if servers.len() == before {
             return Err(LookupError::Unknown);
         }
     }
     Ok(servers)
+}
+
+fn add(servers: &mut Vec<SocketAddr>, address: SocketAddr) -> Result<(), NoMemory> {
+    servers.push(address)?;
+    Ok(())
 }
 
 fn reason_of(error: &Error) -> LookupError {

@@ -7,7 +7,7 @@ use std::alloc::{AllocError, Global};
 use std::marker::Model;
 
 /// A server by its number, and until when it is left out.
-#[derive(Clone, Copy, Drop)]
+#[derive(Clone, Copy)]
 pub struct Turn {
     pub server: usize,
 
