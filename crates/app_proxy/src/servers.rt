@@ -1,7 +1,6 @@
 //! Which server is asked next.
-ghost use Rattle.std.specs.Prelude.{◌≡◌, ◌<◌, ◌++◌, ◌∷◌, [], IfSome, IfNone, OnOk, Some, length, map, slice_get};
+ghost use Rattle.std.specs.Prelude.{◌≡◌, ◌<◌, ◌+◌, ◌++◌, ◌∷◌, [], IfSome, IfNone, OnOk, Some, length, map, slice_get};
 ghost use Rattle.app_proxy.specs.Servers.{wait, Gives, IsSoonest, has_free, left_out, tries_another};
-ghost use Rattle.app_proxy.specs.declared.servers.Turn.{Turn};
 
 use std::alloc::{AllocError, Global};
 use std::marker::Model;
@@ -15,6 +14,15 @@ pub struct Turn {
     pub until: u64,
 }
 
+impl Turn {
+    // For how many milliseconds it is left out from now on.
+    fn wait(self, uptime: u64) -> u64
+        ensures { result ≡ wait uptime self }
+    {
+        self.until.saturating_sub(uptime)
+    }
+}
+
 /// The servers in the order in which they were given last, the next one first.
 ///
 /// A clause sees it as their list.
@@ -25,7 +33,6 @@ pub struct Servers {
 
 impl Model for Servers {
     ghost use Rattle.std.specs.Prelude.{List};
-    ghost use Rattle.app_proxy.specs.declared.servers.Turn.{Turn};
 
     ghost Value = { List Turn };
 
@@ -61,7 +68,7 @@ impl Servers {
             return None;
         }
         let place = soonest(&self.turns, uptime);
-        let turn = self.turns[place];
+        let turn = turn_at(&self.turns, place);
         self.turns[place..].rotate_left(1);
         Some(turn.server)
     }
@@ -82,25 +89,38 @@ impl Servers {
 }
 
 // The place of the one that is left out for the least time, the first of several.
+#[tactic(auto, using(crate::proofs::Turns::soonest_first))]
 fn soonest(turns: &[Turn], uptime: u64) -> usize
     requires { 0 < length turns.now }
     ensures { IsSoonest uptime turns.now (length turns.now) result }
 {
     let mut soonest: usize = 0;
     for place in 1..turns.len() {
-        if wait_at(turns, place, uptime) < wait_at(turns, soonest, uptime) {
-            soonest = place;
-        }
+        soonest = sooner(turns, soonest, place, uptime);
     }
     soonest
 }
 
-// For how many milliseconds the one at this place is left out from now on.
-fn wait_at(turns: &[Turn], place: usize, uptime: u64) -> u64
-    requires { place < length turns.now }
-    ensures { (turn : Turn) → slice_get turns.now place ≡ Some turn → result ≡ wait uptime turn }
+// That of the two that is left out for less time, where the first one is it of all before the second.
+#[tactic(auto, using(crate::proofs::Turns::soonest_moved, crate::proofs::Turns::soonest_kept))]
+fn sooner(turns: &[Turn], soonest: usize, place: usize, uptime: u64) -> usize
+    requires among { place < length turns.now }
+    requires soonest { IsSoonest uptime turns.now place soonest }
+    ensures { IsSoonest uptime turns.now (place + 1) result }
 {
-    turns[place].until.saturating_sub(uptime)
+    let before = turn_at(turns, soonest);
+    let turn = turn_at(turns, place);
+    if turn.wait(uptime) < before.wait(uptime) {
+        return place;
+    }
+    soonest
+}
+
+fn turn_at(turns: &[Turn], place: usize) -> Turn
+    requires { place < length turns.now }
+    ensures { slice_get turns.now place ≡ Some result }
+{
+    turns[place]
 }
 
 // Whether one isn't left out.
