@@ -1,6 +1,6 @@
 """Clients of the servers over a dispatcher: app_counters, a thread for each connection over one board of counters, and app_site,
 an event loop."""
-import http.client, os, re, secrets, socket, subprocess, tempfile, threading
+import http.client, json, os, re, secrets, socket, subprocess, tempfile, threading
 
 from checks import check, connect, differs, free_port, has, read_all, run, statuses_of, wait_for
 
@@ -152,8 +152,56 @@ def report_of_three(program):
 
 # ---- an event loop
 
+def json_clients(address):
+    """The pages of app_site that answer JSON, and its routes."""
+    def told(name, method, path, wanted, body=None, **headers):
+        def make():
+            client = http.client.HTTPConnection(*address, timeout=20)
+            try:
+                client.request(method, path, body, headers)
+                answer = client.getresponse()
+                return differs((answer.status, answer.getheader("content-type"), answer.getheader("allow"), json.loads(answer.read())), wanted)
+            finally:
+                client.close()
+        check("event loop, JSON: " + name, make)
+
+    def fine(value):
+        return 200, "application/json", None, value
+
+    def wrong(status, what, allow=None):
+        return status, "application/json", allow, {"error": what}
+    numbers = "the body has no list of whole numbers"
+    told("a greeting by name", "GET", "/greet/Ann", fine({"hello": "Ann"}))
+    told("a name that needs escapes", "GET", "/greet/a%22b", fine({"hello": 'a"b'}))
+    told("a name in UTF-8", "GET", "/greet/J%C3%BCrgen", fine({"hello": "J\u00fcrgen"}))
+    told("a name that isn't UTF-8", "GET", "/greet/%ff", wrong(400, "the name is no text"))
+    told("a name and a query", "GET", "/greet/Ann?x=1", fine({"hello": "Ann"}))
+    told("no name", "GET", "/greet/", wrong(404, "there is no such page"))
+    told("two names", "GET", "/greet/Ann/Bob", wrong(404, "there is no such page"))
+    told("a sum", "POST", "/sum", fine({"count": 3, "sum": -4}), '{"numbers": [1, 2, -7]}')
+    told("a sum of none", "POST", "/sum", fine({"count": 0, "sum": 0}), '{"numbers": []}')
+    told("a sum in chunks", "POST", "/sum", fine({"count": 2, "sum": 3}), iter([b'{"numb', b'ers": [1, ', b'2]}']))
+    told("the largest sum", "POST", "/sum", fine({"count": 2, "sum": 2**63 - 1}), '{"numbers": [9223372036854775806, 1]}')
+    told("a sum that is too large", "POST", "/sum", wrong(400, "the sum is too large"), '{"numbers": [9223372036854775807, 1]}')
+    told("no JSON", "POST", "/sum", wrong(400, "the body is no JSON"), '{"numbers": [1,}')
+    told("no body", "POST", "/sum", wrong(400, "the body is no JSON"))
+    told("no UTF-8", "POST", "/sum", wrong(400, "the body is no JSON"), b'"\xff"')
+    told("no numbers", "POST", "/sum", wrong(400, numbers), '{"number": [1]}')
+    told("a list alone", "POST", "/sum", wrong(400, numbers), '[1, 2]')
+    told("a fraction", "POST", "/sum", wrong(400, numbers), '{"numbers": [1, 2.5]}')
+    told("a number of 64 bits and more", "POST", "/sum", wrong(400, numbers), '{"numbers": [9223372036854775808]}')
+    told("a text in the list", "POST", "/sum", wrong(400, numbers), '{"numbers": ["1"]}')
+    told("10,000 levels", "POST", "/sum", wrong(400, "the body is no JSON"), "[" * 10_000)
+    told("a body that is too large", "POST", "/sum", wrong(413, "the body is too large"), '{"numbers": [' + "1," * 40_000 + "1]}")
+    told("GET of a sum", "GET", "/sum", wrong(405, "the page has no such method", "POST"))
+    told("DELETE of a page", "DELETE", "/greet/Ann", wrong(405, "the page has no such method", "GET, HEAD"))
+    told("an unknown page", "GET", "/sums", wrong(404, "there is no such page"))
+    told("the socket where there is none", "GET", "/socket", wrong(404, "there is no such page"))
+
+
 def looped_clients(address):
     """The pages of app_site: a greeting, three lines in chunks, and an echo."""
+    json_clients(address)
     url = "http://%s:%d" % address
     body = bytes(range(256)) * 200
 

@@ -1,15 +1,22 @@
-//! A small site: a greeting, a body in pieces, and an echo. The example servers over dispatchers serve it.
+//! A small site with routes and JSON, as a service: what the example servers serve, and what to begin from.
 //!
 //! # Example
 //!
 //! ```ignore
-//! let service = CountedService::new(Site::new(rt.alloc()));
+//! let routes = routes(rt.alloc())?;
+//! let service = CountedService::new(Site::new(rt.alloc(), &routes));
 //! let mut dispatcher = Dispatcher::new(rt.alloc(), transport, service, ServiceConfig::default(), peer, NoRecord);
 //! ```
 #![tactic(auto)]
 
+mod answers;
 mod lines;
+mod receive;
+mod routes;
 mod site;
+mod sums;
 
+pub use answers::Page;
 pub use lines::Lines;
-pub use site::{Page, Site, Visit};
+pub use routes::{Route, routes};
+pub use site::{Site, Visit};

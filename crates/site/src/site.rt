@@ -1,29 +1,28 @@
 //! What is answered to which request.
-ghost use Rattle.futures.specs.Poll.{OnPending};
-ghost use Rattle.futures.specs.Task.{IsArmed, Keeps};
-ghost use Rattle.http_services.specs.Lent.{LentBound, lent_of};
-
-use crate::lines::Lines;
+use crate::answers::{
+    Page, error, hello, json, lines, not_allowed, not_found, plain, unavailable, upgrade_wanted,
+};
+use crate::receive::{Received, Refusal, receive};
+use crate::routes::Route;
+use crate::sums::{Sum, SumError, sum_of};
 use bytes::Bytes;
 use futures::task::{Context, Poll};
-use http_bodies::{BodyStream, Counted, EitherBody};
 use http_services::PlainService;
 use http_services::h1::Payload;
-use http_types::{Method, NoMemory, Request, Response, StatusCode};
+use http_types::{Request, Response, StatusCode};
+use matchit::Router;
+use percent_encoding::{DecodeError, percent_decode};
+use serde_json::json as value;
 use std::alloc::Global;
+use std::convert::AsStr;
 
-/// The most bytes of a body that are sent back.
-const MOST: usize = 65_536;
-
-/// The body of an answer: bytes, or lines that are asked for one after another.
-pub type Page = EitherBody<Bytes, BodyStream<Counted<Lines>>>;
-
-/// Answers `GET` and `HEAD` of `/`, with a greeting, and of `/lines`, with three lines; and `POST` of `/echo`, with the
-/// bytes that came, at most 65,536. Another path gets 404, another method 405; a body that is too large 413, one that
-/// breaks a rule 400, and 503 where there is no memory for it.
+/// Answers each request by the page of its path ([`routes`](crate::routes)): 404 where there is none, 405 with `Allow` where
+/// the page doesn't answer its method. A body is taken of at most 65,536 bytes; a larger one gets 413, one that breaks a rule
+/// 400, and where there is no memory the answer is 503.
 #[derive(Drop)]
-pub struct Site {
+pub struct Site<'a> {
     alloc: Global,
+    routes: &'a Router<Route>,
 }
 
 /// A request that isn't answered yet, and what came of its body.
@@ -33,84 +32,69 @@ pub struct Visit {
     came: Vec<u8>,
 }
 
-/// How a body is received.
-enum Received {
-    /// More of it may come.
-    More,
-
-    /// It is whole.
-    Whole,
-
-    /// It isn't sent back.
-    Refused(Refusal),
-}
-
-/// Why a body isn't sent back.
-#[derive(Clone, Copy, Debug, PartialEq, Eq)]
-enum Refusal {
-    /// It breaks a rule, or the input ended inside it.
-    Broken,
-
-    /// It is larger than what is sent back.
-    TooLarge,
-
-    /// There is no memory for it.
-    NoMemory,
-}
-
-impl Site {
-    /// A site whose answers take their memory of this allocator. It takes none itself.
-    pub fn new(alloc: Global) -> Site {
-        Site { alloc }
+impl<'a> Site<'a> {
+    /// A site with these routes. Its answers take their memory of this allocator.
+    pub fn new(alloc: Global, routes: &'a Router<Route>) -> Site<'a> {
+        Site { alloc, routes }
     }
 
-    fn with(&self, status: StatusCode, body: Bytes) -> Response<Page> {
-        Response::with_body(self.alloc, status, EitherBody::left(body))
-    }
-
-    fn empty(&self, status: StatusCode) -> Response<Page> {
-        self.with(status, Bytes::new())
-    }
-
-    fn lines(&self) -> Response<Page> {
-        let lines = BodyStream::new(Counted::new(Lines::new()));
-        Response::with_body(self.alloc, StatusCode::OK, EitherBody::right(lines))
-    }
-
-    // The answer to a request whose body isn't asked for.
-    fn plain(&self, request: &Request<(), ()>) -> Response<Page> {
-        let method = request.method();
-        if *method != Method::GET && *method != Method::HEAD {
-            return self.empty(StatusCode::METHOD_NOT_ALLOWED);
-        }
-        if request.path() == "/lines" {
-            return self.lines();
-        }
-        if request.path() != "/" {
-            return self.empty(StatusCode::NOT_FOUND);
-        }
-        self.with(StatusCode::OK, Bytes::from_static(b"hello\n"))
-    }
-
-    // The answer to a request whose body isn't sent back.
-    fn refuse(&self, refusal: Refusal) -> Response<Page> {
-        match refusal {
-            Refusal::Broken => self.empty(StatusCode::BAD_REQUEST),
-            Refusal::TooLarge => self.empty(StatusCode::PAYLOAD_TOO_LARGE),
-            Refusal::NoMemory => self.empty(StatusCode::SERVICE_UNAVAILABLE),
+    // The whole body came to a page.
+    fn take(&self, route: Route, came: &[u8]) -> Response<Page> {
+        match route {
+            Route::Sum => self.sum(came),
+            _ => self.echo(came),
         }
     }
 
-    // The bytes that came, as an answer.
     fn echo(&self, came: &[u8]) -> Response<Page> {
         match Bytes::copy_from_slice(self.alloc, came) {
-            Ok(bytes) => self.with(StatusCode::OK, bytes),
-            Err(_) => self.empty(StatusCode::SERVICE_UNAVAILABLE),
+            Ok(bytes) => plain(self.alloc, StatusCode::OK, bytes),
+            Err(_) => unavailable(self.alloc),
+        }
+    }
+
+    fn sum(&self, came: &[u8]) -> Response<Page> {
+        let alloc = self.alloc;
+        match sum_of(alloc, came) {
+            Ok(Sum { count, sum }) => {
+                let value = value!(in alloc; {"count": count as u64, "sum": sum});
+                json(alloc, StatusCode::OK, value)
+            }
+            Err(SumError::NoMemory) => unavailable(alloc),
+            Err(mistake) => error(alloc, StatusCode::BAD_REQUEST, mistake.says()),
+        }
+    }
+
+    // `name` is as the path has it, with its escapes.
+    fn greet(&self, name: &str) -> Response<Page> {
+        let alloc = self.alloc;
+        match percent_decode(name.as_bytes()).decode_utf8(alloc) {
+            Ok(name) => {
+                let value = value!(in alloc; {"hello": name.as_str()});
+                json(alloc, StatusCode::OK, value)
+            }
+            Err(DecodeError::OutOfMemory) => unavailable(alloc),
+            Err(_) => error(alloc, StatusCode::BAD_REQUEST, "the name is no text"),
+        }
+    }
+
+    fn refuse(&self, refusal: Refusal) -> Response<Page> {
+        let alloc = self.alloc;
+        match refusal {
+            Refusal::Broken => error(alloc, StatusCode::BAD_REQUEST, "the body is cut"),
+            Refusal::TooLarge => {
+                error(
+                    alloc,
+                    StatusCode::PAYLOAD_TOO_LARGE,
+                    "the body is too large",
+                )
+            }
+            Refusal::NoMemory => unavailable(alloc),
         }
     }
 }
 
-impl PlainService<Request<(), ()>> for Site {
+impl PlainService<Request<(), ()>> for Site<'_> {
     type Response = Response<Page>;
 
     type Error = Response<Page>;
@@ -136,47 +120,27 @@ impl PlainService<Request<(), ()>> for Site {
         lent: &mut Payload,
         cx: &mut Context<'_>,
     ) -> Poll<Result<Response<Page>, Response<Page>>> {
-        if !is_echo(&call.request) {
-            return Poll::Ready(Ok(self.plain(&call.request)));
+        let alloc = self.alloc;
+        let Ok(found) = self.routes.at(call.request.path()) else {
+            return Poll::Ready(Ok(not_found(alloc)));
+        };
+        let route = *found.value;
+        if !route.takes(call.request.method()) {
+            return Poll::Ready(Ok(not_allowed(alloc, route.allowed())));
         }
-        match receive(&mut call.came, lent, cx) {
-            Poll::Pending => Poll::Pending,
-            Poll::Ready(Received::More) => cx.yield_now(),
-            Poll::Ready(Received::Whole) => Poll::Ready(Ok(self.echo(call.came.as_slice()))),
-            Poll::Ready(Received::Refused(refusal)) => Poll::Ready(Err(self.refuse(refusal))),
+        match route {
+            Route::Hello => Poll::Ready(Ok(hello(alloc))),
+            Route::Lines => Poll::Ready(Ok(lines(alloc))),
+            Route::Socket => Poll::Ready(Ok(upgrade_wanted(alloc))),
+            Route::Greet => { Poll::Ready(Ok(self.greet(found.params.get("name").unwrap_or("")))) }
+            Route::Echo | Route::Sum => match receive(&mut call.came, lent, cx) {
+                Poll::Pending => Poll::Pending,
+                Poll::Ready(Received::More) => cx.yield_now(),
+                Poll::Ready(Received::Whole) => {
+                    Poll::Ready(Ok(self.take(route, call.came.as_slice())))
+                }
+                Poll::Ready(Received::Refused(refusal)) => Poll::Ready(Err(self.refuse(refusal))),
+            },
         }
     }
-}
-
-fn is_echo(request: &Request<(), ()>) -> bool {
-    *request.method() == Method::POST && request.path() == "/echo"
-}
-
-// Takes the next piece of a body.
-fn receive(came: &mut Vec<u8>, lent: &mut Payload, cx: &mut Context<'_>) -> Poll<Received>
-    ensures bound { LentBound (lent_of lent.old) (lent_of lent.new) }
-    ensures registered { OnPending result (IsArmed cx.new) }
-    ensures kept { Keeps cx.old cx.new }
-{
-    match lent.poll_next(cx) {
-        Poll::Pending => Poll::Pending,
-        Poll::Ready(None) => Poll::Ready(Received::Whole),
-        Poll::Ready(Some(Err(_))) => Poll::Ready(Received::Refused(Refusal::Broken)),
-        Poll::Ready(Some(Ok(piece))) => Poll::Ready(keep(came, piece.as_slice())),
-    }
-}
-
-// Keeps a piece with those before it.
-fn keep(came: &mut Vec<u8>, piece: &[u8]) -> Received {
-    if came.len().saturating_add(piece.len()) > MOST {
-        return Received::Refused(Refusal::TooLarge);
-    }
-    match put(came, piece) {
-        Ok(()) => Received::More,
-        Err(_) => Received::Refused(Refusal::NoMemory),
-    }
-}
-
-fn put(came: &mut Vec<u8>, piece: &[u8]) -> Result<(), NoMemory> {
-    Ok(came.extend_from_slice(piece)?)
 }
