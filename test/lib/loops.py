@@ -196,7 +196,6 @@ def json_clients(address):
     told("GET of a sum", "GET", "/sum", wrong(405, "the page has no such method", "POST"))
     told("DELETE of a page", "DELETE", "/greet/Ann", wrong(405, "the page has no such method", "GET, HEAD"))
     told("an unknown page", "GET", "/sums", wrong(404, "there is no such page"))
-    told("the socket where there is none", "GET", "/socket", wrong(404, "there is no such page"))
 
 
 def looped_clients(address):

@@ -13,7 +13,7 @@ use input::InputWatch;
 use matchit::{InsertError, Router};
 use net_sockets::Linger;
 use serve_async::{Limits, Stop, serve, serve_sockets};
-use site::{Route, routes};
+use site::{Route, all_routes};
 use sites::Sites;
 use sockets::{PATH, Sockets};
 use std::alloc::AllocGlobal;
@@ -148,7 +148,7 @@ where
 
 // The routes of the site, and one to the echo where there is one.
 fn routes_of<R: AllocGlobal>(rt: &R, has_sockets: bool) -> Result<Router<Route>, InsertError> {
-    let mut all = routes(rt.alloc())?;
+    let mut all = all_routes(rt.alloc())?;
     if has_sockets {
         all.insert(PATH, Route::Socket)?;
     }

@@ -1,5 +1,5 @@
 //! How a WebSocket ends: with a Close that says why.
-ghost use Rattle.std.specs.Prelude.{◌≡◌, true, None};
+ghost use Rattle.std.specs.Prelude.{None};
 
 use crate::gauge::Gauge;
 use h1_connection::{Event, Message, NoMemory, Outcome, ProtocolError};

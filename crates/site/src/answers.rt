@@ -32,7 +32,11 @@ pub fn lines(alloc: Global) -> Response<Page> {
 }
 
 /// A JSON value. Where there was no memory for it, or there is none for its text, the answer is 503 without a body.
-pub fn json(alloc: Global, status: StatusCode, value: Result<Value, NoMemory>) -> Response<Page> {
+pub fn with_json(
+    alloc: Global,
+    status: StatusCode,
+    value: Result<Value, NoMemory>,
+) -> Response<Page> {
     let Ok(text) = text_of(alloc, value) else {
         return unavailable(alloc);
     };
@@ -52,7 +56,7 @@ fn text_of(alloc: Global, value: Result<Value, NoMemory>) -> Result<Bytes, NoMem
 
 /// An error, as JSON that says what is wrong.
 pub fn error(alloc: Global, status: StatusCode, what: &str) -> Response<Page> {
-    json(alloc, status, json!(in alloc; {"error": what}))
+    with_json(alloc, status, json!(in alloc; {"error": what}))
 }
 
 /// No page has this path.

@@ -3,7 +3,7 @@
 //! # Example
 //!
 //! ```ignore
-//! let routes = routes(rt.alloc())?;
+//! let routes = all_routes(rt.alloc())?;
 //! let service = CountedService::new(Site::new(rt.alloc(), &routes));
 //! let mut dispatcher = Dispatcher::new(rt.alloc(), transport, service, ServiceConfig::default(), peer, NoRecord);
 //! ```
@@ -18,5 +18,5 @@ mod sums;
 
 pub use answers::Page;
 pub use lines::Lines;
-pub use routes::{Route, routes};
+pub use routes::{Route, all_routes};
 pub use site::{Site, Visit};

@@ -26,7 +26,7 @@ pub enum Route {
 }
 
 /// The routes of the site. A server that speaks WebSocket adds one to `Route::Socket`.
-pub fn routes(alloc: Global) -> Result<Router<Route>, InsertError> {
+pub fn all_routes(alloc: Global) -> Result<Router<Route>, InsertError> {
     let mut routes = Router::new(alloc);
     routes.insert("/", Route::Hello)?;
     routes.insert("/lines", Route::Lines)?;

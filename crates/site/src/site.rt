@@ -1,6 +1,7 @@
 //! What is answered to which request.
 use crate::answers::{
-    Page, error, hello, json, lines, not_allowed, not_found, plain, unavailable, upgrade_wanted,
+    Page, error, hello, lines, not_allowed, not_found, plain, unavailable, upgrade_wanted,
+    with_json,
 };
 use crate::receive::{Received, Refusal, receive};
 use crate::routes::Route;
@@ -12,11 +13,11 @@ use http_services::h1::Payload;
 use http_types::{Request, Response, StatusCode};
 use matchit::Router;
 use percent_encoding::{DecodeError, percent_decode};
-use serde_json::json as value;
+use serde_json::json;
 use std::alloc::Global;
 use std::convert::AsStr;
 
-/// Answers each request by the page of its path ([`routes`](crate::routes)): 404 where there is none, 405 with `Allow` where
+/// Answers each request by the page of its path ([`all_routes`](crate::all_routes)): 404 where there is none, 405 with `Allow` where
 /// the page doesn't answer its method. A body is taken of at most 65,536 bytes; a larger one gets 413, one that breaks a rule
 /// 400, and where there is no memory the answer is 503.
 #[derive(Drop)]
@@ -57,8 +58,8 @@ impl<'a> Site<'a> {
         let alloc = self.alloc;
         match sum_of(alloc, came) {
             Ok(Sum { count, sum }) => {
-                let value = value!(in alloc; {"count": count as u64, "sum": sum});
-                json(alloc, StatusCode::OK, value)
+                let value = json!(in alloc; {"count": count as u64, "sum": sum});
+                with_json(alloc, StatusCode::OK, value)
             }
             Err(SumError::NoMemory) => unavailable(alloc),
             Err(mistake) => error(alloc, StatusCode::BAD_REQUEST, mistake.says()),
@@ -70,8 +71,8 @@ impl<'a> Site<'a> {
         let alloc = self.alloc;
         match percent_decode(name.as_bytes()).decode_utf8(alloc) {
             Ok(name) => {
-                let value = value!(in alloc; {"hello": name.as_str()});
-                json(alloc, StatusCode::OK, value)
+                let value = json!(in alloc; {"hello": name.as_str()});
+                with_json(alloc, StatusCode::OK, value)
             }
             Err(DecodeError::OutOfMemory) => unavailable(alloc),
             Err(_) => error(alloc, StatusCode::BAD_REQUEST, "the name is no text"),
