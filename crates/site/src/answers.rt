@@ -78,11 +78,10 @@ pub fn upgrade_wanted(alloc: Global) -> Response<Page> {
 }
 
 /// The page doesn't answer such requests, but those of these methods.
-pub fn not_allowed(alloc: Global, allowed: &'static str) -> Response<Page> {
+pub fn not_allowed(alloc: Global, allowed: HeaderValue) -> Response<Page> {
     let status = StatusCode::METHOD_NOT_ALLOWED;
     let mut response = error(alloc, status, "the page has no such method");
-    let value = HeaderValue::from_static(allowed);
-    match response.headers_mut().insert(ALLOW, value) {
+    match response.headers_mut().insert(ALLOW, allowed) {
         Ok(_) => response,
         Err(_) => unavailable(alloc),
     }

@@ -1,5 +1,5 @@
 //! Which path has which page.
-use http_types::Method;
+use http_types::{HeaderValue, Method};
 use matchit::{InsertError, Router};
 use std::alloc::Global;
 
@@ -47,10 +47,12 @@ impl Route {
     }
 
     /// The methods that it answers, as an `Allow` line names them (RFC 7231, section 7.4.1).
-    pub fn allowed(self) -> &'static str {
+    pub fn allowed(self) -> HeaderValue {
         match self {
-            Route::Echo | Route::Sum => "POST",
-            Route::Hello | Route::Lines | Route::Greet | Route::Socket => "GET, HEAD",
+            Route::Echo | Route::Sum => HeaderValue::from_static("POST"),
+            Route::Hello | Route::Lines | Route::Greet | Route::Socket => HeaderValue::from_static(
+                "GET, HEAD",
+            ),
         }
     }
 }
