@@ -169,20 +169,26 @@ completed_given pad hold_size a x = by_test (is_all_asked a) refl
     by_test false all = going_given pad hold_size a x all
 
 -- the text of the newest so far begins that of the completed one
-newest_text : (pad : ℕ) (a : AskedRequest)
+pub newest_text : (pad : ℕ) (a : AskedRequest)
     → (more : List ℕ) × (text_so_far a ++ more ≡ (sent_request (completed pad a)).head ++ (sent_request (completed pad a)).body)
+    × (is_all_asked a ≡ true → more ≡ [])
 newest_text pad a = by_test (is_all_asked a) refl
   where
     by_test : (t : Bool) → is_all_asked a ≡ t
         → (more : List ℕ) × (text_so_far a ++ more ≡ (sent_request (if t then a.given else record a.given { pieces = a.given.pieces ++ padding pad a ∷ [] })).head
         ++ (sent_request (if t then a.given else record a.given { pieces = a.given.pieces ++ padding pad a ∷ [] })).body)
-    by_test true all =
-        ([], append-nil (text_so_far a) ∙ ap (λ (l : List ℕ). given_request_text a.given ++ l) (whole_body (asked_shape a.given.size) a all))
+        × (is_all_asked a ≡ true → more ≡ [])
+    by_test true all = (
+      [],
+      append-nil (text_so_far a) ∙ ap (λ (l : List ℕ). given_request_text a.given ++ l) (whole_body (asked_shape a.given.size) a all),
+      λ whole. refl,
+    )
     by_test false all =
         let g = going_on pad a (asked_shape a.given.size) all in (
           g.missing,
           append_assoc (given_request_text a.given) (body_so_far (asked_shape a.given.size) a) g.missing
               ∙ ap (λ (l : List ℕ). given_request_text a.given ++ l) g.text,
+          λ whole. absurd (false≢true (sym all ∙ whole)),
         )
 
 -- ---- all texts
@@ -196,7 +202,7 @@ asked_last (x ∷ gs) g =
     ∙ ap (λ (l : List ℕ). s.head ++ l) (sym (append_assoc s.body (asked_text (map sent_request gs)) last))
     ∙ sym (append_assoc s.head (s.body ++ asked_text (map sent_request gs)) last)
 
-turned : {A : Type 0} (x : A) (xs : List A) → reverse (x ∷ xs) ≡ reverse xs ++ x ∷ []
+pub turned : {A : Type 0} (x : A) (xs : List A) → reverse (x ∷ xs) ≡ reverse xs ++ x ∷ []
 turned x xs = reverse_onto xs x []
 
 -- the given requests, the oldest first
@@ -231,7 +237,7 @@ fits_last more [] g x = x
 fits_last more (y ∷ []) g x = x
 fits_last more (y ∷ z ∷ gs) g x = fits_last more (z ∷ gs) g x
 
-newest_head : (pad : ℕ) (a : AskedRequest) → (sent_request (completed pad a)).head ≡ given_request_text a.given
+pub newest_head : (pad : ℕ) (a : AskedRequest) → (sent_request (completed pad a)).head ≡ given_request_text a.given
 newest_head pad a = by_test (is_all_asked a)
   where
     by_test : (t : Bool)
@@ -239,7 +245,7 @@ newest_head pad a = by_test (is_all_asked a)
     by_test true = refl
     by_test false = refl
 
-newest_fits : (pad : ℕ) (a : AskedRequest) → length (newest_text pad a).0 ≤ length (sent_request (completed pad a)).body
+pub newest_fits : (pad : ℕ) (a : AskedRequest) → length (newest_text pad a).0 ≤ length (sent_request (completed pad a)).body
 newest_fits pad a =
     let n = newest_text pad a in
     let s = sent_request (completed pad a) in

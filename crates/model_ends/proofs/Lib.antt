@@ -48,3 +48,4 @@ pub mod CloseTogether
 pub mod NothingPending
 pub mod WholeExchange
 pub mod NothingCut
+pub mod BodyServed

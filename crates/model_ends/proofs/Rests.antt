@@ -274,7 +274,7 @@ rest_stays true (b ∷ bytes) rest text left whole behind says = refl
 rest_stays false unread rest text left whole behind says = refl
 
 -- whole chunks without the last
-segments_read : (segments : List Segment) → AllByRecursion IsSegment segments
+pub segments_read : (segments : List Segment) → AllByRecursion IsSegment segments
     → read start (flat_map segment_text segments) ≡ record { body = flat_map (λ (s : Segment). s.bytes) segments; trailers = []; ending = goes_on }
 segments_read segments each =
     let t : ChunkedText = record { segments = segments; last = codes "0\r\n"; trailers = [] } in

@@ -1,11 +1,11 @@
 -- The requests that a client sent, by all that happened to it, and what a server hands out of them.
-use Rattle.std.specs.Prelude.{◌≡◌, ℕ, ◌<◌, ◌≤◌, ◌^◌, Bool, true, false, List, [], ◌∷◌, ◌++◌, length, take, flat_map, nat_le, if◌then◌else◌, ⊤}
+use Rattle.std.specs.Prelude.{◌≡◌, ℕ, ◌<◌, ◌≤◌, ◌^◌, Bool, true, false, List, [], ◌∷◌, ◌++◌, length, map, take, flat_map, nat_le, if◌then◌else◌, ⊤}
 use Rattle.std.specs.List.{AllByRecursion}
 use Rattle.model_h1.specs.Request.{head_is}
 use Rattle.model_h1.specs.Answer.{BodySize, size_of, Shape, shape_length, shape_chunked}
 use Rattle.model_h1.specs.AnswerText.{chunk_text, last_chunk}
 use Rattle.model_h1.specs.Limits.{MAX_HEADER_LINES}
-use Rattle.model_h1.specs.Handed.{Handed}
+use Rattle.model_h1.specs.Handed.{item_bytes, Handed}
 use Rattle.model_client.specs.RequestText.{asked_shape, IsPlainRequest, joined, RequestGiven, given_request_text, given_request_lines, fits}
 use Rattle.model_client.specs.ClientEvent as on
 use Rattle.model_client.specs.ClientEvent.{ClientRequest, ClientEvent}
@@ -91,3 +91,18 @@ abbrev pub AreServedOut : Bool → List Handed → List AskedRequest → Type 0
 AreServedOut has_ended [] rs = ⊤
 AreServedOut has_ended (h ∷ hs) [] = ⊥
 AreServedOut has_ended (h ∷ hs) (r ∷ rs) = IsServedOut has_ended h r × AreServedOut has_ended hs rs
+
+-- The newest request that was handed out is the last that was asked, and its end wasn't sent yet; all bytes of its body that
+-- were are handed out.
+pub record IsAllServed (hs : List Handed) (rs : List AskedRequest) : Type 0 where
+  pub newest : Handed
+  pub older : List Handed
+  pub handed_are : hs ≡ newest ∷ older
+  pub last : AskedRequest
+  pub before : List AskedRequest
+  pub asked_are : rs ≡ last ∷ before
+  pub as_many : length before ≡ length older
+  pub pieces : List (List ℕ)
+  pub items : newest.items ≡ map item_bytes pieces
+  pub all : joined pieces ≡ carried_so_far last
+  pub part : is_all_asked last ≡ false

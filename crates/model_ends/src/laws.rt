@@ -11,7 +11,7 @@ ghost use Rattle.model_h1.specs.Text.{text};
 ghost use Rattle.model_h1.specs.Laws.Exchanges.{AnswerGiven, exchanges};
 ghost use Rattle.model_h1.specs.Sums.{Step, taken, has_ended};
 ghost use Rattle.model_h1.specs.Handed.{handed_out};
-ghost use Rattle.model_h1.specs.Trace.{IsOutcome, IsTrace};
+ghost use Rattle.model_h1.specs.Trace.{IsAllowed, IsOutcome, IsTrace};
 ghost use Rattle.model_h1.specs.Event as server_on;
 ghost use Rattle.model_client.specs.AnswerParse.{is_interim};
 ghost use Rattle.model_client.specs.AnswerReading.{Answer};
@@ -22,7 +22,7 @@ ghost use Rattle.model_client.specs.ClientStep.{is_ambiguous, is_closed_after, I
 ghost use Rattle.model_client.specs.ClientTrace.{Happened, IsClientTrace, text_of, requests_of, answered_of};
 ghost use Rattle.model_ends.specs.PlainExchange.{IsSelfFramed};
 ghost use Rattle.model_ends.specs.SentAnswer.{SentAnswer, AreSent, AreHeld, sent_text, AreTo, sent_answer, answers_sent};
-ghost use Rattle.model_ends.specs.AskedTrace.{requests_asked, IsPlainAsked, AreServedOut};
+ghost use Rattle.model_ends.specs.AskedTrace.{requests_asked, IsPlainAsked, AreServedOut, IsAllServed};
 ghost use Rattle.model_ends.specs.Connected.{AreConnected, ArePlain, Agree, AreClear, EndsAsAsked, IsFairEnd};
 ghost use Rattle.model_client.specs.ReadOut.{read_out};
 ghost use Rattle.model_ends.specs.ReadOut.{bytes_taken, AreReadOut, IsAllHanded, IsPartSent};
@@ -58,7 +58,7 @@ pub fn two_ends_agree()
 /// A client that took all that its server has to say, and is told that nothing has come yet, has handed out every answer; and
 /// where it is told so of a body, all bytes of that body which were sent so far, and its end wasn't sent. A body is told to be
 /// incomplete only where its end wasn't sent. A server that took all that its client sends, and waits for more, has handed out
-/// every request.
+/// every request; and where it is told so of a body, all bytes of that body which were sent so far, and its end wasn't sent.
 pub fn nothing_is_left()
     ensures client { (client server : Setting) (asked : List Happened) (kept next : ClientKept) (served : List Step)
         → AreConnected client server asked kept served → ArePlain client server asked served → bytes_taken asked ≡ text server served
@@ -75,6 +75,10 @@ pub fn nothing_is_left()
     ensures server { (client server : Setting) (asked : List Happened) (kept : ClientKept) (served : List Step)
         → AreConnected client server asked kept served → ArePlain client server asked served → taken served ≡ text_of asked
         → IsOutcome server served server_on.next server_on.pending → length (handed_out served).messages ≡ length (requests_asked asked) }
+    ensures server_body { (client server : Setting) (asked : List Happened) (kept : ClientKept) (served : List Step)
+        → AreConnected client server asked kept served → ArePlain client server asked served → taken served ≡ text_of asked
+        → IsAllowed server served server_on.pull → IsOutcome server served server_on.pull server_on.pending
+        → IsAllServed (handed_out served).messages (requests_asked asked) }
 {}
 
 /// A client closes since a side asked for it, since its own request failed, or since its input has ended, and for no other

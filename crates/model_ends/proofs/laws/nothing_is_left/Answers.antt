@@ -1,4 +1,5 @@
 use Rattle.model_ends.proofs.Agreement.{all_is_read, all_is_taken}
+use Rattle.model_ends.proofs.BodyServed.{all_is_served}
 use Rattle.model_ends.proofs.NothingCut.{none_is_cut}
 use Rattle.model_ends.proofs.NothingPending.{all_is_pulled}
 use Rattle.model_ends.proofs.laws.nothing_is_left.Goals as goal
@@ -17,3 +18,7 @@ returns-clause-cut c client server asked kept next served fault connected plain 
 
 pub returns-clause-server : goal.returns-clause-server
 returns-clause-server c client server asked kept served connected plain all waits = all_is_taken client server asked kept served connected plain all waits
+
+pub returns-clause-server_body : goal.returns-clause-server_body
+returns-clause-server_body c client server asked kept served connected plain all allowed waits =
+    all_is_served client server asked kept served connected plain all allowed waits
