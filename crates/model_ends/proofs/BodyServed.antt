@@ -34,7 +34,7 @@ use Rattle.model_h1.proofs.HandedTrace.{told_closes, closing_case}
 use Rattle.model_h1.proofs.PastLemmas.{Legal, legal_of, allowed_behind, past_of_unique}
 use Rattle.model_h1.proofs.RunLemmas.{IsOrdered, run_bytes_shifted, run_bytes_between}
 use Rattle.model_h1.proofs.StepLemmas.{allowed_open, parsed}
-use Rattle.model_h1.proofs.TraceGrowth.{message_at, current_at}
+use Rattle.model_h1.proofs.TraceGrowth.{IsParsed, message_at, current_at}
 use Rattle.model_client.specs.RequestText.{RequestGiven, asked_shape, kind_of_shape, given_request_text, joined}
 use Rattle.model_client.specs.ClientKept.{ClientKept}
 use Rattle.model_client.specs.ClientTrace.{Happened, text_of}
@@ -45,7 +45,7 @@ use Rattle.model_ends.specs.AskedTrace.{AskedRequest, requests_asked, is_all, is
 use Rattle.model_ends.specs.Connected.{AreConnected, ArePlain}
 use Rattle.model_ends.proofs.AskedTexts.{text_so_far, texts, OthersWhole, asked_text_of}
 use Rattle.model_ends.proofs.BegunRequests.{begun_served}
-use Rattle.model_ends.proofs.Completions.{padding, completed, completions, newest_text, newest_head, newest_fits, turned, given_of, texts_begin, plain_completions}
+use Rattle.model_ends.proofs.Completions.{padding, completed, completions, newest_text, newest_head, newest_fits, turned, given_of, newest_begins, plain_completions}
 use Rattle.model_ends.proofs.GivenRequests.{each_asked}
 use Rattle.model_ends.proofs.Rests.{segments_read}
 use Rattle.model_ends.proofs.Served.{next_text}
@@ -301,6 +301,7 @@ module _ (server : Setting) (past : List ParsedStep) (legal : Legal server past)
     parse_is : IsParse i (parse_of past)
     parse_is = parsed server past legal
 
+    at_message : IsParsed i m
     at_message = message_at i 0 (parse_of past) (length f.hs) m parse_is (omega arith) f.goes.there
 
     carries : run_bytes i.bytes l.begun.runs ≡ carried_so_far a
@@ -339,13 +340,12 @@ module _ (server : Setting) (past : List ParsedStep) (legal : Legal server past)
   of_all (a ∷ before) plain others came =
       let rs = a ∷ before in
       let more = (newest_text 0 a).0 in
-      let t = texts_begin 0 rs others in
       let gs = reverse (completions 0 rs) in
       let front = map sent_request (reverse (given_of before)) in
       let s = sent_request (completed 0 a) in
       let order : map sent_request gs ≡ front ++ s ∷ [] =
       ap (map sent_request) (turned (completed 0 a) (given_of before)) ∙ sent_last (reverse (given_of before)) (completed 0 a) in
-      let is : taken trace ++ more ≡ asked_text (map sent_request gs) = ap (λ (l : List ℕ). l ++ more) came ∙ t.1 in
+      let is : taken trace ++ more ≡ asked_text (map sent_request gs) = ap (λ (l : List ℕ). l ++ more) came ∙ newest_begins 0 a before others in
       let begun = begun_served i more (map sent_request gs) (parse_of past) is (each_asked server.hold_size gs (plain_completions 0 server.hold_size rs plain others))
       (parsed server past legal) in
       let l = last_found i more some s (newest_fits 0 a) 0 (parse_of past) front (length f.hs) m (omega arith) (is ∙ ap asked_text order)

@@ -272,6 +272,10 @@ texts_begin pad (a ∷ rs) all =
           (fits_last n.0 (reverse (given_of rs)) (completed pad a) (newest_fits pad a)),
     )
 
+pub newest_begins : (pad : ℕ) (a : AskedRequest) (rs : List AskedRequest) → AllWhole rs
+    → texts (a ∷ rs) ++ (newest_text pad a).0 ≡ asked_text (map sent_request (reverse (completions pad (a ∷ rs))))
+newest_begins pad a rs all = (texts_begin pad (a ∷ rs) all).1
+
 -- there are as many
 pub completions_length : (pad : ℕ) (rs : List AskedRequest) → length (map sent_request (reverse (completions pad rs))) ≡ length rs
 completions_length pad rs = omega (arith, length-map (reverse (completions pad rs)) sent_request, length-reverse (completions pad rs), by_list rs)
