@@ -274,6 +274,7 @@ texts_begin pad (a ∷ rs) all =
 
 pub newest_begins : (pad : ℕ) (a : AskedRequest) (rs : List AskedRequest) → AllWhole rs
     → texts (a ∷ rs) ++ (newest_text pad a).0 ≡ asked_text (map sent_request (reverse (completions pad (a ∷ rs))))
+unfolding newest_text texts_begin
 newest_begins pad a rs all = (texts_begin pad (a ∷ rs) all).1
 
 -- there are as many
