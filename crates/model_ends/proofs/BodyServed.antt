@@ -1,25 +1,24 @@
 -- Where a server has taken all that was sent, and its pull is told that nothing has come yet, all bytes of the body that were
 -- sent so far are handed out, and its end wasn't sent.
-use Rattle.std.proofs.Common.{◌≡◌, ℕ, zero, suc, ◌+◌, ◌-◌, ◌<◌, ◌≤◌, Bool, true, false, List, [], ◌∷◌, ◌++◌, length, take, drop, map, reverse, Option, Some, None, refl, sym, ap, ap₂, ◌∙◌, subst, subst₂, arith, append-nil, length-append, length-drop, le-leb, take_all, inl, inr}
-use Rattle.std.specs.Prelude.{IsTrue, ◌||◌, slice_get, slice_range, flat_map, if◌then◌else◌}
+use Rattle.std.proofs.Common.{◌≡◌, ℕ, zero, suc, ◌+◌, ◌-◌, ◌<◌, ◌≤◌, Bool, true, false, List, [], ◌∷◌, ◌++◌, length, drop, map, reverse, Option, Some, None, refl, sym, ap, ap₂, ◌∙◌, subst, subst₂, arith, append-nil, length-append, length-drop, le-leb, take_all, inl, inr}
+use Rattle.std.specs.Prelude.{IsTrue, ◌||◌, slice_get, flat_map, if◌then◌else◌}
 use Rattle.std.specs.List.{AllByRecursion}
-use Rattle.std.proofs.lemmas.Bool.{false≢true, true≢false, cases_Bool, cases_lt}
+use Rattle.std.proofs.lemmas.Bool.{true≢false, cases_Bool, cases_lt}
 use Rattle.std.proofs.lemmas.Option.{none-some, same_Some}
 use Rattle.std.proofs.lemmas.List.{append_cancel_right, drop-drop, drop_at, length-map, length-reverse}
 use Rattle.model_h1.specs.Answer.{Shape, shape_none, shape_length, shape_chunked, shape_raw}
 use Rattle.model_h1.specs.AnswerText.{chunk_text, last_chunk}
-use Rattle.model_h1.specs.Chunked.{Chunked}
 use Rattle.model_h1.specs.Place.{start}
 use Rattle.model_h1.specs.Reading.{Reading as ReadBody, read}
-use Rattle.model_h1.specs.Request.{Header, Head, BodyKind, no_body, fixed_body, chunked_body, raw_body, Reading, head_is}
+use Rattle.model_h1.specs.Request.{Header, Head, BodyKind, no_body, fixed_body, chunked_body, raw_body, Reading}
 use Rattle.model_h1.specs.Runs.{Run, run_bytes}
 use Rattle.model_h1.specs.Setting.{Setting}
-use Rattle.model_h1.specs.Parse.{Input, Message, Body, no_content, content, frames, Stop, ended_at, still_open, broken, cut, run_between, shifted, next_start, runs_of, IsBodyOf, IsBodyAfter, IsParse}
+use Rattle.model_h1.specs.Parse.{Input, Message, Body, no_content, content, frames, Stop, ended_at, still_open, broken, cut, next_start, runs_of, IsBodyOf, IsBodyAfter, IsParse}
 use Rattle.model_h1.specs.Event.{Outcome}
 use Rattle.model_h1.specs.Event as on
-use Rattle.model_h1.specs.Sums.{Step, taken, is_upgraded, request}
+use Rattle.model_h1.specs.Sums.{Step, taken}
 use Rattle.model_h1.specs.Handed.{Item, item_bytes, Handed, HandedOut, handed_out, AreItemsOf}
-use Rattle.model_h1.specs.Past.{ParsedStep, steps, input_of, parse_of, given_bytes, current}
+use Rattle.model_h1.specs.Past.{ParsedStep, steps, input_of, parse_of, given_bytes}
 use Rattle.model_h1.specs.Allowed.{has_body_left, is_allowed}
 use Rattle.model_h1.specs.OutcomeTable.{run_left, gave_trailers, ended_outcome, stop_outcome, run_outcome, body_outcome, pull_outcome, outcome_of}
 use Rattle.model_h1.specs.Trace.{IsAllowed, IsOutcome}
@@ -31,7 +30,7 @@ use Rattle.model_h1.proofs.HandedParsed.{sound}
 use Rattle.model_h1.proofs.HandedRuns.{given_all, left_all}
 use Rattle.model_h1.proofs.HandedSteps.{only, Running, nothing, running, failed}
 use Rattle.model_h1.proofs.HandedTrace.{told_closes, closing_case}
-use Rattle.model_h1.proofs.PastLemmas.{Legal, legal_of, allowed_behind, past_of_unique}
+use Rattle.model_h1.proofs.PastLemmas.{Legal, legal_of, allowed_behind}
 use Rattle.model_h1.proofs.RunLemmas.{IsOrdered, run_bytes_shifted, run_bytes_between}
 use Rattle.model_h1.proofs.StepLemmas.{allowed_open, parsed}
 use Rattle.model_h1.proofs.TraceGrowth.{IsParsed, message_at, current_at}
@@ -97,12 +96,12 @@ found setting past legal allowed waits =
           let shut = ap₂ (λ (u : Bool) (r : Option Head). u || has_body_left (steps past) r) none.upgraded none.asked in
           absurd (true≢false (sym test ∙ shut))
       | running h hs handed r ↦ record {
-          h = h;
-          hs = hs;
-          handed = handed;
-          goes = r;
-          waits = sym (waits ∙ ap (pull_outcome (steps past)) (current_at past (length hs) r.count ∙ r.there));
-        }
+        h = h;
+        hs = hs;
+        handed = handed;
+        goes = r;
+        waits = sym (waits ∙ ap (pull_outcome (steps past)) (current_at past (length hs) r.count ∙ r.there));
+      }
       | failed prefix fault ↦
           absurd (true≢false (closing_case setting past on.pull on.pending (told_closes setting past fault) allowed waits).other.pull)
     ]

@@ -1,16 +1,14 @@
 -- The text of a head is the head on the stream: no empty line stands in it but its last.
-use Rattle.std.proofs.Common.{◌≡◌, ℕ, ◌<◌, ◌≤◌, Bool, List, [], ◌∷◌, ◌++◌, length, take, drop, filter, flat_map, get_or, slice_range, cond, true, false, All, Some, None, Option, refl, sym, ap, ◌∙◌, subst, arith, append_assoc, length-append, length-drop}
+use Rattle.std.proofs.Common.{◌≡◌, ℕ, ◌<◌, List, [], ◌∷◌, ◌++◌, length, take, drop, flat_map, get_or, slice_range, All, Some, None, Option, refl, sym, ap, ◌∙◌, subst, arith, append_assoc, length-append, length-drop}
 use Rattle.std.specs.Prelude.{IsTrue}
 use Rattle.std.specs.Char.{is_ascii_digit}
 use Rattle.std.proofs.Math.Seq.{take-append_seam}
-use Rattle.std.proofs.lemmas.Bool.{eq-eqb, false≢true}
 use Rattle.std.proofs.lemmas.List.{take-append-drop}
-use Rattle.std.proofs.lemmas.List.Elements.{All-head, All-tail}
 use Rattle.std.proofs.lemmas.Slice.{between_is}
-use Rattle.httparse.specs.Ascii.{line_feed, carriage_return, space, colon}
-use Rattle.httparse.specs.Grammar.{is_token_byte, is_uri_byte, is_value_byte, IsToken, LineEnd, crlf, lf, print_end, print_blank, print_version, print_reason, Field, IsField, print_field, RequestHead, IsRequestHead, print_request, ResponseHead, IsResponseHead, print_response, reason_phrase}
+use Rattle.httparse.specs.Ascii.{line_feed, space}
+use Rattle.httparse.specs.Grammar.{is_uri_byte, is_value_byte, LineEnd, crlf, lf, print_end, print_blank, print_version, print_reason, Field, IsField, print_field, RequestHead, IsRequestHead, print_request, ResponseHead, IsResponseHead, print_response, reason_phrase}
 use Rattle.model_h1.specs.HeadPiece.{BeginsBlank, EndsBlank, IsHeadPiece}
-use Rattle.model_h1.proofs.LineFeeds.{is_feed, feeds, feeds-append, feeds-none, feeds-token, feeds-version}
+use Rattle.model_h1.proofs.LineFeeds.{feeds, feeds-append, feeds-none, feeds-token, feeds-version}
 use Rattle.model_h1.proofs.HeadEnds.{EndsLate, late_text, late_section, ends_section, token_begins}
 
 -- ---- a first line, field lines and an empty line

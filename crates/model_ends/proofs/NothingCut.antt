@@ -26,9 +26,9 @@ use Rattle.model_ends.specs.Connected.{AreConnected, ArePlain}
 use Rattle.model_client.specs.ReadOut.{ReadAnswer, read_out}
 use Rattle.model_ends.specs.ReadOut.{bytes_taken, IsPartSent}
 use Rattle.model_ends.proofs.Agreement.{joined_ends}
-use Rattle.model_ends.proofs.Holds.{AreSo, IsBusy, Holds, faulty_some}
+use Rattle.model_ends.proofs.Holds.{IsBusy, Holds, faulty_some}
 use Rattle.model_ends.proofs.NextAnswers.{failed_closes, allowed_then, allowed_while}
-use Rattle.model_ends.proofs.NothingPending.{IsUnderWay, waiting_goes_on, goes_on_part, of_fixed, last_part}
+use Rattle.model_ends.proofs.NothingPending.{waiting_goes_on, goes_on_part, of_fixed, last_part}
 use Rattle.model_ends.proofs.ReadOuts.{both, not_true, all_for}
 use Rattle.model_ends.proofs.Rests.{RestSays, Gives, some_bytes, nothing_yet, its_end, cut_off, ending_of, pull_gives}
 

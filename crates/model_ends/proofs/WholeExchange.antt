@@ -20,10 +20,9 @@ use Rattle.model_h1.specs.Trace.{IsTrace}
 use Rattle.model_h1.specs.Laws.Exchanges.{exchanges, changed_by}
 use Rattle.model_h1.specs.Laws.ExampleTraces.{usual, ok as ok_head}
 use Rattle.model_h1.proofs.ExampleLemmas.{plain_piece, nothing_behind, plain_head}
-use Rattle.model_h1.proofs.ExampleParses.{input}
 use Rattle.model_h1.proofs.ExampleSteps.{happens}
 use Rattle.model_h1.proofs.PastLemmas.{Legal}
-use Rattle.model_client.specs.AnswerReading.{IsTextOf, IsAnswerReadingWithin, answer_is}
+use Rattle.model_client.specs.AnswerReading.{IsTextOf, answer_is}
 use Rattle.model_client.specs.RequestText.{request_text}
 use Rattle.model_client.specs.WrittenHead.{line_of, IsCleanLine}
 use Rattle.model_client.specs.ClientEvent as on
