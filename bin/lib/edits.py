@@ -39,6 +39,8 @@ class Edit:
     crate: str
     file: str
     unfit: str = ""
+    # What it replaces, in order: the file, the old text, the new one.
+    pairs: list = dataclasses.field(default_factory=list)
     # The functions that it changes, as their file, the numbers of their first and last line, and their name.
     changed: list = dataclasses.field(default_factory=list)
     # The edited files' texts, by their paths below the crate.
@@ -100,6 +102,7 @@ def apply(edit, folder, texts, path, old, new):
     line = texts[path][: texts[path].index(old)].count("\n") + 1
     if path.startswith("src/"):
         edit.changed.append((path, *function_at(texts[path].split("\n"), line)))
+    edit.pairs.append((path, old, new))
     texts[path] = texts[path].replace(old, new)
     return ""
 
@@ -127,6 +130,36 @@ def ways_of(edit, folder):
     if all(modules):
         ways.append(modules)
     return [[word for name in way for word in ("--only", name)] for at, way in enumerate(ways) if way not in ways[:at]] + [[]]
+
+
+def groups_of(edits, folder, most):
+    """The edits in groups that one check can try together: each changes functions alone, and no two functions of a group have one
+    name, so that each of the prover's lines belongs to one edit. An edit that fits no group is one by itself."""
+    groups = []
+    for edit in edits:
+        names = {it[3] for it in edit.changed}
+        one = len(ways_of(edit, folder)) == 1
+        fits = (it for it in groups if not one and len(it[0]) < most and it[1] and not it[1] & names and merged([*it[0], edit], folder))
+        group = next(fits, None)
+        if group is None:
+            groups.append(([edit], set() if one else names))
+        else:
+            group[0].append(edit)
+            group[1].update(names)
+    return [it for it, _ in groups]
+
+
+def merged(edits, folder):
+    """The texts of all edited files with every pair of these edits applied, or None where a pair no longer stands once."""
+    texts = {}
+    for path, old, new in (it for edit in edits for it in edit.pairs):
+        if path not in texts:
+            with open(f"{folder}/{path}", encoding="utf-8") as it:
+                texts[path] = it.read()
+        if texts[path].count(old) != 1:
+            return None
+        texts[path] = texts[path].replace(old, new)
+    return texts
 
 
 def names_of(changed, folder):
@@ -170,14 +203,33 @@ def judged(edit, status, said):
         if told and not first:
             return NAME, told[0]
         place = PLACE.match(first)
-        is_own = place and any(is_at(it, place[1], int(place[2])) for it in edit.changed)
-        return (GOAL if is_own else ELSEWHERE), first
+        return (GOAL if place and is_of(edit, first) else ELSEWHERE), first
     limit = next((it for it in lines if LIMITS.search(it)), "")
     if status == 3 and limit:
         return LIMIT, limit
     if status == 1:
         return BAD, next((it for it in lines if "error" in it), lines[-1])
     return UNTRIED, f"rt check ended with status {status}: {lines[-1]}"
+
+
+def judge_together(edits, status, said):
+    """What a check of several edits shows: gives those that have errors of their own an outcome, and leaves the others untried.
+    Where the prover can't read a text, or names a place outside of the changed functions, no line can be given to an edit."""
+    lines = said.rstrip("\n").split("\n")
+    errors = [it for it in lines if PLACE.match(it) and ": error" in it]
+    if status != 1 or not any("not proved" in it for it in lines) or any(is_unread(it, edit) for it in errors for edit in edits):
+        return
+    by_edit = [[it for it in errors if is_of(edit, it)] for edit in edits]
+    if sum(map(len, by_edit)) != len(errors):
+        return
+    for edit, own in zip(edits, by_edit):
+        if own and not any(NAMES.match(it) for it in own):
+            edit.outcome, edit.said = GOAL, own[0]
+
+
+def is_of(edit, line):
+    place = PLACE.match(line)
+    return any(is_at(it, place[1], int(place[2])) for it in edit.changed)
 
 
 def is_unread(line, edit):

@@ -19,7 +19,7 @@ use Rattle.model_proxy.specs.Exchange.{Pulled, pulled}
 use Rattle.model_proxy.specs.Edge.{Edge}
 use Rattle.model_proxy.specs.Forward.{is_forwardable}
 use Rattle.model_proxy.specs.Happenings.{Request, Link, Happenings, all_sent, IsRightlySent, refused_count, server_of, IsLink, AreSums}
-use Rattle.model_proxy.specs.Carried.{UnderWay, nothing, waits, is_sent, ForwarderKept, IsServer, IsUnderWay, Carries, Keeps, KeepsBy}
+use Rattle.model_proxy.specs.Carried.{UnderWay, nothing, waits, is_sent, ForwarderKept, IsServer, IsIdle, IsWaiting, IsUnderWay, Carries, Keeps, KeepsBy}
 use Rattle.model_proxy.specs.Moves.{Does, DoesAsked}
 use Rattle.model_proxy.proofs.Quiet.{BringsNothing, nothing_more}
 
@@ -116,64 +116,113 @@ module _ (edge : Edge) (theirs ours : Setting) where
 
   -- ---- an event by which nothing happens
 
+  pub nothing_at : (event : ProxyEvent) (outcome : ProxyOutcome) (k : ForwarderKept) → SaysNoBytes event outcome → is_refusal event ≡ false
+      → LeavesServers event outcome → (history : List ProxyStep) (all : Happenings) → Carries edge theirs ours k history all
+      → Carries edge theirs ours k (record { event = event; outcome = outcome } ∷ history) all
+  nothing_at event outcome k says none leaves history all x = record {
+    stands = x.stands;
+    server = x.server;
+    under_way = x.under_way;
+    forwarded = record {
+      traced = x.forwarded.traced;
+      sums = quiet_sums event outcome history all all x.forwarded.sums says refl (sym (leaves (map server_of all.links)))
+          (ap (λ (b : Bool). counted_if b (refused_count all.requests)) (sym none));
+      sent = x.forwarded.sent;
+    };
+  }
+
   pub by_nothing : (event : ProxyEvent) (outcome : ProxyOutcome) (k : ForwarderKept) → SaysNoBytes event outcome → is_refusal event ≡ false
       → LeavesServers event outcome → KeepsBy edge theirs ours event outcome k k
-  by_nothing event outcome k says none leaves = λ history all x. (
-    all,
-    record {
-      stands = x.stands;
-      server = x.server;
-      under_way = x.under_way;
-      forwarded = record {
-        traced = x.forwarded.traced;
-        sums = quiet_sums event outcome history all all x.forwarded.sums says refl (sym (leaves (map server_of all.links)))
-            (ap (λ (b : Bool). counted_if b (refused_count all.requests)) (sym none));
-        sent = x.forwarded.sent;
-      };
-    },
-  )
+  by_nothing event outcome k says none leaves = λ history all x. (all, nothing_at event outcome k says none leaves history all x)
 
   -- ---- an event of the client's connection
+
+  pub client_event_at : (e : on.Event) (o : on.Outcome) (event : ProxyEvent) (outcome : ProxyOutcome) (k : ForwarderKept) (b : Kept) → BringsNothing o
+      → sums.step_taken e o ≡ client_bytes event outcome → sums.step_written o ≡ client_written event outcome → sums.tick_of e ≡ tick_of event
+      → sums.is_eof e ≡ is_client_end event → is_refusal event ≡ false
+      → LeavesServers event outcome → Does theirs e o k.client b
+      → (history : List ProxyStep) (all : Happenings) → Carries edge theirs ours k history all
+      → Carries edge theirs ours (record k { client = b }) (record { event = event; outcome = outcome } ∷ history)
+      (record all { client = record { event = e; outcome = o } ∷ all.client })
+  unfolding sums.taken sums.written sums.last_tick pulled
+  client_event_at e o event outcome k b none takes gives moment ends not_refused leaves does history all x =
+      let stands = does all.client x.stands in
+      let new : Happenings = record all { client = record { event = e; outcome = o } ∷ all.client } in
+      record {
+        stands = stands;
+        server = x.server;
+        under_way = x.under_way;
+        forwarded = record {
+          traced = stands.traced;
+          sums = event_sums event outcome history all new x.forwarded.sums
+              (ap (λ (l : List ℕ). sums.taken all.client ++ l) takes)
+              (ap (λ (l : List ℕ). sums.written all.client ++ l) gives)
+              (ap (λ (t : Option ℕ). unwrap_or (option_or t (sums.last_tick all.client)) 0) moment
+              ∙ later (tick_of event) (sums.last_tick all.client) (last_tick history) x.forwarded.sums.moment)
+              (sym (leaves (map server_of all.links)))
+              (ap (λ (b : Bool). b || sums.has_ended all.client) ends)
+              (ap (λ (b : Bool). counted_if b (refused_count all.requests)) (sym not_refused));
+          sent = record {
+            requests = x.forwarded.sent.requests ∙ sym (nothing_more o none (pulled all.client));
+            sent = x.forwarded.sent.sent;
+            rightly = x.forwarded.sent.rightly;
+            links = x.forwarded.sent.links;
+          };
+        };
+      }
 
   pub by_client : (e : on.Event) (o : on.Outcome) (event : ProxyEvent) (outcome : ProxyOutcome) (k : ForwarderKept) (b : Kept) → BringsNothing o
       → sums.step_taken e o ≡ client_bytes event outcome → sums.step_written o ≡ client_written event outcome → sums.tick_of e ≡ tick_of event
       → sums.is_eof e ≡ is_client_end event → is_refusal event ≡ false
       → LeavesServers event outcome → Does theirs e o k.client b → KeepsBy edge theirs ours event outcome k (record k { client = b })
-  unfolding sums.taken sums.written sums.last_tick pulled
-  by_client e o event outcome k b none takes gives moment ends not_refused leaves does = λ history all x.
-      let stands = does all.client x.stands in
-      let new : Happenings = record all { client = record { event = e; outcome = o } ∷ all.client } in (
-        new,
-        record {
-          stands = stands;
-          server = x.server;
-          under_way = x.under_way;
-          forwarded = record {
-            traced = stands.traced;
-            sums = event_sums event outcome history all new x.forwarded.sums
-                (ap (λ (l : List ℕ). sums.taken all.client ++ l) takes)
-                (ap (λ (l : List ℕ). sums.written all.client ++ l) gives)
-                (ap (λ (t : Option ℕ). unwrap_or (option_or t (sums.last_tick all.client)) 0) moment
-                ∙ later (tick_of event) (sums.last_tick all.client) (last_tick history) x.forwarded.sums.moment)
-                (sym (leaves (map server_of all.links)))
-                (ap (λ (b : Bool). b || sums.has_ended all.client) ends)
-                (ap (λ (b : Bool). counted_if b (refused_count all.requests)) (sym not_refused));
-            sent = record {
-              requests = x.forwarded.sent.requests ∙ sym (nothing_more o none (pulled all.client));
-              sent = x.forwarded.sent.sent;
-              rightly = x.forwarded.sent.rightly;
-              links = x.forwarded.sent.links;
-            };
-          };
-        },
-      )
+  by_client e o event outcome k b none takes gives moment ends not_refused leaves does = λ history all x. (
+    record all { client = record { event = e; outcome = o } ∷ all.client },
+    client_event_at e o event outcome k b none takes gives moment ends not_refused leaves does history all x,
+  )
 
   -- ---- an event of a server's connection
 
-  pub by_server : (e : asked.ClientEvent) (o : asked.ClientOutcome) (event : ProxyEvent) (outcome : ProxyOutcome) (k : ForwarderKept) (s t : ClientKept)
+  pub server_event_at : (e : asked.ClientEvent) (o : asked.ClientOutcome) (event : ProxyEvent) (outcome : ProxyOutcome) (k : ForwarderKept) (s t : ClientKept)
       → AddsNoText e → SaysNoBytes event outcome → is_refusal event ≡ false → ChangesServer e o event outcome → DoesAsked ours e o s t
-      → KeepsBy edge theirs ours event outcome (record k { server = Some s }) (record k { server = Some t })
-  by_server e o event outcome k s t adds says not_refused changes does = λ history all x. went history all all.links x refl
+      → (history : List ProxyStep) (all : Happenings) (l : Link) (links : List Link) → all.links ≡ l ∷ links
+      → Carries edge theirs ours (record k { server = Some s }) history all
+      → Carries edge theirs ours (record k { server = Some t }) (record { event = event; outcome = outcome } ∷ history)
+      (record all { links = record { happened = record { event = e; outcome = o } ∷ l.happened; sent = l.sent } ∷ links })
+  server_event_at e o event outcome k s t adds says not_refused changes does history all l links is x =
+      let driven = does l.happened (subst (IsServer ours (Some s)) is x.server) in
+      let old = subst (AllByRecursion (IsLink ours)) is x.forwarded.sent.links in
+      let new : Happenings = record all { links = record { happened = record { event = e; outcome = o } ∷ l.happened; sent = l.sent } ∷ links } in
+      record {
+        stands = x.stands;
+        server = driven;
+        under_way = under k.under_way all.requests l links (subst (IsUnderWay edge k.under_way all.requests (Some s)) is x.under_way);
+        forwarded = record {
+          traced = x.forwarded.traced;
+          sums = quiet_sums event outcome history all new x.forwarded.sums says refl
+              (ap (λ (s : Server). s ∷ map server_of links) (changes.newest l) ∙ sym (changes.others (server_of l) (map server_of links))
+              ∙ sym (ap (λ (links : List Link). servers_behind event outcome (map server_of links)) is))
+              (ap (λ (b : Bool). counted_if b (refused_count all.requests)) (sym not_refused));
+          sent = record {
+            requests = x.forwarded.sent.requests;
+            sent = x.forwarded.sent.sent ∙ ap (flat_map (λ (l : Link). l.sent)) is;
+            rightly = x.forwarded.sent.rightly;
+            links = (
+              record {
+                kept = t;
+                driven = driven;
+                text =
+                    ap (λ (more : List ℕ). text_of l.happened ++ more) (adds.text (now_of l.happened) (sending_of l.happened))
+                    ∙ append-nil (text_of l.happened) ∙ old.0.text;
+                asked =
+                    ap (λ (more : List Waiting). map (λ (w : Waiting). w.method) (requests_of l.happened ++ more)) adds.asked
+                    ∙ ap (map (λ (w : Waiting). w.method)) (append-nil (requests_of l.happened)) ∙ old.0.asked;
+                whole = old.0.whole;
+              },
+              old.1,
+            );
+          };
+        };
+      }
     where
       stepped : Link → Link
       stepped l = record { happened = record { event = e; outcome = o } ∷ l.happened; sent = l.sent }
@@ -194,82 +243,87 @@ module _ (edge : Edge) (theirs ours : Setting) where
         sends = λ unended long. ap (λ (o : Option SendingBody). is_some o) (adds.sending (sending_of l.happened)) ∙ y.sends unended long;
       }
 
+  pub by_server : (e : asked.ClientEvent) (o : asked.ClientOutcome) (event : ProxyEvent) (outcome : ProxyOutcome) (k : ForwarderKept) (s t : ClientKept)
+      → AddsNoText e → SaysNoBytes event outcome → is_refusal event ≡ false → ChangesServer e o event outcome → DoesAsked ours e o s t
+      → KeepsBy edge theirs ours event outcome (record k { server = Some s }) (record k { server = Some t })
+  by_server e o event outcome k s t adds says not_refused changes does = λ history all x. went history all all.links x refl
+    where
       went : (history : List ProxyStep) (all : Happenings) (links : List Link) → Carries edge theirs ours (record k { server = Some s }) history all
           → all.links ≡ links
           → (after : Happenings) × Carries edge theirs ours (record k { server = Some t }) (record { event = event; outcome = outcome } ∷ history) after
       went history all [] x is = absurd (subst (IsServer ours (Some s)) is x.server)
       went history all (l ∷ links) x is =
-          let driven = does l.happened (subst (IsServer ours (Some s)) is x.server) in
-          let old = subst (AllByRecursion (IsLink ours)) is x.forwarded.sent.links in
-          let new : Happenings = record all { links = stepped l ∷ links } in (
-            new,
-            record {
-              stands = x.stands;
-              server = driven;
-              under_way = under k.under_way all.requests l links (subst (IsUnderWay edge k.under_way all.requests (Some s)) is x.under_way);
-              forwarded = record {
-                traced = x.forwarded.traced;
-                sums = quiet_sums event outcome history all new x.forwarded.sums says refl
-                    (ap (λ (s : Server). s ∷ map server_of links) (changes.newest l) ∙ sym (changes.others (server_of l) (map server_of links))
-                    ∙ sym (ap (λ (links : List Link). servers_behind event outcome (map server_of links)) is))
-                    (ap (λ (b : Bool). counted_if b (refused_count all.requests)) (sym not_refused));
-                sent = record {
-                  requests = x.forwarded.sent.requests;
-                  sent = x.forwarded.sent.sent ∙ ap (flat_map (λ (l : Link). l.sent)) is;
-                  rightly = x.forwarded.sent.rightly;
-                  links = (
-                    record {
-                      kept = t;
-                      driven = driven;
-                      text =
-                          ap (λ (more : List ℕ). text_of l.happened ++ more) (adds.text (now_of l.happened) (sending_of l.happened))
-                          ∙ append-nil (text_of l.happened) ∙ old.0.text;
-                      asked =
-                          ap (λ (more : List Waiting). map (λ (w : Waiting). w.method) (requests_of l.happened ++ more)) adds.asked
-                          ∙ ap (map (λ (w : Waiting). w.method)) (append-nil (requests_of l.happened)) ∙ old.0.asked;
-                      whole = old.0.whole;
-                    },
-                    old.1,
-                  );
-                };
-              };
-            },
-          )
+          (_, server_event_at e o event outcome k s t adds says not_refused changes does history all l links is x)
 
   -- ---- a new connection to a server
 
-  pub by_connected : (q : ClientRequest) (size : BodySize) (whole broken : Bool) (kept : Kept)
-      → KeepsBy edge theirs ours connected done (record { client = kept; server = None; under_way = waits q size whole broken })
-      (record { client = kept; server = Some fresh_client; under_way = waits q size whole broken })
-  by_connected q size whole broken kept = λ history all x.
+  pub connected_at : (q : ClientRequest) (size : BodySize) (whole broken : Bool) (kept : Kept) (history : List ProxyStep) (all : Happenings)
+      → Carries edge theirs ours (record { client = kept; server = None; under_way = waits q size whole broken }) history all
+      → Carries edge theirs ours (record { client = kept; server = Some fresh_client; under_way = waits q size whole broken })
+      (record { event = connected; outcome = done } ∷ history) (record all { links = record { happened = []; sent = [] } ∷ all.links })
+  connected_at q size whole broken kept history all x =
       let l : Link = record { happened = []; sent = [] } in
-      let new : Happenings = record all { links = l ∷ all.links } in (
-        new,
-        record {
-          stands = x.stands;
-          server = refl;
-          under_way = under all.requests all.links x.under_way;
-          forwarded = record {
-            traced = x.forwarded.traced;
-            sums = quiet_sums connected done history all new x.forwarded.sums (record { taken = refl; written = refl; moment = refl; going = refl }) refl refl refl;
-            sent = record {
-              requests = x.forwarded.sent.requests;
-              sent = x.forwarded.sent.sent;
-              rightly = x.forwarded.sent.rightly;
-              links = (record { kept = fresh_client; driven = refl; text = refl; asked = refl; whole = tt }, x.forwarded.sent.links);
-            };
+      let new : Happenings = record all { links = l ∷ all.links } in
+      record {
+        stands = x.stands;
+        server = refl;
+        under_way = under all.requests all.links x.under_way;
+        forwarded = record {
+          traced = x.forwarded.traced;
+          sums = quiet_sums connected done history all new x.forwarded.sums (record { taken = refl; written = refl; moment = refl; going = refl }) refl refl refl;
+          sent = record {
+            requests = x.forwarded.sent.requests;
+            sent = x.forwarded.sent.sent;
+            rightly = x.forwarded.sent.rightly;
+            links = (record { kept = fresh_client; driven = refl; text = refl; asked = refl; whole = tt }, x.forwarded.sent.links);
           };
-        },
-      )
+        };
+      }
     where
       under : (rs : List Request) (links : List Link) → IsUnderWay edge (waits q size whole broken) rs None links
           → IsUnderWay edge (waits q size whole broken) rs (Some fresh_client) (record { happened = []; sent = [] } ∷ links)
       under [] links y = absurd y
       under (r ∷ rs) links y = (tt, y.1)
 
+  pub by_connected : (q : ClientRequest) (size : BodySize) (whole broken : Bool) (kept : Kept)
+      → KeepsBy edge theirs ours connected done (record { client = kept; server = None; under_way = waits q size whole broken })
+      (record { client = kept; server = Some fresh_client; under_way = waits q size whole broken })
+  by_connected q size whole broken kept = λ history all x.
+      (record all { links = record { happened = []; sent = [] } ∷ all.links }, connected_at q size whole broken kept history all x)
+
   -- ---- no server connection is to be had
 
   -- the request that waits gets none
+  pub refused_at : (q : ClientRequest) (size : BodySize) (whole broken : Bool) (kept : Kept) (server : Option ClientKept) (history : List ProxyStep) (all : Happenings)
+      (r : Request) (rs : List Request) → all.requests ≡ r ∷ rs
+      → Carries edge theirs ours (record { client = kept; server = server; under_way = waits q size whole broken }) history all
+      → IsIdle server all.links → IsWaiting edge q size whole broken r
+      → Carries edge theirs ours (record { client = kept; server = server; under_way = nothing }) (record { event = past.refused; outcome = done } ∷ history)
+      (record all { requests = record r { was_refused = true } ∷ rs })
+  refused_at q size whole broken kept at history all r rs rs_are x idle w =
+      let new : Happenings = record all { requests = record r { was_refused = true } ∷ rs } in
+      let old : refused_count all.requests ≡ refused_count rs =
+      ap refused_count rs_are ∙ ap (λ (b : Bool). counted_if b (refused_count rs)) w.unrefused in
+      record {
+        stands = x.stands;
+        server = x.server;
+        under_way = idle;
+        forwarded = record {
+          traced = x.forwarded.traced;
+          sums = quiet_sums past.refused done history all new x.forwarded.sums (record { taken = refl; written = refl; moment = refl; going = refl }) refl
+              (sym (refused_leaves done (map server_of all.links))) (ap (counted_if true) (sym old));
+          sent = record {
+            requests = sym (ap (map (λ (r : Request). r.pulled)) rs_are) ∙ x.forwarded.sent.requests;
+            sent = sym (ap (all_sent edge) rs_are) ∙ x.forwarded.sent.sent;
+            rightly = (
+              rightly_refused edge r.pulled r.sent_at w.unsent w.forwardable,
+              (subst (AllByRecursion (λ (r : Request). IsRightlySent edge r.pulled r.sent_at r.was_refused)) rs_are x.forwarded.sent.rightly).1,
+            );
+            links = x.forwarded.sent.links;
+          };
+        };
+      }
+
   pub by_refused : (q : ClientRequest) (size : BodySize) (whole broken : Bool) (kept : Kept) (server : Option ClientKept)
       → KeepsBy edge theirs ours past.refused done (record { client = kept; server = server; under_way = waits q size whole broken })
       (record { client = kept; server = server; under_way = nothing })
@@ -282,31 +336,7 @@ module _ (edge : Edge) (theirs ours : Setting) where
           (record { event = past.refused; outcome = done } ∷ history) after
       marks history all [] rs_are x under = absurd under
       marks history all (r ∷ rs) rs_are x (idle, w) =
-          let r' : Request = record r { was_refused = true } in
-          let new : Happenings = record all { requests = r' ∷ rs } in
-          let old : refused_count all.requests ≡ refused_count rs =
-          ap refused_count rs_are ∙ ap (λ (b : Bool). counted_if b (refused_count rs)) w.unrefused in (
-            new,
-            record {
-              stands = x.stands;
-              server = x.server;
-              under_way = idle;
-              forwarded = record {
-                traced = x.forwarded.traced;
-                sums = quiet_sums past.refused done history all new x.forwarded.sums (record { taken = refl; written = refl; moment = refl; going = refl }) refl
-                    (sym (refused_leaves done (map server_of all.links))) (ap (counted_if true) (sym old));
-                sent = record {
-                  requests = sym (ap (map (λ (r : Request). r.pulled)) rs_are) ∙ x.forwarded.sent.requests;
-                  sent = sym (ap (all_sent edge) rs_are) ∙ x.forwarded.sent.sent;
-                  rightly = (
-                    rightly_refused edge r.pulled r.sent_at w.unsent w.forwardable,
-                    (subst (AllByRecursion (λ (r : Request). IsRightlySent edge r.pulled r.sent_at r.was_refused)) rs_are x.forwarded.sent.rightly).1,
-                  );
-                  links = x.forwarded.sent.links;
-                };
-              };
-            },
-          )
+          (record all { requests = record r { was_refused = true } ∷ rs }, refused_at q size whole broken kept at history all r rs rs_are x idle w)
 
 -- ---- other events that leave them
 

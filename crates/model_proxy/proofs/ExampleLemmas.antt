@@ -9,6 +9,8 @@ use Rattle.model_client.specs.AnswerReading.{Answer, IsTextOf, answer_is}
 use Rattle.model_client.specs.AnswerParse.{AnswerMessage}
 use Rattle.model_client.proofs.ExampleLemmas.{plain_tree, plain_text}
 use Rattle.model_proxy.specs.Answers.{Found, whole_at, IsAnswer}
+use Rattle.model_client.specs.WrittenHead.{line_of}
+use Rattle.model_proxy.specs.Laws.Histories.{closing_text}
 use Rattle.model_proxy.specs.Laws.Samples.{answer_with, came, hi_text, hi, timeout_text}
 
 abbrev line : Field
@@ -101,5 +103,31 @@ interim_passed = (
     record { start = 0; end = 28; piece = hints_piece; body_start = refl; reading = inl (lit≤ tt, (lit≤ tt, inl (refl, hints_is_text))); body = refl },
     (record { start = 0; end = 27; piece = empty_piece; body_start = refl; reading = inl (lit≤ tt, (lit≤ tt, inl (refl, empty_is_text))); body = refl }, refl),
   ),
+  refl,
+)
+
+-- ---- an answer after which its server closes the connection
+
+abbrev closing_line : Field
+closing_line = record { name = codes "connection"; raw = codes " close"; end = crlf }
+
+abbrev pub closing_answer : Answer
+closing_answer = record (answer_with 204 (codes "No Content") (line_of (codes "connection") (codes "close") ∷ []) no_body) { connection = close }
+
+closing_is_text : IsTextOf closing_text closing_answer
+unfolding print_response is_token_byte trim_ows
+closing_is_text = plain_text _ closing_answer (plain_tree 1 (codes "204") (Some (codes "No Content")) (closing_line ∷ [])) refl (lit≤ tt)
+    (record { spelled = refl; minor = refl; status = refl; reason = refl; headers = refl; body = refl; connection = refl })
+
+closing_piece : IsHeadPiece closing_text 0 46
+closing_piece = plain_piece _ 46 refl
+
+abbrev pub closing_found : Found
+closing_found = record { response = Some closing_answer; bytes = []; fate = whole_at 46 }
+
+pub closing_is_found : IsAnswer (came closing_text false) (codes "GET") closing_found
+closing_is_found = (
+  record { reading = answer_is closing_answer; body_start = 46; body = content [] (ended_at 46 []) } ∷ [],
+  (record { start = 0; end = 46; piece = closing_piece; body_start = refl; reading = inl (lit≤ tt, (lit≤ tt, inl (refl, closing_is_text))); body = refl }, refl),
   refl,
 )

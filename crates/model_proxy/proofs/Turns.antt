@@ -42,42 +42,42 @@ module _ (edge : Edge) (theirs ours : Setting) where
   -- ---- the client's side alone
 
   -- the client's connection brought nothing of a request
+  pub client_at : (o : on.Outcome) (k : ForwarderKept) (client : Kept) → BringsNothing o → (history : List ProxyStep) (all : Happenings) (trace : List Step)
+      → StandsFor theirs client trace → HasBrought o all.client trace → Carries edge theirs ours k history all
+      → Carries edge theirs ours (record k { client = client }) history (record all { client = trace })
+  client_at o k client none history all trace stands did x = record {
+    stands = stands;
+    server = x.server;
+    under_way = x.under_way;
+    forwarded = record {
+      traced = stands.traced;
+      sums = same_sums history all (record all { client = trace }) x.forwarded.sums did.taken did.written did.moment did.ended refl refl;
+      sent = record {
+        requests = x.forwarded.sent.requests ∙ sym (did.pulled ∙ nothing_more o none (pulled all.client));
+        sent = x.forwarded.sent.sent;
+        rightly = x.forwarded.sent.rightly;
+        links = x.forwarded.sent.links;
+      };
+    };
+  }
+
   pub keeps_client : (o : on.Outcome) (k : ForwarderKept) (client : Kept) → BringsNothing o → Brings theirs o k.client client
       → Keeps edge theirs ours k (record k { client = client })
   keeps_client o k client none brings = λ history all x.
       let did = brings all.client x.stands in
-      let new : Happenings = record all { client = did.0 } in (
-        new,
-        record {
-          stands = did.1;
-          server = x.server;
-          under_way = x.under_way;
-          forwarded = record {
-            traced = did.1.traced;
-            sums = same_sums history all new x.forwarded.sums did.2.taken did.2.written did.2.moment did.2.ended refl refl;
-            sent = record {
-              requests = x.forwarded.sent.requests ∙ sym (did.2.pulled ∙ nothing_more o none (pulled all.client));
-              sent = x.forwarded.sent.sent;
-              rightly = x.forwarded.sent.rightly;
-              links = x.forwarded.sent.links;
-            };
-          };
-        },
-      )
+      (record all { client = did.0 }, client_at o k client none history all did.0 did.1 did.2 x)
 
   -- ---- the connection to a server
 
   -- it is closed
-  pub keeps_closed : (k : ForwarderKept) → Keeps edge theirs ours k (record k { server = None })
-  keeps_closed k = λ history all x. (
-    all,
-    record {
-      stands = x.stands;
-      server = tt;
-      under_way = closed k.under_way all.requests k.server all.links x.under_way;
-      forwarded = x.forwarded;
-    },
-  )
+  pub closed_at : (k : ForwarderKept) (history : List ProxyStep) (all : Happenings) → Carries edge theirs ours k history all
+      → Carries edge theirs ours (record k { server = None }) history all
+  closed_at k history all x = record {
+    stands = x.stands;
+    server = tt;
+    under_way = closed k.under_way all.requests k.server all.links x.under_way;
+    forwarded = x.forwarded;
+  }
     where
       closed : (u : UnderWay) (rs : List Request) (server : Option ClientKept) (links : List Link) → IsUnderWay edge u rs server links → IsUnderWay edge u rs None links
       closed nothing rs server links x = tt
@@ -89,103 +89,113 @@ module _ (edge : Edge) (theirs ours : Setting) where
       closed (is_sent whole broken) (r ∷ rs) (Some k) [] x = absurd x
       closed (is_sent whole broken) (r ∷ rs) (Some k) (l ∷ links) x = (x.moment, x.at, x.marked)
 
+  pub keeps_closed : (k : ForwarderKept) → Keeps edge theirs ours k (record k { server = None })
+  keeps_closed k = λ history all x. (all, closed_at k history all x)
+
   -- it did something of its own: nothing was written towards it
+  pub same_server : (l : Link) (new : List Happened) → IsQuiet l.happened new → server_of (record { happened = new; sent = l.sent }) ≡ server_of l
+  same_server l new q =
+      ap (λ (came : List ℕ). record { came = came; ended = (server_of (record { happened = new; sent = l.sent })).ended; given = written new }) q.taken
+      ∙ ap (λ (given : List ℕ). record { came = taken l.happened; ended = (server_of (record { happened = new; sent = l.sent })).ended; given = given }) q.written
+      ∙ ap (λ (ended : Bool). record { came = taken l.happened; ended = ended; given = written l.happened }) q.ended
+
+  under_quiet : (u : UnderWay) (rs : List Request) (l : Link) (links : List Link) (a b : ClientKept) (new : List Happened) → IsQuiet l.happened new
+      → IsUnderWay edge u rs (Some a) (l ∷ links) → IsUnderWay edge u rs (Some b) (record { happened = new; sent = l.sent } ∷ links)
+  under_quiet nothing rs l links a b new q y = y
+  under_quiet (waits w size whole broken) [] l links a b new q y = absurd y
+  under_quiet (waits w size whole broken) (r ∷ rs) l links a b new q y = y
+  under_quiet (is_sent whole broken) [] l links a b new q y = absurd y
+  under_quiet (is_sent whole broken) (r ∷ rs) l links a b new q y = record {
+    moment = y.moment;
+    at = y.at;
+    before = y.before;
+    sent = y.sent;
+    marked = y.marked;
+    body = λ body says. y.body body (sym q.sending ∙ says);
+    sends = λ unended long. ap (λ (o : Option SendingBody). is_some o) q.sending ∙ y.sends unended long;
+  }
+
+  pub server_at : (k : ForwarderKept) (a b : ClientKept) (history : List ProxyStep) (all : Happenings) (l : Link) (links : List Link) (new : List Happened)
+      → all.links ≡ l ∷ links → IsClientTrace ours new b → IsQuiet l.happened new → Carries edge theirs ours (record k { server = Some a }) history all
+      → Carries edge theirs ours (record k { server = Some b }) history (record all { links = record { happened = new; sent = l.sent } ∷ links })
+  server_at k a b history all l links new are driven quiet x =
+      let old = subst (AllByRecursion (IsLink ours)) are x.forwarded.sent.links in
+      let after : Happenings = record all { links = record { happened = new; sent = l.sent } ∷ links } in
+      record {
+        stands = x.stands;
+        server = driven;
+        under_way = under_quiet k.under_way all.requests l links a b new quiet (subst (IsUnderWay edge k.under_way all.requests (Some a)) are x.under_way);
+        forwarded = record {
+          traced = x.forwarded.traced;
+          sums = same_sums history all after x.forwarded.sums refl refl refl refl refl
+              (ap (λ (s : Server). s ∷ map server_of links) (same_server l new quiet) ∙ sym (ap (map server_of) are));
+          sent = record {
+            requests = x.forwarded.sent.requests;
+            sent = x.forwarded.sent.sent ∙ ap (flat_map (λ (l : Link). l.sent)) are;
+            rightly = x.forwarded.sent.rightly;
+            links = (
+              record {
+                kept = b;
+                driven = driven;
+                text = quiet.text ∙ old.0.text;
+                asked = ap (map (λ (w : Waiting). w.method)) quiet.asked ∙ old.0.asked;
+                whole = old.0.whole;
+              },
+              old.1,
+            );
+          };
+        };
+      }
+
   pub keeps_server : (k : ForwarderKept) (a b : ClientKept) → Stays ours a b
       → Keeps edge theirs ours (record k { server = Some a }) (record k { server = Some b })
   keeps_server k a b stays = λ history all x. went history all all.links x refl
     where
-      changed : (l : Link) → (new : List Happened) → Link
-      changed l new = record { happened = new; sent = l.sent }
-
-      same_server : (l : Link) (new : List Happened) → IsQuiet l.happened new → server_of (changed l new) ≡ server_of l
-      same_server l new q =
-          ap (λ (came : List ℕ). record { came = came; ended = (server_of (changed l new)).ended; given = written new }) q.taken
-          ∙ ap (λ (given : List ℕ). record { came = taken l.happened; ended = (server_of (changed l new)).ended; given = given }) q.written
-          ∙ ap (λ (ended : Bool). record { came = taken l.happened; ended = ended; given = written l.happened }) q.ended
-
       went : (history : List ProxyStep) (all : Happenings) (links : List Link) → Carries edge theirs ours (record k { server = Some a }) history all
           → all.links ≡ links → (after : Happenings) × Carries edge theirs ours (record k { server = Some b }) history after
       went history all [] x is = absurd (subst (IsServer ours (Some a)) is x.server)
       went history all (l ∷ links) x is =
           let did = stays l.happened (subst (IsServer ours (Some a)) is x.server) in
-          let m = changed l did.0 in
-          let old = subst (AllByRecursion (IsLink ours)) is x.forwarded.sent.links in
-          let new : Happenings = record all { links = m ∷ links } in (
-            new,
-            record {
-              stands = x.stands;
-              server = did.1;
-              under_way = under k.under_way all.requests (subst (IsUnderWay edge k.under_way all.requests (Some a)) is x.under_way);
-              forwarded = record {
-                traced = x.forwarded.traced;
-                sums = same_sums history all new x.forwarded.sums refl refl refl refl refl
-                    (ap (λ (s : Server). s ∷ map server_of links) (same_server l did.0 did.2) ∙ sym (ap (map server_of) is));
-                sent = record {
-                  requests = x.forwarded.sent.requests;
-                  sent = x.forwarded.sent.sent ∙ ap (flat_map (λ (l : Link). l.sent)) is;
-                  rightly = x.forwarded.sent.rightly;
-                  links = (
-                    record {
-                      kept = b;
-                      driven = did.1;
-                      text = did.2.text ∙ old.0.text;
-                      asked = ap (map (λ (w : Waiting). w.method)) did.2.asked ∙ old.0.asked;
-                      whole = old.0.whole;
-                    },
-                    old.1,
-                  );
-                };
-              };
-            },
-          )
-        where
-          under : (u : UnderWay) (rs : List Request) → IsUnderWay edge u rs (Some a) (l ∷ links)
-              → IsUnderWay edge u rs (Some b) (changed l (stays l.happened (subst (IsServer ours (Some a)) is x.server)).0 ∷ links)
-          under nothing rs y = y
-          under (waits q size whole broken) [] y = absurd y
-          under (waits q size whole broken) (r ∷ rs) y = y
-          under (is_sent whole broken) [] y = absurd y
-          under (is_sent whole broken) (r ∷ rs) y = record {
-            moment = y.moment;
-            at = y.at;
-            before = y.before;
-            sent = y.sent;
-            marked = y.marked;
-            body = λ body says. y.body body (sym (stays l.happened (subst (IsServer ours (Some a)) is x.server)).2.sending ∙ says);
-            sends = λ unended long.
-                ap (λ (o : Option SendingBody). is_some o) (stays l.happened (subst (IsServer ours (Some a)) is x.server)).2.sending ∙ y.sends unended long;
-          }
+          (record all { links = record { happened = did.0; sent = l.sent } ∷ links }, server_at k a b history all l links did.0 is did.1 did.2 x)
 
   -- ---- the request that is under way
+
+  pub head_at : (h : Head) (server : Option ClientKept) (a b : Kept) (history : List ProxyStep) (all : Happenings) (trace : List Step)
+      → StandsFor theirs b trace → HasBrought (on.head h) all.client trace → Carries edge theirs ours (record { client = a; server = server; under_way = nothing }) history all
+      → Carries edge theirs ours (record { client = b; server = server; under_way = nothing }) history
+      (record all { client = trace; requests = record { pulled = unpulled h; sent_at = None; was_refused = false } ∷ all.requests })
+  head_at h server a b history all trace stands did x =
+      let r : Request = record { pulled = unpulled h; sent_at = None; was_refused = false } in
+      let new : Happenings = record all { client = trace; requests = r ∷ all.requests } in
+      record {
+        stands = stands;
+        server = x.server;
+        under_way = x.under_way;
+        forwarded = record {
+          traced = stands.traced;
+          sums = same_sums history all new x.forwarded.sums did.taken did.written did.moment did.ended refl refl;
+          sent = record {
+            requests = ap (λ ps. unpulled h ∷ ps) (x.forwarded.sent.requests ∙ sym (none_pulled (pulled all.client))) ∙ sym did.pulled;
+            sent = x.forwarded.sent.sent;
+            rightly = (tt, x.forwarded.sent.rightly);
+            links = x.forwarded.sent.links;
+          };
+        };
+      }
+    where
+      none_pulled : (ps : List Pulled) → newest_pulled (on.head h) ps ≡ ps
+      none_pulled [] = refl
+      none_pulled (p ∷ ps) = refl
 
   pub keeps_head : (h : Head) (server : Option ClientKept) (a b : Kept) (history : List ProxyStep) (all : Happenings) (trace : List Step)
       → StandsFor theirs b trace → HasBrought (on.head h) all.client trace → Carries edge theirs ours (record { client = a; server = server; under_way = nothing }) history all
       → (after : Happenings) × Carries edge theirs ours (record { client = b; server = server; under_way = nothing }) history after × IsNewest h after
   keeps_head h server a b history all trace stands did x =
-      let r : Request = record { pulled = unpulled h; sent_at = None; was_refused = false } in
-      let new : Happenings = record all { client = trace; requests = r ∷ all.requests } in (
-        new,
-        record {
-          stands = stands;
-          server = x.server;
-          under_way = x.under_way;
-          forwarded = record {
-            traced = stands.traced;
-            sums = same_sums history all new x.forwarded.sums did.taken did.written did.moment did.ended refl refl;
-            sent = record {
-              requests = ap (λ ps. unpulled h ∷ ps) (x.forwarded.sent.requests ∙ sym (none_pulled (pulled all.client))) ∙ sym did.pulled;
-              sent = x.forwarded.sent.sent;
-              rightly = (tt, x.forwarded.sent.rightly);
-              links = x.forwarded.sent.links;
-            };
-          };
-        },
+      let r : Request = record { pulled = unpulled h; sent_at = None; was_refused = false } in (
+        record all { client = trace; requests = r ∷ all.requests },
+        head_at h server a b history all trace stands did x,
         record { newest = r; others = all.requests; are = refl; pulled = refl; unsent = refl; unrefused = refl },
       )
-    where
-      none_pulled : (ps : List Pulled) → newest_pulled (on.head h) ps ≡ ps
-      none_pulled [] = refl
-      none_pulled (p ∷ ps) = refl
 
   -- it waits to be sent on
   pub keeps_waiting : (h : Head) (q : ClientRequest) (size : BodySize) (whole broken : Bool) (client : Kept) (server : Option ClientKept) → is_forwardable edge h ≡ true
@@ -217,25 +227,25 @@ module _ (edge : Edge) (theirs ours : Setting) where
   }
 
   -- its server connection is closed
+  pub left_at : (whole broken : Bool) (client : Kept) (history : List ProxyStep) (all : Happenings)
+      → Carries edge theirs ours (record { client = client; server = None; under_way = is_sent whole broken }) history all
+      → Carries edge theirs ours (record { client = client; server = None; under_way = nothing }) history all
+  left_at whole broken client history all x = record { stands = x.stands; server = tt; under_way = tt; forwarded = x.forwarded }
+
   pub keeps_left : (whole broken : Bool) (client : Kept)
       → Keeps edge theirs ours (record { client = client; server = None; under_way = is_sent whole broken }) (record { client = client; server = None; under_way = nothing })
-  keeps_left whole broken client = λ history all x. (
-    all,
-    record { stands = x.stands; server = tt; under_way = tt; forwarded = x.forwarded },
-  )
+  keeps_left whole broken client = λ history all x. (all, left_at whole broken client history all x)
 
   -- it is whole, and its answer
-  pub keeps_whole : (broken : Bool) (client : Kept) (server : Option ClientKept)
-      → Keeps edge theirs ours (record { client = client; server = server; under_way = is_sent true broken }) (record { client = client; server = server; under_way = nothing })
-  keeps_whole broken client server = λ history all x. (
-    all,
-    record {
-      stands = x.stands;
-      server = x.server;
-      under_way = idle server all.requests all.links x.under_way x.forwarded.sent.links;
-      forwarded = x.forwarded;
-    },
-  )
+  pub whole_at : (broken : Bool) (client : Kept) (server : Option ClientKept) (history : List ProxyStep) (all : Happenings)
+      → Carries edge theirs ours (record { client = client; server = server; under_way = is_sent true broken }) history all
+      → Carries edge theirs ours (record { client = client; server = server; under_way = nothing }) history all
+  whole_at broken client server history all x = record {
+    stands = x.stands;
+    server = x.server;
+    under_way = idle server all.requests all.links x.under_way x.forwarded.sent.links;
+    forwarded = x.forwarded;
+  }
     where
       idle : (server : Option ClientKept) (rs : List Request) (links : List Link) → IsUnderWay edge (is_sent true broken) rs server links → AllByRecursion (IsLink ours) links
           → IsIdle server links
@@ -244,6 +254,10 @@ module _ (edge : Edge) (theirs ours : Setting) where
       idle (Some k) (r ∷ rs) [] y all = absurd y
       idle (Some k) (r ∷ rs) (l ∷ links) y all =
           subst AreWhole (sym y.sent) (sym y.marked.whole, subst AreWholeBehind y.sent all.0.whole)
+
+  pub keeps_whole : (broken : Bool) (client : Kept) (server : Option ClientKept)
+      → Keeps edge theirs ours (record { client = client; server = server; under_way = is_sent true broken }) (record { client = client; server = server; under_way = nothing })
+  keeps_whole broken client server = λ history all x. (all, whole_at broken client server history all x)
 
   -- ---- the newest request and the connection that is there, together
 
@@ -256,33 +270,32 @@ module _ (edge : Edge) (theirs ours : Setting) where
       → IsClientTrace ours l'.happened t → text_of l'.happened ≡ text_sent l'.sent
       → map (λ (w : Waiting). w.method) (requests_of l'.happened) ≡ methods_sent l'.sent → AreWholeBehind l'.sent
       → IsUnderWay edge v (r' ∷ rs) (Some t) (l' ∷ links)
-      → (after : Happenings) × Carries edge theirs ours (record { client = b; server = Some t; under_way = v }) history after
+      → Carries edge theirs ours (record { client = b; server = Some t; under_way = v }) history
+      (record { client = trace; requests = r' ∷ rs; links = l' ∷ links })
   changed o a b s t u v r r' rs l l' links history all trace requests_are links_are x stands did none pulled_is refused_is same sent_is right driven text asked whole under =
-      let new : Happenings = record { client = trace; requests = r' ∷ rs; links = l' ∷ links } in (
-        new,
-        record {
-          stands = stands;
-          server = driven;
-          under_way = under;
-          forwarded = record {
-            traced = stands.traced;
-            sums = same_sums history all new x.forwarded.sums did.taken did.written did.moment did.ended
-                (ap (λ (b : Bool). counted_if b (refused_count rs)) refused_is ∙ sym (ap refused_count requests_are))
-                (ap (λ (s : Server). s ∷ map server_of links) same ∙ sym (ap (map server_of) links_are));
-            sent = record {
-              requests =
-                  ap (λ (p : Pulled). p ∷ map (λ (r : Request). r.pulled) rs) pulled_is
-                  ∙ ap (λ h. with_head h (pulled_by o r.pulled ∷ map (λ (r : Request). r.pulled) rs)) (sym none)
-                  ∙ ap (λ (rs : List Request). after_outcome o (map (λ (r : Request). r.pulled) rs)) (sym requests_are)
-                  ∙ ap (after_outcome o) x.forwarded.sent.requests
-                  ∙ sym did.pulled;
-              sent = sent_is;
-              rightly = (right, (subst (AllByRecursion (λ (r : Request). IsRightlySent edge r.pulled r.sent_at r.was_refused)) requests_are x.forwarded.sent.rightly).1);
-              links = (
-                record { kept = t; driven = driven; text = text; asked = asked; whole = whole },
-                (subst (AllByRecursion (IsLink ours)) links_are x.forwarded.sent.links).1,
-              );
-            };
+      let new : Happenings = record { client = trace; requests = r' ∷ rs; links = l' ∷ links } in
+      record {
+        stands = stands;
+        server = driven;
+        under_way = under;
+        forwarded = record {
+          traced = stands.traced;
+          sums = same_sums history all new x.forwarded.sums did.taken did.written did.moment did.ended
+              (ap (λ (b : Bool). counted_if b (refused_count rs)) refused_is ∙ sym (ap refused_count requests_are))
+              (ap (λ (s : Server). s ∷ map server_of links) same ∙ sym (ap (map server_of) links_are));
+          sent = record {
+            requests =
+                ap (λ (p : Pulled). p ∷ map (λ (r : Request). r.pulled) rs) pulled_is
+                ∙ ap (λ h. with_head h (pulled_by o r.pulled ∷ map (λ (r : Request). r.pulled) rs)) (sym none)
+                ∙ ap (λ (rs : List Request). after_outcome o (map (λ (r : Request). r.pulled) rs)) (sym requests_are)
+                ∙ ap (after_outcome o) x.forwarded.sent.requests
+                ∙ sym did.pulled;
+            sent = sent_is;
+            rightly = (right, (subst (AllByRecursion (λ (r : Request). IsRightlySent edge r.pulled r.sent_at r.was_refused)) requests_are x.forwarded.sent.rightly).1);
+            links = (
+              record { kept = t; driven = driven; text = text; asked = asked; whole = whole },
+              (subst (AllByRecursion (IsLink ours)) links_are x.forwarded.sent.links).1,
+            );
           };
-        },
-      )
+        };
+      }

@@ -42,7 +42,7 @@ pulled [] = []
 pulled (s ∷ before) = with_head (head_of s.outcome) (newest_pulled s.outcome (pulled before))
 
 -- A request, and what became of it: the number of the server connection that it was sent on, if it was; how many steps came, up to
--- the one by which it was; and whether a server connection was refused for it.
+-- the one by which it was; and whether a server connection was refused for it. `Forwarding` ties these to the steps.
 pub record Exchange : Type 0 where
   pub pulled : Pulled
   pub server : Option ℕ
@@ -71,14 +71,15 @@ sent_of e history x = record {
 abbrev pub sent_on : Edge → List ProxyStep → ℕ → List Exchange → List Sent
 sent_on e history k xs = map (sent_of e history) (reverse (filter (is_on k) xs))
 
+-- the steps by which the first of these requests was sent on; so many where there is none
+abbrev pub first_sent : ℕ → List Exchange → ℕ
+first_sent n [] = n
+first_sent n (x ∷ xs) = x.sent_at
+
 -- the steps up to which bytes of this server connection answer a request: those up to where the next one is sent on it, of the later
 -- ones, of which the next stands first
 abbrev pub until : List ProxyStep → ℕ → List Exchange → ℕ
-until history k later = first_at (filter (is_on k) later)
-  where
-    first_at : List Exchange → ℕ
-    first_at [] = length history
-    first_at (x ∷ xs) = x.sent_at
+until history k later = first_sent (length history) (filter (is_on k) later)
 
 -- What came of the server connection behind the first of these steps, up to the other, and whether its input has ended by then. Bytes
 -- that came before a request was sent are never its answer.

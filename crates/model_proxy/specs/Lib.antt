@@ -14,4 +14,5 @@ pub mod Happenings
 pub mod Carried
 pub mod Moves
 pub mod Left
+pub mod Parts
 pub mod Wants

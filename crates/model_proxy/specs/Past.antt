@@ -2,7 +2,6 @@
 use Rattle.std.specs.Prelude.{ℕ, ◌+◌, ◌-◌, Bool, true, false, List, [], ◌∷◌, ◌++◌, length, take, drop, ◌==◌, if◌then◌else◌, Option, Some, None, unwrap_or}
 use Rattle.std.specs.List.{list_any}
 use Rattle.std.specs.Option.{option_or}
-use Rattle.model_h1.specs.End.{End}
 
 -- Bytes come from the client, or no more do; the same of the server; a server connection that is wanted is there, or can't be had;
 -- so many bytes may be written towards the client, or towards the server; a moment has come, in milliseconds since 1970.
@@ -11,12 +10,11 @@ pub data ProxyEvent : Type 0 where
   client_eof server_eof connected refused : ProxyEvent
   to_client to_server tick : ℕ → ProxyEvent
 
--- so many bytes were taken; these are to be written; it is done; or the client's connection is closed, and why
+-- so many bytes were taken; these are to be written; or it is done
 pub data ProxyOutcome : Type 0 where
   took : ℕ → ProxyOutcome
   gave : List ℕ → ProxyOutcome
   done : ProxyOutcome
-  closed : End → ProxyOutcome
 
 -- an event and its outcome
 pub record ProxyStep : Type 0 where
@@ -47,15 +45,21 @@ abbrev pub is_client_end : ProxyEvent → Bool
 is_client_end client_eof = true
 is_client_end _ = false
 
--- it sends no more bytes
+-- whether its input has ended
 abbrev pub client_ended : List ProxyStep → Bool
 client_ended history = list_any (λ s. is_client_end s.event) history
 
 -- ---- servers
 
+-- a step says that no server connection can be had
 abbrev pub is_refusal : ProxyEvent → Bool
 is_refusal refused = true
 is_refusal _ = false
+
+-- a step connects one
+abbrev pub is_connection : ProxyEvent → Bool
+is_connection connected = true
+is_connection _ = false
 
 -- one more, where this is so
 abbrev pub counted_if : Bool → ℕ → ℕ

@@ -1,10 +1,11 @@
 //! Worked examples: small requests, answers and histories with all their values.
 
-ghost use Rattle.std.specs.Prelude.{◌≡◌, ◌⊎◌, ℕ, List, [], ◌∷◌, ◌++◌, length, codes, true, false, Some, None};
+ghost use Rattle.std.specs.Prelude.{◌≡◌, ℕ, List, [], ◌∷◌, ◌++◌, length, codes, true, false, Option, Some, None};
 ghost use Rattle.model_h1.specs.Request.{Head, close, no_body, fixed_body, chunked_body, raw_body, malformed};
 ghost use Rattle.model_h1.specs.LengthTable.{values_of};
 ghost use Rattle.model_h1.specs.Answer.{size_none, size_of, size_stream};
-ghost use Rattle.model_h1.specs.Parse.{no_content, content, ended_at, still_open, broken, cut};
+ghost use Rattle.model_h1.specs.Parse.{no_content, content, still_open, broken, cut};
+ghost use Rattle.model_h1.specs.Sums.{Step};
 ghost use Rattle.model_h1.specs.Past.{steps};
 ghost use Rattle.model_h1.specs.Laws.ExampleTraces.{usual};
 ghost use Rattle.model_client.specs.AnswerReading.{answer_is, refused};
@@ -15,12 +16,12 @@ ghost use Rattle.model_proxy.specs.Targets.{target_sent};
 ghost use Rattle.model_proxy.specs.Judged.{is_refused};
 ghost use Rattle.model_proxy.specs.Forward.{is_forwardable, named_host, forwarded_lines, forward};
 ghost use Rattle.model_proxy.specs.Answers.{unfinished, bad, whole_at, Found, found_bad, found_by, found_body, found_nothing, IsAnswer, says_close, reply_lines, reply_reason, reply_head, reply_size};
-ghost use Rattle.model_proxy.specs.Past.{client, server, client_eof, server_eof, connected, refused as no_server, to_client, to_server, tick, server_at, client_taken};
-ghost use Rattle.model_proxy.specs.Exchange.{answer_input};
+ghost use Rattle.model_proxy.specs.Past.{ProxyStep, client, server, client_eof, server_eof, connected, refused as no_server, to_client, to_server, tick};
+ghost use Rattle.model_proxy.specs.Exchange.{Exchange, answer_input};
 ghost use Rattle.model_proxy.specs.Forwarding.{IsAlone, IsForwarding};
 ghost use Rattle.model_proxy.specs.Rests.{is_event_allowed, RestsWhereItMay};
-ghost use Rattle.model_proxy.specs.Laws.Samples.{usual_edge, trusting_edge, lax_edge, plain_head, head_for, get_x, told_head, added, sent_now, answer_with, came, hi_text, hi, timeout_text, answered_by, asked_again, exchange_at};
-ghost use Rattle.model_proxy.specs.Laws.Histories.{refused_history, refused_past, refused_exchanges, whole_history, whole_past, whole_exchanges, hostless_history, hostless_past, hostless_exchanges, unforwardable_history, unforwardable_past, unforwardable_exchanges, broken_history, broken_past, broken_exchanges};
+ghost use Rattle.model_proxy.specs.Laws.Samples.{step, usual_edge, trusting_edge, lax_edge, plain_head, head_for, get_x, told_head, added, sent_now, answer_with, came, hi_text, hi, timeout_text, asked_again, exchange_at};
+ghost use Rattle.model_proxy.specs.Laws.Histories.{idle_history, ticked, get_exchange, asked_past, hung_up_history, refused_history, refused_past, refused_exchanges, whole_history, whole_past, whole_exchanges, hostless_history, hostless_past, hostless_exchanges, unforwardable_history, unforwardable_past, unforwardable_exchanges, broken_history, broken_past, broken_exchanges, ticked_past, unasked_history, swallowed_history, swallowed_past, ended_history, drained_past, stuck_history, stuck_past, cut_history, cut_past, dropped_history, dropped_past, dropped_exchanges, closing_text, dead_history};
 
 /// The words of Connection lines are read without case and blanks, and the lines that they name stay behind. Host is written anew, whatever names it.
 pub fn a_named_line_stays_behind()
@@ -189,9 +190,10 @@ pub fn earlier_bytes_are_no_answer()
 {}
 
 /// A second request may follow on a server connection where its first answer came whole, and not where more bytes came, as a server's
-/// word that it closes: a client would read them as its next answer.
+/// word that it closes: a client would read them as its next answer; nor where the answer says that its server closes the connection.
 pub fn leftover_bytes_end_a_server_connection()
     ensures whole { IsAlone usual (asked_again hi_text) (exchange_at 2) 0 4 }
+    ensures closing { IsAlone usual (asked_again closing_text) (exchange_at 2) 0 4 → ⊥ }
     ensures leftover { IsAlone usual (asked_again (hi_text ++ timeout_text)) (exchange_at 2) 0 4 → ⊥ }
 {}
 
@@ -238,4 +240,56 @@ pub fn a_request_that_cannot_be_sent_on_gives_501()
 pub fn a_broken_body_gives_400()
     ensures forwards { IsForwarding lax_edge usual broken_history None (steps broken_past) broken_exchanges }
     ensures rests { RestsWhereItMay lax_edge usual broken_past broken_history None broken_exchanges }
+{}
+
+/// A forwarder that answers 502 without asking for a server connection: whatever is claimed of the request, this isn't one of a forwarder.
+pub fn an_unasked_502_is_refused()
+    ensures { (waiting : Option (List ℕ)) (xs : List Exchange) → IsForwarding usual_edge usual unasked_history waiting (steps refused_past) xs → ⊥ }
+{}
+
+/// A forwarder that takes a whole answer and passes on the one behind it: however late the request is claimed to be sent on, this isn't one
+/// of a forwarder.
+pub fn a_swallowed_answer_is_refused()
+    ensures { (waiting : Option (List ℕ)) (xs : List Exchange) → IsForwarding usual_edge usual swallowed_history waiting (steps swallowed_past) xs → ⊥ }
+{}
+
+/// A forwarder that doesn't tell its client's connection that the client has ended.
+pub fn an_untold_end_is_refused()
+    ensures { (waiting : Option (List ℕ)) (xs : List Exchange) → IsForwarding usual_edge usual ended_history waiting (steps ticked_past) xs → ⊥ }
+{}
+
+/// A forwarder that lets its client go after one request, whatever happened.
+pub fn an_unasked_end_is_refused()
+    ensures { (history : List ProxyStep) (waiting : Option (List ℕ)) (xs : List Exchange) → IsForwarding usual_edge usual history waiting (steps drained_past) xs → ⊥ }
+{}
+
+/// A forwarder that keeps a server connection whose input has ended, and reads no next request while much waits towards it.
+pub fn a_dead_connection_that_is_kept_is_refused()
+    ensures { (waiting : Option (List ℕ)) → RestsWhereItMay usual_edge usual stuck_past stuck_history waiting whole_exchanges → ⊥ }
+{}
+
+/// A forwarder that closes its server connection in the midst of an answer, and leaves its client waiting.
+pub fn a_cut_answer_that_never_ends_is_refused()
+    ensures { RestsWhereItMay usual_edge usual cut_past cut_history None whole_exchanges → ⊥ }
+{}
+
+/// A forwarder that sends on the head of a request and leaves its body.
+pub fn a_body_that_is_left_is_refused()
+    ensures { (waiting : List ℕ) → RestsWhereItMay lax_edge usual dropped_past dropped_history (Some waiting) dropped_exchanges → ⊥ }
+{}
+
+/// A forwarder that closes each server connection as soon as it is there, and goes on to want one.
+pub fn an_unused_connection_that_is_closed_is_refused()
+    ensures { IsForwarding usual_edge usual hung_up_history None (steps asked_past) (get_exchange None 0 false ∷ []) → ⊥ }
+{}
+
+/// A forwarder that sends a request on where the server's input has ended already.
+pub fn a_request_on_a_dead_connection_is_refused()
+    ensures { (waiting : Option (List ℕ)) (trace : List Step)
+        → IsForwarding usual_edge usual dead_history waiting trace (get_exchange (Some 0) 5 false ∷ []) → ⊥ }
+{}
+
+/// A forwarder that keeps a server connection whose input has ended, while nothing is asked.
+pub fn an_idle_dead_connection_is_refused()
+    ensures { (waiting : List ℕ) → RestsWhereItMay usual_edge usual whole_past idle_history (Some waiting) whole_exchanges → ⊥ }
 {}

@@ -12,7 +12,10 @@
 //!   sent on and what is sent for them, `specs/SentWhole.antt` a request all of which was sent.
 //! - What is passed on: `specs/Answers.antt` says which answer a server's bytes hold (`IsAnswer`), and what the client gets.
 //! - A forwarder: `specs/Past.antt` has its events and outcomes, `specs/Exchange.antt` the requests of its client,
-//!   `specs/Forwarding.antt` what is to be proved of it (`IsForwarding`), and `specs/Rests.antt` when nothing is left to do.
+//!   `specs/Forwarding.antt` what is to be proved of it: `IsForwardedSoFar` behind its steps, and `IsForwarding` after each
+//!   single step, which is one as it may be (`IsStep`), with what it made of the newest request (`GoesOn`). So each cause
+//!   stands before what follows from it.
+//!   `specs/Rests.antt` says when turns are taken (`MayTurn`), and when nothing is left to do (`Rests`).
 //! - `specs/Left.antt` counts what is left to do with what came from either side.
 //!
 //! # The laws

@@ -1,6 +1,7 @@
 //! Whole connections of a dispatcher over transports in memory, each with the report that it has to get. A file has blocks; the
 //! crate's page says what their lines mean.
 mod body;
+mod guest;
 mod play;
 mod reply;
 mod report;

@@ -6,17 +6,17 @@ use http_bodies::{BodyFault, BodyStream, Counted, EitherBody, PlainStream, Sized
 /// The number of the fault with which a body fails.
 const NUMBER: u32 = 7;
 
-/// Gives its pieces one after another, and then ends or fails.
+/// Gives its pieces one after another, and then ends or fails. Where none stands it is pending once, and wakes the task.
 #[derive(Drop)]
 pub struct Script {
-    pieces: Vec<Bytes>,
+    pieces: Vec<Option<Bytes>>,
     next: usize,
     breaks: bool,
 }
 
 impl Script {
     /// A script of these pieces, which fails after them if it breaks.
-    pub fn new(pieces: Vec<Bytes>, breaks: bool) -> Script {
+    pub fn new(pieces: Vec<Option<Bytes>>, breaks: bool) -> Script {
         Script {
             pieces,
             next: 0,
@@ -26,9 +26,13 @@ impl Script {
 }
 
 impl PlainStream for Script {
-    fn poll_next(&mut self, _cx: &mut Context<'_>) -> Poll<Option<Result<Bytes, BodyFault>>> {
+    fn poll_next(&mut self, cx: &mut Context<'_>) -> Poll<Option<Result<Bytes, BodyFault>>> {
         let Some(piece) = self.pieces.get(self.next) else {
             return Poll::Ready(end(self.breaks));
+        };
+        let Some(piece) = piece else {
+            self.next = self.next.saturating_add(1);
+            return cx.yield_now();
         };
         match piece.clone() {
             Ok(piece) => {

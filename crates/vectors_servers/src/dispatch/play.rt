@@ -3,6 +3,7 @@ ghost use Rattle.http_services.specs.Serving.{unknown_call};
 ghost use Rattle.h1_dispatcher.specs.View.{MayBePolled};
 
 use crate::dispatch::body::Page;
+use crate::dispatch::guest::{Guest, receive};
 use crate::dispatch::report::{
     Polled, put_asked, put_deadline, put_polled, put_refused, put_sent, put_taken, put_upgraded,
 };
@@ -34,7 +35,7 @@ struct Shown {
 }
 
 /// The most polls until a dispatcher is ready.
-const MOST_POLLS: u32 = 10_000;
+pub const MOST_POLLS: u32 = 10_000;
 
 /// Plays the steps on a connection of this set-up, with this recorder, and writes the report.
 pub fn play<R: RandomSource + AllocGlobal, L: Recorder>(
@@ -50,13 +51,14 @@ pub fn play<R: RandomSource + AllocGlobal, L: Recorder>(
     let config = setup.config();
     let peer = transport.peer_addr();
     let served = Dispatcher::new(rt.alloc(), transport, service, config, peer, recorder);
-    play_on(rt, served, steps, report)
+    play_on(rt, served, setup.guest(), steps, report)
 }
 
 // Takes the steps.
 fn play_on<R: RandomSource + AllocGlobal, L: Recorder>(
     rt: &R,
     served: Served<L>,
+    guest: Option<Guest>,
     steps: &[Step],
     report: &mut Report,
 ) -> io::Result<()>
@@ -68,7 +70,9 @@ fn play_on<R: RandomSource + AllocGlobal, L: Recorder>(
     let before = steps.get(..count).unwrap_or(&[]);
     take_all(rt, &mut served, before, &mut shown, report)?;
     match steps.get(count..) {
-        Some([Step::Accept(limit), after @ ..]) => accept(rt, served, *limit, after, shown, report),
+        Some([Step::Accept(limit), after @ ..]) => {
+            accept(rt, served, guest, *limit, after, shown, report)
+        }
         _ => {
             put_left(served, report);
             Ok(())
@@ -86,10 +90,12 @@ fn count_before_accept(steps: &[Step]) -> usize {
     steps.len()
 }
 
-// Accepts the request that is held back, where it may be accepted, and goes on with these steps unless it was.
+// Accepts the request that is held back, where it may be accepted, and goes on with these steps: where it was, with the service of
+// the accepted connection, if it has one.
 fn accept<R: RandomSource + AllocGlobal, L: Recorder>(
     rt: &R,
     served: Served<L>,
+    guest: Option<Guest>,
     limit: usize,
     after: &[Step],
     shown: Shown,
@@ -101,10 +107,7 @@ fn accept<R: RandomSource + AllocGlobal, L: Recorder>(
         return go_on(rt, served, after, shown, report);
     }
     match served.accept(limit) {
-        Ok(Accepting::Done(upgraded)) => {
-            put_handed(upgraded, report);
-            Ok(())
-        }
+        Ok(Accepting::Done(upgraded)) => hand_over(rt, upgraded, guest, after, report),
         Ok(Accepting::Refused(served, error)) => {
             put_refused(report, error);
             go_on(rt, served, after, shown, report)
@@ -130,25 +133,31 @@ fn go_on<R: RandomSource + AllocGlobal, L: Recorder>(
     Ok(())
 }
 
-// Puts what was handed over: the request, what waits to be written, and how many bytes are held behind the request.
-fn put_handed<L: Recorder>(
+// Puts what was handed over: the request, what waits to be written, and how many bytes are held behind the request. Then the guest
+// takes the steps, if there is one.
+fn hand_over<R: RandomSource + AllocGlobal, L: Recorder>(
+    rt: &R,
     upgraded: Upgraded<Lingering, CountedService<Scripted>, L>,
+    guest: Option<Guest>,
+    steps: &[Step],
     report: &mut Report,
-) {
+) -> io::Result<()> {
     let (request, line, transport, service) = upgraded.into_parts();
     let connection = line.connection();
     put_upgraded(report, &request, connection.stretch(), connection.held());
-    put_end(&transport, service.inner(), report);
+    service.inner().tell(report);
+    match guest {
+        Some(guest) => receive(rt, guest, request, line, transport, steps, report),
+        None => {
+            put_sent(report, transport.sent(), transport.is_shut());
+            Ok(())
+        }
+    }
 }
 
 fn put_left<L: Recorder>(served: Served<L>, report: &mut Report) {
     let (transport, service, _recorder) = served.into_parts();
-    put_end(&transport, service.inner(), report);
-}
-
-// Puts what the transport took, and whether the service had memory to note all.
-fn put_end(transport: &Lingering, service: &Scripted, report: &mut Report) {
-    service.tell(report);
+    service.inner().tell(report);
     put_sent(report, transport.sent(), transport.is_shut());
 }
 
@@ -237,8 +246,8 @@ fn polled_of(polled: Poll<Result<(), DispatchError>>, solo: &Solo) -> io::Result
     }
 }
 
-// Whether the task that is pending is to be polled again.
-fn pending_of(solo: &Solo) -> Polled {
+/// Whether the task that is pending is to be polled again.
+pub fn pending_of(solo: &Solo) -> Polled {
     match solo.sleep() {
         None => Polled::Pending,
         Some(asleep) => {

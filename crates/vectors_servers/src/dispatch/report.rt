@@ -37,6 +37,7 @@ fn text_of(error: DispatchError) -> &'static str {
         DispatchError::SlowRequestTimeout => "slow-request\n",
         DispatchError::DisconnectTimeout => "slow-disconnect\n",
         DispatchError::Body => "body\n",
+        DispatchError::Upgrade => "upgrade\n",
         _ => "an error that never comes\n",
     }
 }

@@ -1,5 +1,6 @@
 //! What a connection begins with: its settings, how its transport gives and takes, and what its service answers.
 use crate::dispatch::body::Script;
+use crate::dispatch::guest::{Guest, guest_of};
 use crate::dispatch::reply::{Kind, Reply};
 use crate::dispatch::service::Scripted;
 use crate::dispatch::silence::Silence;
@@ -24,13 +25,16 @@ pub struct Setup {
     parts: Vec<Part>,
     in_any_pieces: bool,
     by_any_writes: bool,
+    guest: Option<Guest>,
 }
 
-/// A piece of the body of an answer: to which reply it belongs, from 1.
+/// Pieces of the body of an answer, so many of the same bytes, or how often it is pending there; and to which reply they belong, from
+/// 1.
 #[derive(Drop)]
 struct Part {
     reply: usize,
-    bytes: Vec<u8>,
+    bytes: Option<Vec<u8>>,
+    count: usize,
 }
 
 /// How the transport cuts what it gives and takes.
@@ -68,12 +72,18 @@ impl Setup {
             parts: Vec::new(alloc),
             in_any_pieces: false,
             by_any_writes: false,
+            guest: None,
         }
     }
 
     /// The settings.
     pub fn config(&self) -> ServiceConfig {
         self.config
+    }
+
+    /// Which service an accepted connection has, if it goes on.
+    pub fn guest(&self) -> Option<Guest> {
+        self.guest
     }
 
     /// How often the connection is to be played.
@@ -115,6 +125,8 @@ impl Setup {
             b"errs" => self.put_reply(Kind::Errs, words),
             b"refuses" => self.put_reply(Kind::Refuses, words),
             b"piece" => self.put_part(alloc, words),
+            b"pauses" => self.put_pauses(words),
+            b"frames" => self.set_guest(words),
             b"in-any-pieces" => {
                 self.in_any_pieces = true;
                 Ok(())
@@ -156,11 +168,33 @@ impl Setup {
         Ok(keep(&mut self.replies, reply)?)
     }
 
-    // A piece of the last reply's body.
+    // Pieces of the last reply's body: one, or as many as are said.
     fn put_part(&mut self, alloc: Global, mut words: Cursor<'_>) -> Result<(), CaseError> {
         let bytes = read_joined(alloc, &mut words)?;
+        words.pass_blanks();
+        let count = words.number().unwrap_or(1);
+        Ok(self.keep_part(Some(bytes), count)?)
+    }
+
+    // That the last reply's body is pending there, so often.
+    fn put_pauses(&mut self, mut words: Cursor<'_>) -> Result<(), CaseError> {
+        let count = words.number().ok_or(CaseError::Unreadable)?;
+        Ok(self.keep_part(None, count)?)
+    }
+
+    fn keep_part(&mut self, bytes: Option<Vec<u8>>, count: usize) -> Result<(), NoMemory> {
         let reply = self.replies.len();
-        Ok(keep(&mut self.parts, Part { reply, bytes })?)
+        let part = Part {
+            reply,
+            bytes,
+            count,
+        };
+        keep(&mut self.parts, part)
+    }
+
+    fn set_guest(&mut self, words: Cursor<'_>) -> Result<(), CaseError> {
+        self.guest = Some(guest_of(words.rest()).ok_or(CaseError::Unreadable)?);
+        Ok(())
     }
 
     // The body of the reply of this number, from 1.
@@ -168,7 +202,7 @@ impl Setup {
         let mut pieces = Vec::new(alloc);
         for part in self.parts.iter() {
             if part.reply == number {
-                put_piece(alloc, part.bytes.as_slice(), &mut pieces)?;
+                part.put(alloc, &mut pieces)?;
             }
         }
         Ok(Script::new(pieces, breaks))
@@ -226,6 +260,23 @@ impl Setup {
             rooms.push(size)?;
         }
         Ok(rooms)
+    }
+}
+
+impl Part {
+    // Puts its pieces after the others.
+    fn put(&self, alloc: Global, pieces: &mut Vec<Option<Bytes>>) -> Result<(), NoMemory> {
+        for _ in 0..self.count {
+            keep(pieces, self.piece(alloc)?)?;
+        }
+        Ok(())
+    }
+
+    fn piece(&self, alloc: Global) -> Result<Option<Bytes>, NoMemory> {
+        match &self.bytes {
+            Some(bytes) => Ok(Some(Bytes::copy_from_slice(alloc, bytes.as_slice())?)),
+            None => Ok(None),
+        }
     }
 }
 
