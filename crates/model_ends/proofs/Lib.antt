@@ -7,6 +7,7 @@ pub mod HeadFronts
 pub mod BegunAnswers
 pub mod SentRequests
 pub mod BegunRequests
+pub mod EndedBodies
 pub mod Framing
 pub mod FrameMasked
 pub mod LegalMessages

@@ -6,6 +6,7 @@ pub mod LegalMessages
 pub mod AgreementSamples
 pub mod AskedTrace
 pub mod Connected
+pub mod EndedBodies
 pub mod HandedBody
 pub mod ReadOut
 pub mod TwoEndsSamples

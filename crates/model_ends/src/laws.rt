@@ -1,7 +1,7 @@
 //! What both ends hand out.
 
 ghost use Rattle.std.specs.Prelude.{◌≡◌, ℕ, ◌<◌, ◌≤◌, false, true, not, List, [], ◌∷◌, ◌++◌, length, map, reverse, IsTrue, Some, None, codes};
-ghost use Rattle.std.specs.List.{AllByRecursion};
+ghost use Rattle.std.specs.List.{AllByRecursion, list_any};
 ghost use Rattle.model_h1.specs.Request.{Head};
 ghost use Rattle.model_h1.specs.LengthTable.{values_of};
 ghost use Rattle.model_h1.specs.Answer.{asked_of as needed_of, type_of};
@@ -23,6 +23,7 @@ ghost use Rattle.model_client.specs.ClientTrace.{Happened, IsClientTrace, text_o
 ghost use Rattle.model_ends.specs.PlainExchange.{IsSelfFramed};
 ghost use Rattle.model_ends.specs.SentAnswer.{SentAnswer, AreSent, AreHeld, sent_text, AreTo, sent_answer, answers_sent};
 ghost use Rattle.model_ends.specs.AskedTrace.{requests_asked, IsPlainAsked, AreServedOut, IsAllServed};
+ghost use Rattle.model_ends.specs.EndedBodies.{ends_body};
 ghost use Rattle.model_ends.specs.Connected.{AreConnected, ArePlain, Agree, AreClear, EndsAsAsked, IsFairEnd};
 ghost use Rattle.model_client.specs.ReadOut.{read_out};
 ghost use Rattle.model_ends.specs.ReadOut.{bytes_taken, AreReadOut, IsAllHanded, IsPartSent};
@@ -79,6 +80,17 @@ pub fn nothing_is_left()
         → AreConnected client server asked kept served → ArePlain client server asked served → taken served ≡ text_of asked
         → IsAllowed server served server_on.pull → IsOutcome server served server_on.pull server_on.pending
         → IsAllServed (handed_out served).messages (requests_asked asked) }
+{}
+
+/// From a moment at which a body may be pulled up to the next answer, the body's end is told, or that it is faulty, or it is
+/// dropped. So an answer that isn't the newest has the end of its body, unless that was dropped or is faulty.
+pub fn an_older_answer_has_its_end()
+    ensures asked { (setting : Setting) (before later : List Happened) (opened kept : ClientKept) → IsClientTrace setting before opened
+        → IsTrue (client_allows setting opened on.pull) → IsClientTrace setting (later ++ before) kept → client_closing kept ≡ None
+        → IsTrue (client_allows setting kept on.next) → list_any ends_body later ≡ true }
+    ensures answered { (setting : Setting) (before later : List Happened) (opened kept next : ClientKept) (a : Answer)
+        → IsClientTrace setting before opened → IsTrue (client_allows setting opened on.pull) → IsClientTrace setting (later ++ before) kept
+        → IsTrue (client_allows setting kept on.next) → IsClientStep setting kept on.next (on.answer a) next → list_any ends_body later ≡ true }
 {}
 
 /// A client closes since a side asked for it, since its own request failed, or since its input has ended, and for no other

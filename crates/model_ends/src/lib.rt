@@ -16,6 +16,7 @@
 //! - [`laws::two_ends_agree`]: drive a client and a server against each other in any way. At every moment each has handed
 //!   out a beginning of what the other was given, and an end only behind all of it.
 //! - [`laws::nothing_is_left`]: where all bytes were taken and nothing more comes, every request, or answer, is handed out.
+//! - [`laws::an_older_answer_has_its_end`]: an answer's body is read up, or dropped, before the next answer comes.
 //! - [`laws::both_close_after_the_same_exchange`]: both close at the same exchange, for the same reason.
 //!
 //! `ArePlain`, in `specs/Connected.antt`, and `specs/PlainExchange.antt` say of which exchanges. Not of upgrades, of bodies that
