@@ -1,6 +1,11 @@
+use Rattle.std.proofs.Common.{ap}
+use Rattle.serve_blocking.specs.declared.error.HandleError.{HandleError}
+use Rattle.serve_blocking.specs.Acts.{is_loss}
+use Rattle.serve_blocking.specs.Fails.{Fails, NoAnswer}
 use Rattle.serve_blocking.proofs.Answered.{answers_empty, part_none, part_unended, sends_none}
 use Rattle.serve_blocking.proofs.Followed.{follows_then}
-use Rattle.serve_blocking.proofs.Results.{on_err}
+use Rattle.serve_blocking.proofs.Failed.{lost_as}
+use Rattle.serve_blocking.proofs.Results.{err_as, on_err}
 use Rattle.serve_blocking.proofs.answer.Answer.empty.Goals as goal
 
 pub returns-in_err-writer-clause-part : goal.returns-in_err-writer-clause-part
@@ -18,3 +23,13 @@ returns-clause-follows g c = follows_then _ _ _ c.in_ok-writer.ensures.follows c
 
 pub returns-clause-answers : goal.returns-clause-answers
 returns-clause-answers g c = answers_empty _ _ _ _ c.in_ok-writer.ensures.begins c.in_ok-end.ensures.ends c.in_ok-end.ensures.whole
+
+pub returns-in_err-writer-clause-fails : goal.returns-in_err-writer-clause-fails
+returns-in_err-writer-clause-fails g c =
+    err_as c.from_residual.result c.in_err-writer.field-0.0 (λ e. Fails (NoAnswer c.begin-writer.new.body.state) e) c.from_residual.ensures.1
+    c.in_err-writer.ensures.fails
+
+pub returns-in_err-end-clause-fails : goal.returns-in_err-end-clause-fails
+returns-in_err-end-clause-fails g c =
+    lost_as c.from_residual-in_err-end.result c.in_err-end.field-0.0 (NoAnswer c.end.new.body.state) c.from_residual-in_err-end.ensures.1
+    (ap (λ (e : HandleError). is_loss e) c.in_err-end.ensures.memory)

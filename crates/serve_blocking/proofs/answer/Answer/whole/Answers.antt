@@ -1,6 +1,12 @@
+use Rattle.std.specs.Prelude.{◌⊎◌}
+use Rattle.std.proofs.Common.{ap, inl, inr}
+use Rattle.serve_blocking.specs.declared.error.HandleError.{HandleError}
+use Rattle.serve_blocking.specs.Acts.{is_loss}
+use Rattle.serve_blocking.specs.Fails.{Fails, NoAnswer, NoChunk}
 use Rattle.serve_blocking.proofs.Answered.{answers_here, part_none, part_some, part_unended}
 use Rattle.serve_blocking.proofs.Followed.{follows_then}
-use Rattle.serve_blocking.proofs.Results.{on_err}
+use Rattle.serve_blocking.proofs.Failed.{fails_as, lost_as}
+use Rattle.serve_blocking.proofs.Results.{err_as, on_err}
 use Rattle.serve_blocking.proofs.answer.Answer.whole.Goals as goal
 
 pub returns-in_err-writer-clause-part : goal.returns-in_err-writer-clause-part
@@ -27,3 +33,24 @@ returns-clause-follows g c =
 pub returns-clause-answers : goal.returns-clause-answers
 returns-clause-answers g c =
     answers_here _ _ _ _ _ _ c.in_ok-writer.ensures.begins c.in_ok-writer-2.ensures.sends c.in_ok-end.ensures.ends c.in_ok-end.ensures.whole
+
+-- ---- why it wasn't taken
+
+pub returns-in_err-writer-clause-fails : goal.returns-in_err-writer-clause-fails
+returns-in_err-writer-clause-fails g c =
+    let new = c.sized-writer.new.body.state in
+    err_as c.from_residual.result c.in_err-writer.field-0.0 (λ e. Fails (NoAnswer new ⊎ NoChunk new) e) c.from_residual.ensures.1
+    (fails_as (NoAnswer new) (NoAnswer new ⊎ NoChunk new) c.in_err-writer.field-0.0 (λ none. inl none) c.in_err-writer.ensures.fails)
+
+pub returns-in_err-writer-2-clause-fails : goal.returns-in_err-writer-2-clause-fails
+returns-in_err-writer-2-clause-fails g c =
+    let new = c.write-writer.new.body.state in
+    err_as c.from_residual-in_err-writer-2.result c.in_err-writer-2.field-0.0 (λ e. Fails (NoAnswer new ⊎ NoChunk new) e)
+    c.from_residual-in_err-writer-2.ensures.1
+    (fails_as (NoChunk new) (NoAnswer new ⊎ NoChunk new) c.in_err-writer-2.field-0.0 (λ none. inr none) c.in_err-writer-2.ensures.fails)
+
+pub returns-in_err-end-clause-fails : goal.returns-in_err-end-clause-fails
+returns-in_err-end-clause-fails g c =
+    let new = c.end.new.body.state in
+    lost_as c.from_residual-in_err-end.result c.in_err-end.field-0.0 (NoAnswer new ⊎ NoChunk new) c.from_residual-in_err-end.ensures.1
+    (ap (λ (e : HandleError). is_loss e) c.in_err-end.ensures.memory)
