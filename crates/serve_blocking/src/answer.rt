@@ -1,10 +1,10 @@
 //! The answer to the open request.
-ghost use Rattle.std.specs.Prelude.{◌≡◌, ◌⊎◌, [], ◌∷◌, true, false, IfErr, OnOk, OnErr};
+ghost use Rattle.std.specs.Prelude.{◌≡◌, [], ◌∷◌, true, false, IfErr, IsOk, OnOk, OnErr};
 ghost use Rattle.model_h1.specs.Answer as answers;
 ghost use Rattle.model_h1.specs.Event as on;
 ghost use Rattle.h1_encoder.specs.Meaning.{answer_of, size_of};
 ghost use Rattle.serve_blocking.specs.Acts.{Answers, AnswersPart, Begins, Does, Drops, IsFlushed, Sends, SendsSome, Waits, is_loss, may, where_may};
-ghost use Rattle.serve_blocking.specs.Fails.{Fails, NoAnswer, NoChunk};
+ghost use Rattle.serve_blocking.specs.Fails.{Fails, IsFull, NoChunk, NotBegun, NotSent, NotWhole};
 ghost use Rattle.serve_blocking.specs.Served.{Follows};
 
 use crate::{Body, HandleError};
@@ -35,7 +35,8 @@ impl Answer {
     /// Answers with a head and a whole body. A small answer goes out in one write. After an error at most a part of the
     /// answer was handed in: nothing, or its head and the first bytes of its body.
     ///
-    /// `Misplaced` where no answer may begin, or no piece of its body may come; else `Lost`, `Stalled` or `NoMemory`.
+    /// `Misplaced` where no answer may begin, or no piece of its body may come. `Lost` and `Stalled` as `sized` and `write`
+    /// give them. Else `NoMemory`.
     pub fn whole<S: TimedSource, K: TimedSink>(
         self,
         body: &mut Body<S, K>,
@@ -45,7 +46,7 @@ impl Answer {
         ensures follows { Follows body.old body.new }
         ensures answers { OnOk result (Answers (answer_of head) bytes.now body.old body.new) }
         ensures part { OnErr result (AnswersPart (answer_of head) bytes.now body.old body.new) }
-        ensures fails { IfErr result (λ e. Fails (NoAnswer body.new.state ⊎ NoChunk body.new.state) e) }
+        ensures fails { IfErr result (λ e. NotWhole (answer_of head) bytes.now e body.old body.new) }
     {
         let writer = self.sized(body, head, bytes.len() as u64)?;
         let writer = writer.write(body, bytes)?;
@@ -55,7 +56,8 @@ impl Answer {
 
     /// Begins an answer whose body has so many bytes (RFC 7230, section 3.3.2). After an error nothing of it was handed in.
     ///
-    /// `Misplaced` where no answer may begin; else `Lost`, `Stalled` or `NoMemory`.
+    /// `Misplaced` where no answer may begin. `Lost` and `Stalled` where a body is waited for that isn't wanted, and
+    /// `Stalled` where a limit of the config's times has passed. Else `NoMemory`.
     pub fn sized<S: TimedSource, K: TimedSink>(
         self,
         body: &mut Body<S, K>,
@@ -65,7 +67,7 @@ impl Answer {
         ensures follows { Follows body.old body.new }
         ensures begins { OnOk result (Begins (answer_of head) (answers.size_of length) body.old body.new) }
         ensures none { OnErr result (Drops body.old body.new) }
-        ensures fails { IfErr result (λ e. Fails (NoAnswer body.new.state) e) }
+        ensures fails { IfErr result (λ e. NotBegun e body.old body.new) }
     {
         self.begin(body, head, BodySize::Sized(length))
     }
@@ -73,7 +75,7 @@ impl Answer {
     /// Begins an answer whose body's length isn't known: it is sent in chunks to a client that knows them, and else ends
     /// with the connection (RFC 7230, section 4.1). After an error nothing of it was handed in.
     ///
-    /// `Misplaced` where no answer may begin; else `Lost`, `Stalled` or `NoMemory`.
+    /// The errors are those of `sized`.
     pub fn stream<S: TimedSource, K: TimedSink>(
         self,
         body: &mut Body<S, K>,
@@ -82,14 +84,14 @@ impl Answer {
         ensures follows { Follows body.old body.new }
         ensures begins { OnOk result (Begins (answer_of head) answers.size_stream body.old body.new) }
         ensures none { OnErr result (Drops body.old body.new) }
-        ensures fails { IfErr result (λ e. Fails (NoAnswer body.new.state) e) }
+        ensures fails { IfErr result (λ e. NotBegun e body.old body.new) }
     {
         self.begin(body, head, BodySize::Stream)
     }
 
     /// Answers with a head alone, as 304 is (RFC 7232, section 4.1). After an error at most the head was handed in.
     ///
-    /// `Misplaced` where no answer may begin; else `Lost`, `Stalled` or `NoMemory`.
+    /// The errors are those of `sized`.
     pub fn empty<S: TimedSource, K: TimedSink>(
         self,
         body: &mut Body<S, K>,
@@ -98,7 +100,7 @@ impl Answer {
         ensures follows { Follows body.old body.new }
         ensures answers { OnOk result (Answers (answer_of head) [] body.old body.new) }
         ensures part { OnErr result (AnswersPart (answer_of head) [] body.old body.new) }
-        ensures fails { IfErr result (λ e. Fails (NoAnswer body.new.state) e) }
+        ensures fails { IfErr result (λ e. NotBegun e body.old body.new) }
     {
         let writer = self.begin(body, head, BodySize::ZERO)?;
         writer.end(body)?;
@@ -115,7 +117,7 @@ impl Answer {
         ensures follows { Follows body.old body.new }
         ensures begins { OnOk result (Begins (answer_of head) (size_of size) body.old body.new) }
         ensures none { OnErr result (Drops body.old body.new) }
-        ensures fails { IfErr result (λ e. Fails (NoAnswer body.new.state) e) }
+        ensures fails { IfErr result (λ e. NotBegun e body.old body.new) }
     {
         body.settle(&mut head)?;
         body.tick()?;
@@ -131,7 +133,7 @@ impl Writer {
     /// Sends the next bytes of the body. They are gathered, and written once there is no more room. After an error the
     /// first of them may have been handed in.
     ///
-    /// `Misplaced` where no piece of the body may come; else `Lost`, `Stalled` or `NoMemory`.
+    /// `Misplaced` where no piece of the body may come. `Lost` and `Stalled` where there was no more room. Else `NoMemory`.
     pub fn write<S: TimedSource, K: TimedSink>(
         self,
         body: &mut Body<S, K>,
@@ -140,7 +142,7 @@ impl Writer {
         ensures follows { Follows body.old body.new }
         ensures sends { OnOk result (Sends bytes.now body.old body.new) }
         ensures some { OnErr result (SendsSome bytes.now body.old body.new) }
-        ensures fails { IfErr result (λ e. Fails (NoChunk body.new.state) e) }
+        ensures fails { IfErr result (λ e. NotSent bytes.now e body.old body.new) }
     {
         match body.send(bytes) {
             Ok(()) => Ok(self),
@@ -151,7 +153,8 @@ impl Writer {
         }
     }
 
-    /// Writes what was gathered now, as a client that waits for each piece wants it. `Lost`, `Stalled` or `NoMemory`.
+    /// Writes what was gathered now, as a client that waits for each piece wants it. `Lost`, `Stalled` or `NoMemory`, where
+    /// something was gathered.
     pub fn flush<S: TimedSource, K: TimedSink>(
         self,
         body: &mut Body<S, K>,
@@ -160,6 +163,7 @@ impl Writer {
         ensures waits { Waits body.old body.new }
         ensures flushed { OnOk result (IsFlushed body.new.state) }
         ensures lost { IfErr result (λ e. is_loss e ≡ true) }
+        ensures idle { IsFlushed body.old.state → IsOk result }
     {
         match body.flush() {
             Ok(()) => Ok(self),
@@ -202,7 +206,7 @@ impl<S: TimedSource, K: TimedSink> Body<S, K> {
         ensures follows { Follows self.old self.new }
         ensures sends { OnOk result (Sends bytes.now self.old self.new) }
         ensures some { OnErr result (SendsSome bytes.now self.old self.new) }
-        ensures fails { IfErr result (λ e. Fails (NoChunk self.new.state) e) }
+        ensures fails { IfErr result (λ e. NotSent bytes.now e self.old self.new) }
     {
         for piece in bytes.chunks(PIECE) {
             self.send_piece(piece)?;
@@ -214,7 +218,7 @@ impl<S: TimedSource, K: TimedSink> Body<S, K> {
     fn send_piece(&mut self, piece: &[u8]) -> Result<(), HandleError>
         ensures sends { OnOk result (Sends piece.now self.old self.new) }
         ensures none { OnErr result (Waits self.old self.new) }
-        ensures fails { IfErr result (λ e. Fails (NoChunk self.new.state) e) }
+        ensures fails { IfErr result (λ e. Fails (NoChunk self.new.state) (IsFull self.old.state) e) }
     {
         self.make_room()?;
         if !self.connection.can_chunk() {
@@ -228,6 +232,7 @@ impl<S: TimedSource, K: TimedSink> Body<S, K> {
     fn make_room(&mut self) -> Result<(), HandleError>
         ensures waits { Waits self.old self.new }
         ensures lost { IfErr result (λ e. is_loss e ≡ true) }
+        ensures full { OnErr result (IsFull self.old.state) }
     {
         if self.connection.write_room() == 0 {
             return self.flush();

@@ -1,10 +1,7 @@
-use Rattle.std.proofs.Common.{ap}
-use Rattle.serve_blocking.specs.declared.error.HandleError.{HandleError}
-use Rattle.serve_blocking.specs.Acts.{is_loss}
-use Rattle.serve_blocking.specs.Fails.{Fails, NoAnswer}
+use Rattle.serve_blocking.specs.Fails.{NotBegun}
 use Rattle.serve_blocking.proofs.Answered.{answers_empty, part_none, part_unended, sends_none}
 use Rattle.serve_blocking.proofs.Followed.{follows_then}
-use Rattle.serve_blocking.proofs.Failed.{lost_as}
+use Rattle.serve_blocking.proofs.Failed.{memory_fails}
 use Rattle.serve_blocking.proofs.Results.{err_as, on_err}
 use Rattle.serve_blocking.proofs.answer.Answer.empty.Goals as goal
 
@@ -26,10 +23,10 @@ returns-clause-answers g c = answers_empty _ _ _ _ c.in_ok-writer.ensures.begins
 
 pub returns-in_err-writer-clause-fails : goal.returns-in_err-writer-clause-fails
 returns-in_err-writer-clause-fails g c =
-    err_as c.from_residual.result c.in_err-writer.field-0.0 (λ e. Fails (NoAnswer c.begin-writer.new.body.state) e) c.from_residual.ensures.1
+    err_as c.from_residual.result c.in_err-writer.field-0.0 (λ e. NotBegun e c.args.body.now c.begin-writer.new.body) c.from_residual.ensures.1
     c.in_err-writer.ensures.fails
 
 pub returns-in_err-end-clause-fails : goal.returns-in_err-end-clause-fails
 returns-in_err-end-clause-fails g c =
-    lost_as c.from_residual-in_err-end.result c.in_err-end.field-0.0 (NoAnswer c.end.new.body.state) c.from_residual-in_err-end.ensures.1
-    (ap (λ (e : HandleError). is_loss e) c.in_err-end.ensures.memory)
+    err_as c.from_residual-in_err-end.result c.in_err-end.field-0.0 (λ e. NotBegun e c.args.body.now c.end.new.body) c.from_residual-in_err-end.ensures.1
+    (memory_fails _ _ c.in_err-end.field-0.0 c.in_err-end.ensures.memory)

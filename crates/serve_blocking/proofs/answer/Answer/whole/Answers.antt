@@ -1,11 +1,9 @@
-use Rattle.std.specs.Prelude.{◌⊎◌}
-use Rattle.std.proofs.Common.{ap, inl, inr}
-use Rattle.serve_blocking.specs.declared.error.HandleError.{HandleError}
-use Rattle.serve_blocking.specs.Acts.{is_loss}
-use Rattle.serve_blocking.specs.Fails.{Fails, NoAnswer, NoChunk}
+use Rattle.std.proofs.Common.{inl, inr}
+use Rattle.h1_encoder.specs.Meaning.{answer_of}
+use Rattle.serve_blocking.specs.Fails.{NotWhole}
 use Rattle.serve_blocking.proofs.Answered.{answers_here, part_none, part_some, part_unended}
 use Rattle.serve_blocking.proofs.Followed.{follows_then}
-use Rattle.serve_blocking.proofs.Failed.{fails_as, lost_as}
+use Rattle.serve_blocking.proofs.Failed.{memory_fails}
 use Rattle.serve_blocking.proofs.Results.{err_as, on_err}
 use Rattle.serve_blocking.proofs.answer.Answer.whole.Goals as goal
 
@@ -38,19 +36,18 @@ returns-clause-answers g c =
 
 pub returns-in_err-writer-clause-fails : goal.returns-in_err-writer-clause-fails
 returns-in_err-writer-clause-fails g c =
-    let new = c.sized-writer.new.body.state in
-    err_as c.from_residual.result c.in_err-writer.field-0.0 (λ e. Fails (NoAnswer new ⊎ NoChunk new) e) c.from_residual.ensures.1
-    (fails_as (NoAnswer new) (NoAnswer new ⊎ NoChunk new) c.in_err-writer.field-0.0 (λ none. inl none) c.in_err-writer.ensures.fails)
+    err_as c.from_residual.result c.in_err-writer.field-0.0
+    (λ e. NotWhole (answer_of c.args.head) c.args.bytes.now e c.args.body.now c.sized-writer.new.body) c.from_residual.ensures.1
+    (inl c.in_err-writer.ensures.fails)
 
 pub returns-in_err-writer-2-clause-fails : goal.returns-in_err-writer-2-clause-fails
 returns-in_err-writer-2-clause-fails g c =
-    let new = c.write-writer.new.body.state in
-    err_as c.from_residual-in_err-writer-2.result c.in_err-writer-2.field-0.0 (λ e. Fails (NoAnswer new ⊎ NoChunk new) e)
-    c.from_residual-in_err-writer-2.ensures.1
-    (fails_as (NoChunk new) (NoAnswer new ⊎ NoChunk new) c.in_err-writer-2.field-0.0 (λ none. inr none) c.in_err-writer-2.ensures.fails)
+    err_as c.from_residual-in_err-writer-2.result c.in_err-writer-2.field-0.0
+    (λ e. NotWhole (answer_of c.args.head) c.args.bytes.now e c.args.body.now c.write-writer.new.body) c.from_residual-in_err-writer-2.ensures.1
+    (inr (record { mid = c.sized-writer.new.body; begins = c.in_ok-writer.ensures.begins; fails = c.in_err-writer-2.ensures.fails }))
 
 pub returns-in_err-end-clause-fails : goal.returns-in_err-end-clause-fails
 returns-in_err-end-clause-fails g c =
-    let new = c.end.new.body.state in
-    lost_as c.from_residual-in_err-end.result c.in_err-end.field-0.0 (NoAnswer new ⊎ NoChunk new) c.from_residual-in_err-end.ensures.1
-    (ap (λ (e : HandleError). is_loss e) c.in_err-end.ensures.memory)
+    err_as c.from_residual-in_err-end.result c.in_err-end.field-0.0
+    (λ e. NotWhole (answer_of c.args.head) c.args.bytes.now e c.args.body.now c.end.new.body) c.from_residual-in_err-end.ensures.1
+    (inl (memory_fails _ _ c.in_err-end.field-0.0 c.in_err-end.ensures.memory))

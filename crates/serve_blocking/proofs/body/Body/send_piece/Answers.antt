@@ -1,10 +1,9 @@
-use Rattle.std.proofs.Common.{refl}
 use Rattle.model_h1.specs.Event as on
 use Rattle.serve_blocking.specs.declared.error.HandleError.TheVariants as handle_error
-use Rattle.serve_blocking.specs.Fails.{NoChunk}
+use Rattle.serve_blocking.specs.Fails.{Fails, IsFull, NoChunk}
 use Rattle.serve_blocking.proofs.Answered.{seen_may, sends_one}
-use Rattle.serve_blocking.proofs.Failed.{lost_as}
-use Rattle.serve_blocking.proofs.Results.{on_err}
+use Rattle.serve_blocking.proofs.Failed.{loss_fails}
+use Rattle.serve_blocking.proofs.Results.{err_as, on_err}
 use Rattle.serve_blocking.proofs.Waited.{waits_then, waits_equal}
 use Rattle.serve_blocking.proofs.body.Body.send_piece.Goals as goal
 
@@ -15,9 +14,13 @@ pub returns-in_err-hand_in-clause-none : goal.returns-in_err-hand_in-clause-none
 returns-in_err-hand_in-clause-none g c =
     on_err c.from_residual-in_err-hand_in.result (waits_then _ _ _ c.in_ok-make_room.ensures.waits (waits_equal _ _ c.in_err-hand_in.ensures.err))
 
+-- ---- why it wasn't handed in
+
 pub returns-in_err-make_room-clause-fails : goal.returns-in_err-make_room-clause-fails
 returns-in_err-make_room-clause-fails g c =
-    lost_as c.from_residual.result c.in_err-make_room.field-0.0 (NoChunk c.make_room.new.self.state) c.from_residual.ensures.1 c.in_err-make_room.ensures.lost
+    err_as c.from_residual.result c.in_err-make_room.field-0.0 (λ e. Fails (NoChunk c.make_room.new.self.state) (IsFull c.args.self.now.state) e)
+    c.from_residual.ensures.1
+    (loss_fails _ _ c.in_err-make_room.field-0.0 c.in_err-make_room.ensures.lost c.in_err-make_room.ensures.full)
 
 pub returns-then-not-can_chunk-clause-fails : goal.returns-then-not-can_chunk-clause-fails
 returns-then-not-can_chunk-clause-fails g c = λ bytes.
@@ -25,4 +28,5 @@ returns-then-not-can_chunk-clause-fails g c = λ bytes.
 
 pub returns-in_err-hand_in-clause-fails : goal.returns-in_err-hand_in-clause-fails
 returns-in_err-hand_in-clause-fails g c =
-    lost_as c.from_residual-in_err-hand_in.result handle_error.NoMemory (NoChunk c.hand_in.new.self.state) c.from_residual-in_err-hand_in.ensures.1 refl
+    err_as c.from_residual-in_err-hand_in.result handle_error.NoMemory (λ e. Fails (NoChunk c.hand_in.new.self.state) (IsFull c.args.self.now.state) e)
+    c.from_residual-in_err-hand_in.ensures.1 tt
