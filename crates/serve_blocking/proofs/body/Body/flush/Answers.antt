@@ -7,7 +7,7 @@ loop-init g c = record { waits = waits_none _; can = c.has_unwritten.ensures.som
 pub loop-preserved : goal.loop-preserved
 loop-preserved g c = record {
   waits = waits_then _ _ _ c.loop.invariant.waits c.write_once.ensures.waits;
-  can = c.has_unwritten-2.ensures.some c.if-not-has_unwritten-2.false;
+  can = c.has_unwritten-in-loop.ensures.some c.if-not-has_unwritten-2.false;
 }
 
 pub returns-then-not-has_unwritten-clause-waits : goal.returns-then-not-has_unwritten-clause-waits
@@ -20,7 +20,7 @@ pub returns-then-not-has_unwritten-2-clause-waits : goal.returns-then-not-has_un
 returns-then-not-has_unwritten-2-clause-waits g c = waits_then _ _ _ c.loop.invariant.waits c.write_once.ensures.waits
 
 pub returns-then-not-has_unwritten-2-clause-flushed : goal.returns-then-not-has_unwritten-2-clause-flushed
-returns-then-not-has_unwritten-2-clause-flushed g c = c.has_unwritten-2.ensures.none c.if-not-has_unwritten-2.true
+returns-then-not-has_unwritten-2-clause-flushed g c = c.has_unwritten-in-loop.ensures.none c.if-not-has_unwritten-2.true
 
 pub returns-in_err-write_once-clause-waits : goal.returns-in_err-write_once-clause-waits
 returns-in_err-write_once-clause-waits g c = waits_then _ _ _ c.loop.invariant.waits c.write_once.ensures.waits
