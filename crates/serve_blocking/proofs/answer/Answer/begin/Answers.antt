@@ -68,7 +68,7 @@ returns-in_err-tick-clause-fails g c =
 
 pub returns-then-not-can_answer-clause-fails : goal.returns-then-not-can_answer-clause-fails
 returns-then-not-can_answer-clause-fails g c = λ head size.
-    seen_may c.tick.new.self _ (on.answer head size) _ _ c.tick.view_is (c.can_answer.ensures head size) c.if-not-can_answer.true
+    seen_may c.tick.new.self _ (on.answer head size) _ _ c.body.view_is (c.can_answer.ensures head size) c.if-not-can_answer.true
 
 pub returns-in_err-begin_answer-clause-fails : goal.returns-in_err-begin_answer-clause-fails
 returns-in_err-begin_answer-clause-fails g c =

@@ -24,7 +24,7 @@ returns-in_err-make_room-clause-fails g c =
 
 pub returns-then-not-can_chunk-clause-fails : goal.returns-then-not-can_chunk-clause-fails
 returns-then-not-can_chunk-clause-fails g c = λ bytes.
-    seen_may c.make_room.new.self _ (on.chunk bytes) _ _ c.make_room.view_is (c.can_chunk.ensures bytes) c.if-not-can_chunk.true
+    seen_may c.make_room.new.self _ (on.chunk bytes) _ _ c.self.view_is (c.can_chunk.ensures bytes) c.if-not-can_chunk.true
 
 pub returns-in_err-hand_in-clause-fails : goal.returns-in_err-hand_in-clause-fails
 returns-in_err-hand_in-clause-fails g c =
