@@ -23,7 +23,7 @@ returns-clause-answers g c = answers_empty _ _ _ _ c.in_ok-writer.ensures.begins
 
 pub returns-in_err-writer-clause-fails : goal.returns-in_err-writer-clause-fails
 returns-in_err-writer-clause-fails g c =
-    err_as c.from_residual.result c.in_err-writer.field-0.0 (λ e. NotBegun e c.args.body.now c.begin-writer.new.body) c.from_residual.ensures.1
+    err_as c.from_residual.result c.in_err-writer.field-0.0 (λ e. NotBegun e c.args.body.now c.begin.new.body) c.from_residual.ensures.1
     c.in_err-writer.ensures.fails
 
 pub returns-in_err-end-clause-fails : goal.returns-in_err-end-clause-fails

@@ -37,14 +37,14 @@ returns-clause-answers g c =
 pub returns-in_err-writer-clause-fails : goal.returns-in_err-writer-clause-fails
 returns-in_err-writer-clause-fails g c =
     err_as c.from_residual.result c.in_err-writer.field-0.0
-    (λ e. NotWhole (answer_of c.args.head) c.args.bytes.now e c.args.body.now c.sized-writer.new.body) c.from_residual.ensures.1
+    (λ e. NotWhole (answer_of c.args.head) c.args.bytes.now e c.args.body.now c.sized.new.body) c.from_residual.ensures.1
     (inl c.in_err-writer.ensures.fails)
 
 pub returns-in_err-writer-2-clause-fails : goal.returns-in_err-writer-2-clause-fails
 returns-in_err-writer-2-clause-fails g c =
     err_as c.from_residual-in_err-writer-2.result c.in_err-writer-2.field-0.0
-    (λ e. NotWhole (answer_of c.args.head) c.args.bytes.now e c.args.body.now c.write-writer.new.body) c.from_residual-in_err-writer-2.ensures.1
-    (inr (record { mid = c.sized-writer.new.body; begins = c.in_ok-writer.ensures.begins; fails = c.in_err-writer-2.ensures.fails }))
+    (λ e. NotWhole (answer_of c.args.head) c.args.bytes.now e c.args.body.now c.write.new.body) c.from_residual-in_err-writer-2.ensures.1
+    (inr (record { mid = c.sized.new.body; begins = c.in_ok-writer.ensures.begins; fails = c.in_err-writer-2.ensures.fails }))
 
 pub returns-in_err-end-clause-fails : goal.returns-in_err-end-clause-fails
 returns-in_err-end-clause-fails g c =
