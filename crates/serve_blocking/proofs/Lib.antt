@@ -3,6 +3,7 @@ pub mod Began
 pub mod Completed
 pub mod Doubts
 pub mod Dropped
+pub mod Failed
 pub mod Followed
 pub mod Gave
 pub mod Handled

@@ -1,4 +1,5 @@
 pub mod Acts
+pub mod Fails
 pub mod Judged
 pub mod Limits
 pub mod Pace

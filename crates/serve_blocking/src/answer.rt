@@ -1,9 +1,10 @@
 //! The answer to the open request.
-ghost use Rattle.std.specs.Prelude.{◌≡◌, [], ◌∷◌, false, OnOk, OnErr};
+ghost use Rattle.std.specs.Prelude.{◌≡◌, [], ◌∷◌, true, false, IfErr, IsOk, OnOk, OnErr};
 ghost use Rattle.model_h1.specs.Answer as answers;
 ghost use Rattle.model_h1.specs.Event as on;
 ghost use Rattle.h1_encoder.specs.Meaning.{answer_of, size_of};
-ghost use Rattle.serve_blocking.specs.Acts.{Answers, AnswersPart, Begins, Does, Drops, IsFlushed, Sends, SendsSome, Waits, may, where_may};
+ghost use Rattle.serve_blocking.specs.Acts.{Answers, AnswersPart, Begins, Does, Drops, IsFlushed, Sends, SendsSome, Waits, is_loss, may, where_may};
+ghost use Rattle.serve_blocking.specs.Fails.{Fails, IsFull, NoChunk, NotBegun, NotSent, NotWhole};
 ghost use Rattle.serve_blocking.specs.Served.{Follows};
 
 use crate::{Body, HandleError};
@@ -33,6 +34,9 @@ impl Answer {
 
     /// Answers with a head and a whole body. A small answer goes out in one write. After an error at most a part of the
     /// answer was handed in: nothing, or its head and the first bytes of its body.
+    ///
+    /// `Misplaced` where no answer may begin, or no piece of its body may come. `Lost` and `Stalled` as `sized` and `write`
+    /// give them. Else `NoMemory`.
     pub fn whole<S: TimedSource, K: TimedSink>(
         self,
         body: &mut Body<S, K>,
@@ -42,6 +46,7 @@ impl Answer {
         ensures follows { Follows body.old body.new }
         ensures answers { OnOk result (Answers (answer_of head) bytes.now body.old body.new) }
         ensures part { OnErr result (AnswersPart (answer_of head) bytes.now body.old body.new) }
+        ensures fails { IfErr result (λ e. NotWhole (answer_of head) bytes.now e body.old body.new) }
     {
         let writer = self.sized(body, head, bytes.len() as u64)?;
         let writer = writer.write(body, bytes)?;
@@ -50,6 +55,9 @@ impl Answer {
     }
 
     /// Begins an answer whose body has so many bytes (RFC 7230, section 3.3.2). After an error nothing of it was handed in.
+    ///
+    /// `Misplaced` where no answer may begin. `Lost` and `Stalled` where a body is waited for that isn't wanted, and
+    /// `Stalled` where a limit of the config's times has passed. Else `NoMemory`.
     pub fn sized<S: TimedSource, K: TimedSink>(
         self,
         body: &mut Body<S, K>,
@@ -59,12 +67,15 @@ impl Answer {
         ensures follows { Follows body.old body.new }
         ensures begins { OnOk result (Begins (answer_of head) (answers.size_of length) body.old body.new) }
         ensures none { OnErr result (Drops body.old body.new) }
+        ensures fails { IfErr result (λ e. NotBegun e body.old body.new) }
     {
         self.begin(body, head, BodySize::Sized(length))
     }
 
     /// Begins an answer whose body's length isn't known: it is sent in chunks to a client that knows them, and else ends
     /// with the connection (RFC 7230, section 4.1). After an error nothing of it was handed in.
+    ///
+    /// The errors are those of `sized`.
     pub fn stream<S: TimedSource, K: TimedSink>(
         self,
         body: &mut Body<S, K>,
@@ -73,11 +84,14 @@ impl Answer {
         ensures follows { Follows body.old body.new }
         ensures begins { OnOk result (Begins (answer_of head) answers.size_stream body.old body.new) }
         ensures none { OnErr result (Drops body.old body.new) }
+        ensures fails { IfErr result (λ e. NotBegun e body.old body.new) }
     {
         self.begin(body, head, BodySize::Stream)
     }
 
     /// Answers with a head alone, as 304 is (RFC 7232, section 4.1). After an error at most the head was handed in.
+    ///
+    /// The errors are those of `sized`.
     pub fn empty<S: TimedSource, K: TimedSink>(
         self,
         body: &mut Body<S, K>,
@@ -86,6 +100,7 @@ impl Answer {
         ensures follows { Follows body.old body.new }
         ensures answers { OnOk result (Answers (answer_of head) [] body.old body.new) }
         ensures part { OnErr result (AnswersPart (answer_of head) [] body.old body.new) }
+        ensures fails { IfErr result (λ e. NotBegun e body.old body.new) }
     {
         let writer = self.begin(body, head, BodySize::ZERO)?;
         writer.end(body)?;
@@ -102,6 +117,7 @@ impl Answer {
         ensures follows { Follows body.old body.new }
         ensures begins { OnOk result (Begins (answer_of head) (size_of size) body.old body.new) }
         ensures none { OnErr result (Drops body.old body.new) }
+        ensures fails { IfErr result (λ e. NotBegun e body.old body.new) }
     {
         body.settle(&mut head)?;
         body.tick()?;
@@ -116,6 +132,8 @@ impl Answer {
 impl Writer {
     /// Sends the next bytes of the body. They are gathered, and written once there is no more room. After an error the
     /// first of them may have been handed in.
+    ///
+    /// `Misplaced` where no piece of the body may come. `Lost` and `Stalled` where there was no more room. Else `NoMemory`.
     pub fn write<S: TimedSource, K: TimedSink>(
         self,
         body: &mut Body<S, K>,
@@ -124,6 +142,7 @@ impl Writer {
         ensures follows { Follows body.old body.new }
         ensures sends { OnOk result (Sends bytes.now body.old body.new) }
         ensures some { OnErr result (SendsSome bytes.now body.old body.new) }
+        ensures fails { IfErr result (λ e. NotSent bytes.now e body.old body.new) }
     {
         match body.send(bytes) {
             Ok(()) => Ok(self),
@@ -134,7 +153,8 @@ impl Writer {
         }
     }
 
-    /// Writes what was gathered now, as a client that waits for each piece wants it.
+    /// Writes what was gathered now, as a client that waits for each piece wants it. `Lost`, `Stalled` or `NoMemory`, where
+    /// something was gathered.
     pub fn flush<S: TimedSource, K: TimedSink>(
         self,
         body: &mut Body<S, K>,
@@ -142,6 +162,8 @@ impl Writer {
         ensures follows { Follows body.old body.new }
         ensures waits { Waits body.old body.new }
         ensures flushed { OnOk result (IsFlushed body.new.state) }
+        ensures lost { IfErr result (λ e. is_loss e ≡ true) }
+        ensures idle { IsFlushed body.old.state → IsOk result }
     {
         match body.flush() {
             Ok(()) => Ok(self),
@@ -152,12 +174,13 @@ impl Writer {
         }
     }
 
-    /// The body is whole. After an error its end wasn't handed in.
+    /// The body is whole. `NoMemory`: then its end wasn't handed in.
     pub fn end<S: TimedSource, K: TimedSink>(self, body: &mut Body<S, K>) -> Result<(), HandleError>
         ensures follows { Follows body.old body.new }
         ensures ends { OnOk result (Does (where_may body.old.state on.body_end) body.old body.new) }
         ensures whole { OnOk result (may body.old.state on.body_end ≡ false → body.new ≡ body.old) }
         ensures none { OnErr result (body.new ≡ body.old) }
+        ensures memory { IfErr result (λ e. e ≡ HandleError.NoMemory) }
     {
         let Writer { _open: () } = self;
         if !body.connection.can_end_answer() {
@@ -183,6 +206,7 @@ impl<S: TimedSource, K: TimedSink> Body<S, K> {
         ensures follows { Follows self.old self.new }
         ensures sends { OnOk result (Sends bytes.now self.old self.new) }
         ensures some { OnErr result (SendsSome bytes.now self.old self.new) }
+        ensures fails { IfErr result (λ e. NotSent bytes.now e self.old self.new) }
     {
         for piece in bytes.chunks(PIECE) {
             self.send_piece(piece)?;
@@ -194,6 +218,7 @@ impl<S: TimedSource, K: TimedSink> Body<S, K> {
     fn send_piece(&mut self, piece: &[u8]) -> Result<(), HandleError>
         ensures sends { OnOk result (Sends piece.now self.old self.new) }
         ensures none { OnErr result (Waits self.old self.new) }
+        ensures fails { IfErr result (λ e. Fails (NoChunk self.new.state) (IsFull self.old.state) e) }
     {
         self.make_room()?;
         if !self.connection.can_chunk() {
@@ -205,7 +230,9 @@ impl<S: TimedSource, K: TimedSink> Body<S, K> {
 
     // Writes what waits, where there is no room for a piece behind it.
     fn make_room(&mut self) -> Result<(), HandleError>
-        ensures { Waits self.old self.new }
+        ensures waits { Waits self.old self.new }
+        ensures lost { IfErr result (λ e. is_loss e ≡ true) }
+        ensures full { OnErr result (IsFull self.old.state) }
     {
         if self.connection.write_room() == 0 {
             return self.flush();

@@ -4,6 +4,7 @@ ghost use Rattle.model_h1.specs.Event as on;
 ghost use Rattle.h1_encoder.specs.Meaning.{answer_of};
 ghost use Rattle.h1_connection.specs.State.{fresh_state, IsAllowed};
 ghost use Rattle.serve_blocking.specs.Acts.{Does, Drops, DropsAll, Gives, GivesNone, PassesOver, Reads, ReadsNone, Says, Waits, is_loss, leave, may};
+ghost use Rattle.serve_blocking.specs.Fails.{IsLeft};
 ghost use Rattle.serve_blocking.specs.Served.{Line, Follows, IsServed};
 
 use crate::clock::Start;
@@ -251,6 +252,7 @@ impl<S: TimedSource, K: TimedSink> Body<S, K> {
         ensures status { head.new.status ≡ head.old.status }
         ensures passed { OnOk result (head.new.flags.close ≡ false → PassesOver self.old self.new) }
         ensures lost { IfErr result (λ e. is_loss e ≡ true) }
+        ensures left { OnErr result (IsLeft self.old) }
     {
         if !self.has_to_close()? {
             return Ok(());
@@ -267,6 +269,7 @@ impl<S: TimedSource, K: TimedSink> Body<S, K> {
         ensures stays { self.old.closes ≡ false → (self.old.wanted ≡ true) ⊎ (may self.old.state on.drop_body ≡ false) → IfOk result (λ b. b ≡ false) }
         ensures passed { IfOk result (λ b. b ≡ false → PassesOver self.old self.new) }
         ensures lost { IfErr result (λ e. is_loss e ≡ true) }
+        ensures left { OnErr result (IsLeft self.old) }
     {
         if self.closes {
             return Ok(true);

@@ -1,8 +1,9 @@
 //! When bytes are read and written, and what time it is.
-ghost use Rattle.std.specs.Prelude.{◌≡◌, ℕ, IsTrue, true, false, IfErr, OnOk};
+ghost use Rattle.std.specs.Prelude.{◌≡◌, ℕ, IsTrue, true, false, IfErr, IsOk, OnOk};
 ghost use Rattle.model_h1.specs.Event as on;
 ghost use Rattle.h1_connection.specs.State.{IsAllowed};
 ghost use Rattle.serve_blocking.specs.Acts.{Does, IsFlushed, Waits, is_loss, where_may};
+ghost use Rattle.serve_blocking.specs.Fails.{Fails, TimesOut};
 ghost use Rattle.serve_blocking.specs.Served.{Follows, IsWritten};
 
 use crate::pace::Pace;
@@ -35,6 +36,7 @@ impl<S: TimedSource, K: TimedSink> Body<S, K> {
     pub(crate) fn tick(&mut self) -> Result<(), HandleError>
         ensures waits { Waits self.old self.new }
         ensures lost { IfErr result (λ e. is_loss e ≡ true) }
+        ensures late { IfErr result (λ e. Fails ⊥ (TimesOut self.old self.new) e) }
     {
         let Some(moment) = self.moment() else {
             return Ok(());
@@ -67,12 +69,16 @@ impl<S: TimedSource, K: TimedSink> Body<S, K> {
         ensures waits { Waits self.old self.new }
         ensures flushed { OnOk result (IsFlushed self.new.state) }
         ensures lost { IfErr result (λ e. is_loss e ≡ true) }
+        ensures idle { IsFlushed self.old.state → IsOk result }
     {
+        if !self.has_unwritten() {
+            return Ok(());
+        }
         for _ in 0..u64::MAX {
+            self.write_once()?;
             if !self.has_unwritten() {
                 return Ok(());
             }
-            self.write_once()?;
         }
         Err(HandleError::Stalled)
     }
@@ -123,6 +129,7 @@ impl<S: TimedSource, K: TimedSink> Body<S, K> {
     fn has_unwritten(&self) -> bool
         ensures some { IsTrue result → (count : ℕ) → IsAllowed self.now.state (on.write count) }
         ensures none { result ≡ false → IsFlushed self.now.state }
+        ensures idle { IsFlushed self.now.state → result ≡ false }
     {
         if self.connection.stretch().is_empty() {
             return false;

@@ -6,6 +6,7 @@ ghost use Rattle.model_h1.specs.Event as on;
 ghost use Rattle.model_h1.specs.Request.{has_body};
 ghost use Rattle.http_framing.specs.Kinds.{kind_of};
 ghost use Rattle.h1_connection.specs.State.{IsAllowed, IsNextAllowed};
+ghost use Rattle.h1_connection.specs.Ticks.{expiry_of};
 ghost use Rattle.serve_blocking.specs.Acts.{Does, Drops, Pulls, Waits, given_behind, step};
 ghost use Rattle.serve_blocking.specs.Served.{Adds, Follows, HandsOut, given_after};
 
@@ -21,6 +22,7 @@ impl<S: TimedSource, K: TimedSink> Body<S, K> {
     pub(crate) fn note_moment(&mut self, moment: u64) -> Result<Expiry, NoMemory>
         requires can_tick { IsAllowed self.old.state (on.tick moment) }
         ensures waits { Waits self.old self.new }
+        ensures ticks { IfOk result (λ expiry. Adds (on.tick moment) (expiry_of expiry) self.old self.new) }
     {
         let expiry = self.connection.tick(moment)?;
         Ok(expiry)

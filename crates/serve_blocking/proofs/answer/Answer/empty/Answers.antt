@@ -1,6 +1,8 @@
+use Rattle.serve_blocking.specs.Fails.{NotBegun}
 use Rattle.serve_blocking.proofs.Answered.{answers_empty, part_none, part_unended, sends_none}
 use Rattle.serve_blocking.proofs.Followed.{follows_then}
-use Rattle.serve_blocking.proofs.Results.{on_err}
+use Rattle.serve_blocking.proofs.Failed.{memory_fails}
+use Rattle.serve_blocking.proofs.Results.{err_as, on_err}
 use Rattle.serve_blocking.proofs.answer.Answer.empty.Goals as goal
 
 pub returns-in_err-writer-clause-part : goal.returns-in_err-writer-clause-part
@@ -18,3 +20,13 @@ returns-clause-follows g c = follows_then _ _ _ c.in_ok-writer.ensures.follows c
 
 pub returns-clause-answers : goal.returns-clause-answers
 returns-clause-answers g c = answers_empty _ _ _ _ c.in_ok-writer.ensures.begins c.in_ok-end.ensures.ends c.in_ok-end.ensures.whole
+
+pub returns-in_err-writer-clause-fails : goal.returns-in_err-writer-clause-fails
+returns-in_err-writer-clause-fails g c =
+    err_as c.from_residual.result c.in_err-writer.field-0.0 (λ e. NotBegun e c.args.body.now c.begin.new.body) c.from_residual.ensures.1
+    c.in_err-writer.ensures.fails
+
+pub returns-in_err-end-clause-fails : goal.returns-in_err-end-clause-fails
+returns-in_err-end-clause-fails g c =
+    err_as c.from_residual-in_err-end.result c.in_err-end.field-0.0 (λ e. NotBegun e c.args.body.now c.end.new.body) c.from_residual-in_err-end.ensures.1
+    (memory_fails _ _ c.in_err-end.field-0.0 c.in_err-end.ensures.memory)

@@ -1,6 +1,10 @@
+use Rattle.std.proofs.Common.{inl, inr}
+use Rattle.h1_encoder.specs.Meaning.{answer_of}
+use Rattle.serve_blocking.specs.Fails.{NotWhole}
 use Rattle.serve_blocking.proofs.Answered.{answers_here, part_none, part_some, part_unended}
 use Rattle.serve_blocking.proofs.Followed.{follows_then}
-use Rattle.serve_blocking.proofs.Results.{on_err}
+use Rattle.serve_blocking.proofs.Failed.{memory_fails}
+use Rattle.serve_blocking.proofs.Results.{err_as, on_err}
 use Rattle.serve_blocking.proofs.answer.Answer.whole.Goals as goal
 
 pub returns-in_err-writer-clause-part : goal.returns-in_err-writer-clause-part
@@ -27,3 +31,23 @@ returns-clause-follows g c =
 pub returns-clause-answers : goal.returns-clause-answers
 returns-clause-answers g c =
     answers_here _ _ _ _ _ _ c.in_ok-writer.ensures.begins c.in_ok-writer-2.ensures.sends c.in_ok-end.ensures.ends c.in_ok-end.ensures.whole
+
+-- ---- why it wasn't taken
+
+pub returns-in_err-writer-clause-fails : goal.returns-in_err-writer-clause-fails
+returns-in_err-writer-clause-fails g c =
+    err_as c.from_residual.result c.in_err-writer.field-0.0
+    (λ e. NotWhole (answer_of c.args.head) c.args.bytes.now e c.args.body.now c.sized.new.body) c.from_residual.ensures.1
+    (inl c.in_err-writer.ensures.fails)
+
+pub returns-in_err-writer-2-clause-fails : goal.returns-in_err-writer-2-clause-fails
+returns-in_err-writer-2-clause-fails g c =
+    err_as c.from_residual-in_err-writer-2.result c.in_err-writer-2.field-0.0
+    (λ e. NotWhole (answer_of c.args.head) c.args.bytes.now e c.args.body.now c.write.new.body) c.from_residual-in_err-writer-2.ensures.1
+    (inr (record { mid = c.sized.new.body; begins = c.in_ok-writer.ensures.begins; fails = c.in_err-writer-2.ensures.fails }))
+
+pub returns-in_err-end-clause-fails : goal.returns-in_err-end-clause-fails
+returns-in_err-end-clause-fails g c =
+    err_as c.from_residual-in_err-end.result c.in_err-end.field-0.0
+    (λ e. NotWhole (answer_of c.args.head) c.args.bytes.now e c.args.body.now c.end.new.body) c.from_residual-in_err-end.ensures.1
+    (inl (memory_fails _ _ c.in_err-end.field-0.0 c.in_err-end.ensures.memory))

@@ -1,8 +1,9 @@
-use Rattle.std.proofs.Common.{refl}
+use Rattle.std.proofs.Common.{◌≡◌, refl}
 use Rattle.model_h1.specs.Event as on
+use Rattle.serve_blocking.specs.declared.error.HandleError.TheVariants as handle_error
 use Rattle.serve_blocking.proofs.Answered.{does_where, does_nowhere, seen_may}
 use Rattle.serve_blocking.proofs.Followed.{adds_follow, follows_equal, follows_none}
-use Rattle.serve_blocking.proofs.Results.{on_err}
+use Rattle.serve_blocking.proofs.Results.{err_as, on_err}
 use Rattle.serve_blocking.proofs.Waited.{adds_does, does_none}
 use Rattle.serve_blocking.proofs.answer.Writer.end.Goals as goal
 
@@ -32,3 +33,6 @@ returns-clause-ends g c =
 pub returns-clause-whole : goal.returns-clause-whole
 returns-clause-whole g c = λ none.
     absurd (cc (none, seen_may c.args.body.now _ on.body_end _ _ c.body.view_is c.can_end_answer.ensures.ends c.if-not-can_end_answer.false))
+
+pub returns-in_err-end_answer-clause-memory : goal.returns-in_err-end_answer-clause-memory
+returns-in_err-end_answer-clause-memory g c = err_as c.from_residual.result handle_error.NoMemory (λ e. e ≡ handle_error.NoMemory) c.from_residual.ensures.1 refl

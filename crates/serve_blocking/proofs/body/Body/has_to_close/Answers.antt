@@ -3,6 +3,8 @@ use Rattle.model_h1.specs.Event as on
 use Rattle.serve_blocking.specs.Served.{Line}
 use Rattle.serve_blocking.proofs.Answered.{seen_may}
 use Rattle.serve_blocking.proofs.Dropped.{drops_none}
+use Rattle.serve_blocking.proofs.Failed.{left_here}
+use Rattle.serve_blocking.proofs.Results.{on_err}
 use Rattle.serve_blocking.proofs.Settled.{never, passed_where}
 use Rattle.serve_blocking.proofs.body.Body.has_to_close.Goals as goal
 
@@ -33,3 +35,7 @@ returns-then-not-can_pull-clause-passed g c = λ fails. inr (inl (seen_may _ _ o
 
 pub returns-clause-passed : goal.returns-clause-passed
 returns-clause-passed g c = passed_where _ _ _ c.in_ok-pass_over_if_it_ends.ensures.passed
+
+pub returns-in_err-pass_over_if_it_ends-clause-left : goal.returns-in_err-pass_over_if_it_ends-clause-left
+returns-in_err-pass_over_if_it_ends-clause-left g c =
+    on_err c.from_residual.result (left_here _ _ c.self.view_is c.if-self.false c.if-self-2.false (sym c.can_pull.ensures.value ∙ c.if-not-can_pull.false))

@@ -2,8 +2,10 @@ use Rattle.std.proofs.Common.{◌≡◌, ℕ, List, [], ◌++◌, refl, sym, ap,
 use Rattle.std.proofs.lemmas.List.{nil_from_length}
 use Rattle.std.specs.Slice.Iter.{chunks_rest}
 use Rattle.serve_blocking.specs.Acts.{Sends, SendsSome}
+use Rattle.serve_blocking.specs.Fails.{NotSent}
 use Rattle.serve_blocking.proofs.Answered.{sends_none, sends_then, sends_wait, sends_as, sends_follow, some_follow}
-use Rattle.serve_blocking.proofs.Results.{on_err}
+use Rattle.serve_blocking.proofs.Failed.{fails_as}
+use Rattle.serve_blocking.proofs.Results.{err_as, on_err}
 use Rattle.serve_blocking.proofs.body.Body.send.Goals as goal
 
 pub loop-piece-init : goal.loop-piece-init
@@ -47,3 +49,19 @@ returns-clause-sends g c =
 
 pub returns-clause-follows : goal.returns-clause-follows
 returns-clause-follows g c = sends_follow c.loop-piece.invariant.sends.0 _ _ c.loop-piece.invariant.sends.1
+
+pub returns-in_err-send_piece-clause-fails : goal.returns-in_err-send_piece-clause-fails
+returns-in_err-send_piece-clause-fails g c =
+    let so_far = c.loop-piece.invariant.sends in
+    err_as c.from_residual.result c.in_err-send_piece.field-0.0 (λ e. NotSent c.args.bytes.now e c.args.self.now c.send_piece.new.self) c.from_residual.ensures.1
+    (fails_as _ _ _ _ c.in_err-send_piece.field-0.0 (λ none. none)
+    (λ full. record {
+      sent = so_far.0;
+      rest = chunks_rest c.loop-piece.piece-iterator;
+      are_first = so_far.2;
+      mid = c.loop-piece.self;
+      sends = so_far.1;
+      full = full;
+      waits = c.in_err-send_piece.ensures.none;
+    })
+    c.in_err-send_piece.ensures.fails)
