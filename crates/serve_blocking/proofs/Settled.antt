@@ -1,6 +1,6 @@
 -- How an answer's head is sent, and that an answer is begun.
-use Rattle.std.specs.Prelude.{◌≡◌, ◌⊎◌, ℕ, Bool, true, false, not, if◌then◌else◌, List, [], ◌∷◌, ◌++◌}
-use Rattle.std.proofs.Common.{refl, sym, ap, subst, ◌∙◌, inl, inr}
+use Rattle.std.specs.Prelude.{◌≡◌, ◌⊎◌, Bool, true, false, not, if◌then◌else◌, List, [], ◌∷◌, ◌++◌}
+use Rattle.std.proofs.Common.{refl, ap, subst, inl, inr}
 use Rattle.model_h1.specs.Answer.{AnswerHead, BodySize}
 use Rattle.model_h1.specs.Event as on
 use Rattle.model_h1.specs.Sums.{Step}
@@ -11,7 +11,7 @@ use Rattle.h1_encoder.specs.Meaning.{answer_of}
 use Rattle.h1_payload.specs.declared.pulled.Pulled.{Pulled}
 use Rattle.h1_payload.specs.declared.pulled.Pulled.TheVariants as pulled
 use Rattle.serve_blocking.specs.Served.{Line, Adds}
-use Rattle.serve_blocking.specs.Acts.{Doing, Does, Waits, Drops, DropsAll, PassesOver, ArePulls, IsPulled, Pulls, Says, IsBegun, Begins, closing, given_behind, has_last, is_last, may, step}
+use Rattle.serve_blocking.specs.Acts.{Doing, Waits, Drops, DropsAll, PassesOver, ArePulls, IsPulled, Pulls, Says, IsBegun, Begins, given_behind, has_last, is_last, may, step}
 use Rattle.serve_blocking.proofs.Waited.{doing_then, doing_as, does_equal, doing_wait, adds_does}
 use Rattle.serve_blocking.proofs.Dropped.{drops_do, no_pulls, are_pulls, pulls_both}
 

@@ -1,9 +1,9 @@
 -- What is done for a request, in steps that follow one another.
-use Rattle.std.specs.Prelude.{◌≡◌, ℕ, Bool, true, false, if◌then◌else◌, List, [], ◌∷◌, ◌++◌}
+use Rattle.std.specs.Prelude.{◌≡◌, Bool, true, false, if◌then◌else◌, List, [], ◌∷◌, ◌++◌}
 use Rattle.std.proofs.Common.{refl, sym, ap, subst, ◌∙◌, append_assoc, append-nil}
 use Rattle.model_h1.specs.Event.{Event, Outcome}
 use Rattle.model_h1.specs.Sums.{Step}
-use Rattle.serve_blocking.specs.Served.{Line, Base, IsServed, IsServedBehind, Follows, Adds}
+use Rattle.serve_blocking.specs.Served.{Line, Follows, Adds}
 use Rattle.serve_blocking.specs.Acts.{is_act, act_in, acts, Doing, Does, Waits}
 use Rattle.serve_blocking.proofs.Followed.{behind_then}
 

@@ -3,7 +3,7 @@ use Rattle.std.specs.Prelude.{◌≡◌, ◌≤◌, ℕ, Bool, true, false, eqb,
 use Rattle.std.proofs.Common.{arith, refl, sym, ap, ◌∙◌, append-nil, inl, inr}
 use Rattle.model_h1.specs.Event as on
 use Rattle.model_h1.specs.Sums.{Step, written}
-use Rattle.model_h1.specs.Text.{text, buffered}
+use Rattle.model_h1.specs.Text.{buffered}
 use Rattle.model_h1.proofs.WrittenLemmas.{written_buffered}
 use Rattle.h1_connection.specs.EventMeaning.{setting_of}
 use Rattle.h1_connection.specs.State.{State, Stands}

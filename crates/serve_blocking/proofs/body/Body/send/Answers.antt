@@ -1,9 +1,9 @@
-use Rattle.std.proofs.Common.{◌≡◌, ℕ, List, [], ◌++◌, refl, sym, ap, ◌∙◌, rules, append_assoc, append-nil}
+use Rattle.std.proofs.Common.{ℕ, List, [], ◌++◌, sym, ap, ◌∙◌, rules, append_assoc, append-nil}
 use Rattle.std.proofs.lemmas.List.{nil_from_length}
 use Rattle.std.specs.Slice.Iter.{chunks_rest}
-use Rattle.serve_blocking.specs.Acts.{Sends, SendsSome}
+use Rattle.serve_blocking.specs.Acts.{SendsSome}
 use Rattle.serve_blocking.specs.Fails.{NotSent}
-use Rattle.serve_blocking.proofs.Answered.{sends_none, sends_then, sends_wait, sends_as, sends_follow, some_follow}
+use Rattle.serve_blocking.proofs.Answered.{sends_none, sends_then, sends_wait, sends_as, sends_follow}
 use Rattle.serve_blocking.proofs.Failed.{fails_as}
 use Rattle.serve_blocking.proofs.Results.{err_as, on_err}
 use Rattle.serve_blocking.proofs.body.Body.send.Goals as goal

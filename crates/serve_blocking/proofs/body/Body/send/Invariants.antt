@@ -1,6 +1,6 @@
 use Rattle.std.proofs.Common.{◌≡◌, ℕ, List, ◌++◌}
 use Rattle.std.specs.Slice.Iter.{chunks_rest, chunks_size}
-use Rattle.serve_blocking.specs.Acts.{SendsSome, Sends}
+use Rattle.serve_blocking.specs.Acts.{Sends}
 use Rattle.serve_blocking.proofs.body.Body.send.Given as goal
 
 abbrev pub invariant-loop-piece : goal.invariant-loop-piece
