@@ -216,7 +216,7 @@ def judge_together(edits, status, said):
     """What a check of several edits shows: gives those that have errors of their own an outcome, and leaves the others untried.
     Where the prover can't read a text, or names a place outside of the changed functions, no line can be given to an edit."""
     lines = said.rstrip("\n").split("\n")
-    errors = [it for it in lines if PLACE.match(it) and ": error" in it]
+    errors = [it for it in lines if PLACE.match(it) and (": error" in it or "it is not proved that" in it)]
     if status != 1 or not any("not proved" in it for it in lines) or any(is_unread(it, edit) for it in errors for edit in edits):
         return
     by_edit = [[it for it in errors if is_of(edit, it)] for edit in edits]
