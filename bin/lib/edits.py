@@ -223,8 +223,9 @@ def judge_together(edits, status, said):
     if sum(map(len, by_edit)) != len(errors):
         return
     for edit, own in zip(edits, by_edit):
-        if own and not any(NAMES.match(it) for it in own):
-            edit.outcome, edit.said = GOAL, own[0]
+        goals = [it for it in own if not NAMES.match(it)]
+        if goals:
+            edit.outcome, edit.said = GOAL, goals[0]
 
 
 def is_of(edit, line):
