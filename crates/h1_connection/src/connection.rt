@@ -32,6 +32,7 @@ pub use crate::connection::frames::{Accepted, PulledFrame, Sent};
 pub use crate::connection::heads::{NextHead, NextKind};
 use crate::connection::output::Output;
 use crate::connection::parts::Parts;
+use crate::connection::spare::Spare;
 pub use crate::connection::ticks::Expiry;
 use crate::{End, Event, ReadFromError};
 use bytes::{Bytes, BytesMut};
@@ -65,6 +66,7 @@ mod questions;
 mod reading;
 mod request;
 mod show;
+mod spare;
 mod steps;
 mod ticks;
 
@@ -83,6 +85,7 @@ pub struct Connection {
     alloc: Global,
     config: ServiceConfig,
     parts: Parts,
+    spare: Spare,
 }
 
 impl Model for Connection {
@@ -105,6 +108,7 @@ impl Connection {
             alloc,
             config,
             parts: Parts::new(alloc),
+            spare: Spare::new(),
         }
     }
 
@@ -213,9 +217,8 @@ impl Connection {
         self.parts.eof(&self.config)
     }
 
-    /// Hands out the next request's head, or that the connection has ended. It takes no memory where it closes, and
-    /// where no head is there and room for more bytes.
-    ///
+    /// Hands out the next request's head, or that the connection has ended. It needs no memory where it closes, and
+    /// where no head is there and room for more bytes. The head stands in a block of its own, which `reuse` takes back.
     /// Where the connection closes, all that waits to be written is to be written first: after the end that this tells
     /// nothing may be, so the last answer would be lost. A request that is handed out may be answered.
     pub fn next(&mut self) -> Result<NextHead, NoMemory>
@@ -238,7 +241,7 @@ impl Connection {
         ensures no_memory_needed { NeedsNoMemory (setting_of self.old.settings) self.old.kept → IsOk result }
         ensures err { OnErr result (self.new ≡ self.old) }
     {
-        self.parts.next(self.alloc, &self.config)
+        self.parts.next(self.alloc, &self.config, &mut self.spare)
     }
 
     /// The same, with a head that is written over `item`, the memory of whose map is used again, and with room that the
@@ -323,8 +326,7 @@ impl Connection {
         self.parts.send(&self.config, message)
     }
 
-    /// Tells the client of the open request to go on, which waits for leave to send its body (RFC 7231, section 5.1.1).
-    /// The request may still be answered.
+    /// Tells the client to send the body that it holds back (RFC 7231, section 5.1.1). The request may still be answered.
     pub fn send_continue(&mut self) -> Result<(), NoMemory>
         requires can_continue { IsAllowed self.old on.send_continue }
         ensures stands { OnOk result (GoesOn self.old on.send_continue (Is on.done) self.new) }
@@ -335,8 +337,7 @@ impl Connection {
         self.parts.send_continue(&self.config)
     }
 
-    /// Answers the open request with this head, and with a body of this size. Unless there is no body or it has 0 bytes, it
-    /// may then be handed in.
+    /// Answers the open request with this head, and with a body of this size, which may then be handed in unless it is empty.
     pub fn answer(&mut self, head: &ResponseHead, size: BodySize) -> Result<(), NoMemory>
         requires can_answer { IsAllowed self.old (on.answer (answer_of head.now) (size_of size)) }
         ensures stands { OnOk result (GoesOn self.old (on.answer (answer_of head.now) (size_of size)) (Is on.done) self.new) }
@@ -484,11 +485,10 @@ impl Connection {
         ensures no_memory_needed { IsQuietTick (setting_of self.old.settings) self.old.kept moment → IsOk result }
         ensures err { OnErr result (self.new ≡ self.old) }
     {
-        self.parts.tick(&self.config, moment)
+        self.parts.tick(&self.config, &mut self.spare, moment)
     }
 
-    /// The connection is to end once no request is open. One that was upgraded to WebSocket drains at once. It takes no
-    /// memory.
+    /// The connection is to end once no request is open, one that was upgraded to WebSocket at once. It takes no memory.
     pub fn drain(&mut self)
         requires can_drain { IsAllowed self.old on.drain }
         ensures stands { GoesOn self.old on.drain (Is on.done) self.new }

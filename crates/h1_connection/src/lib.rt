@@ -13,6 +13,8 @@
 //!     && let NextHead::Head(item) = connection.next()?
 //! {
 //!     connection.answer(&head, BodySize::ZERO)?;
+//!     // The next head is written over this one.
+//!     connection.reuse(item);
 //!     // What is to be written.
 //!     let bytes = connection.stretch();
 //! }
@@ -33,7 +35,6 @@
 //! an event, and changes nothing; what takes no memory says so.
 #![tactic(auto)]
 
-mod boxed;
 mod connection;
 mod driver;
 mod error;
@@ -44,7 +45,6 @@ mod said;
 mod step;
 mod trace;
 
-pub use boxed::Boxed;
 pub use bytes::Bytes;
 pub use connection::{
     Accepted, Connection, Expiry, NextHead, NextKind, PulledFrame, READ_SIZE, Sent,
@@ -56,7 +56,7 @@ pub use h1_decoder::{HeadItem, HeadRoom};
 pub use h1_payload::{BodyFault, Pulled};
 pub use http_framing::{BodyKind, BodySize};
 pub use http_types::{
-    ConnectionType, Failed, HeaderMap, KeepAlive, NoMemory, RequestHead, ResponseHead,
+    Boxed, ConnectionType, Failed, HeaderMap, KeepAlive, NoMemory, RequestHead, ResponseHead,
     ServiceConfig, ServiceConfigBuilder, Sink, Source, StatusCode, StdSink, StdSource,
 };
 pub use noted::Noted;

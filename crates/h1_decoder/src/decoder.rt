@@ -21,7 +21,7 @@ use crate::scan::line_end_len;
 use bytes::{Bytes, BytesMut};
 use http::method::MethodError;
 use http_framing::BodyKind;
-use http_types::{Method, NoMemory, ParseError, RequestHead, Uri, Version};
+use http_types::{Boxed, Method, NoMemory, ParseError, RequestHead, Uri, Version};
 use http_uri::UriError;
 use httparse::spans::{EMPTY_HEADER_SPAN, HeaderSpan, RequestSpans, Span, parse_request};
 use httparse::{Error, Status};
@@ -34,8 +34,8 @@ pub(crate) const MAX_HEADERS: usize = 96;
 /// A head that was read, with its body's kind.
 #[derive(Debug, Drop)]
 pub struct HeadItem {
-    /// The method, the target, the version and the headers.
-    pub head: RequestHead,
+    /// The method, the target, the version and the headers, in a block that goes from hand to hand.
+    pub head: Boxed<RequestHead>,
 
     /// The request target as the head spells it (RFC 7230, section 5.3).
     pub target: Bytes,
@@ -45,31 +45,53 @@ pub struct HeadItem {
 }
 
 impl HeadItem {
-    /// A GET of `/` by HTTP/1.1 without headers and without a body: a place for heads that are read over it. It takes
-    /// no memory.
-    pub fn new(alloc: Global) -> HeadItem
-        ensures method { result.head.method ≡ codes "GET" }
-        ensures uri { HasParts result.head.uri None None (codes "/") }
-        ensures version { result.head.version ≡ HTTP_11 }
-        ensures headers { result.head.headers ≡ [] }
-        ensures peer { result.head.peer_addr ≡ None }
-        ensures flags { request_flags result.head ≡ no_flags }
-        ensures target { result.target ≡ codes "/" }
-        ensures body { result.body ≡ BodyKind.None }
+    /// A GET of `/` by HTTP/1.1 without headers and without a body: a place for heads that are read over it. Its block is
+    /// all the memory that it takes.
+    pub fn new(alloc: Global) -> Result<HeadItem, NoMemory>
+        ensures method { IfOk result (λ item. item.head.method ≡ codes "GET") }
+        ensures uri { IfOk result (λ item. HasParts item.head.uri None None (codes "/")) }
+        ensures version { IfOk result (λ item. item.head.version ≡ HTTP_11) }
+        ensures headers { IfOk result (λ item. item.head.headers ≡ []) }
+        ensures peer { IfOk result (λ item. item.head.peer_addr ≡ None) }
+        ensures flags { IfOk result (λ item. request_flags item.head ≡ no_flags) }
+        ensures target { IfOk result (λ item. item.target ≡ codes "/") }
+        ensures body { IfOk result (λ item. item.body ≡ BodyKind.None) }
     {
-        HeadItem {
-            head: RequestHead::new(alloc),
+        let head = Boxed::new(alloc, RequestHead::new(alloc))?;
+        Ok(HeadItem {
+            head,
             target: Bytes::from_static(b"/"),
             body: BodyKind::None,
-        }
+        })
+    }
+
+    /// Takes the headers away. Their map keeps its memory.
+    pub fn clear_headers(&mut self)
+        ensures { self.new ≡ without_headers self.old }
+    {
+        let head = self.head.get_mut();
+        head.headers.clear();
+    }
+
+    /// Lets go what it shares with the bytes that it was read from: its target and its headers. Its map keeps its memory.
+    pub fn let_go(&mut self)
+        ensures headers { self.new.head.headers ≡ [] }
+        ensures uri { HasParts self.new.head.uri None None (codes "/") }
+        ensures target { self.new.target ≡ codes "/" }
+    {
+        let head = self.head.get_mut();
+        head.headers.clear();
+        head.uri = Uri::default();
+        self.target = Bytes::from_static(b"/");
     }
 
     /// An equal head, as `clone` gives it too.
     pub fn copy(&self) -> Result<HeadItem, NoMemory>
         ensures { IfOk result (λ copy. copy ≡ self.now) }
     {
+        let head = self.head.get().copy()?;
         Ok(HeadItem {
-            head: self.head.copy()?,
+            head: Boxed::new(self.head.allocator(), head)?,
             target: self.target.clone()?,
             body: self.body,
         })
@@ -126,7 +148,9 @@ pub fn request_head_in(
     ensures fault { IfErr result (λ e. UnlessNoMemory e (IsReading piece (faulty (fault_of e)))) }
     ensures cause { IfErr result (λ e. UnlessNoMemory e (Refuses e piece)) }
 {
-    let mut item = HeadItem::new(alloc);
+    let Ok(mut item) = HeadItem::new(alloc) else {
+        return Err(ParseError::NoMemory);
+    };
     read_over(alloc, &mut item, room, &piece)?;
     Ok(item)
 }
@@ -144,12 +168,14 @@ pub fn read_head_into(
     ensures cause { IfErr result (λ e. UnlessNoMemory e (Refuses e piece.now)) }
     ensures err { OnErr result (item.new ≡ without_headers item.old) }
 {
-    item.head.headers.clear();
-    let result = read_over(alloc, item, room, piece);
-    if result.is_err() {
-        item.head.headers.clear();
+    item.clear_headers();
+    match read_over(alloc, item, room, piece) {
+        Ok(()) => Ok(()),
+        Err(error) => {
+            item.clear_headers();
+            Err(error)
+        }
     }
-    result
 }
 
 /// Reads a head over one without headers, part by part, so that nothing large is moved. After an error
@@ -201,7 +227,7 @@ pub fn cut_head_into(
     let Some(spans) = parse_front(buffer.as_slice(), &mut room.fields) else {
         return Ok(false);
     };
-    item.head.headers.clear();
+    item.clear_headers();
     match buffer.freeze_to(spans.len) {
         Ok(head) => *front = head,
         Err(_) => return Err(ParseError::NoMemory),
@@ -209,7 +235,7 @@ pub fn cut_head_into(
     match read_parts_over(alloc, item, front, spans, &room.fields[..spans.headers]) {
         Ok(()) => Ok(true),
         Err(error) => {
-            item.head.headers.clear();
+            item.clear_headers();
             Err(error)
         }
     }
@@ -322,20 +348,21 @@ fn read_parts_over(
     ensures err { OnErr result (without_headers item.new ≡ without_headers item.old) }
 {
     let method = read_method(alloc, spans.method.of(piece.as_slice()))?;
+    let head = item.head.get_mut();
     let lines = read_lines(
         alloc,
         piece,
         fields,
         spans.version,
         method.as_str(),
-        &mut item.head.headers,
+        &mut head.headers,
     );
     match lines {
         Ok((framing, body)) => {
             let target = share(piece, spans.path)?;
-            put_uri(&mut item.head.uri, &target)?;
-            item.head.restart(method, read_version(spans.version));
-            framing.mark(&mut item.head);
+            put_uri(&mut head.uri, &target)?;
+            head.restart(method, read_version(spans.version));
+            framing.mark(head);
             item.target = target;
             item.body = body;
             Ok(())

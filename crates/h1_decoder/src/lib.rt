@@ -27,6 +27,7 @@ mod lax;
 mod lines;
 mod response;
 mod scan;
+mod usual;
 mod value;
 
 pub use decoder::{

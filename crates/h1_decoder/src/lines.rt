@@ -12,6 +12,7 @@ ghost use Rattle.h1_decoder.specs.Lines.{HasValue, RefusesLinesOf};
 ghost use Rattle.h1_decoder.specs.Refusal.{IsHeaderUnlessNoMemory};
 
 use crate::framing::Framing;
+use crate::usual::usual_name;
 use bytes::Bytes;
 use http_framing::{BodyKind, known_value};
 use http_header::HeaderNameError;
@@ -82,12 +83,15 @@ pub(crate) fn read_headers(
     Ok(framing)
 }
 
-/// The name of a line.
+/// The name of a line. Most lines have one of a few names, for which nothing is searched.
 fn read_name(alloc: Global, src: &[u8]) -> Result<HeaderName, ParseError>
     ensures name { IfOk result (λ name. name ≡ lowercase src.now) }
     ensures valid { OnOk result (IsFieldName src.now) }
     ensures refused { IfErr result (λ e. IsHeaderUnlessNoMemory e (¬ (IsFieldName src.now))) }
 {
+    if let Some(name) = usual_name(src) {
+        return Ok(name);
+    }
     match HeaderName::from_bytes(alloc, src) {
         Ok(name) => Ok(name),
         Err(HeaderNameError::Invalid) => Err(ParseError::Header),

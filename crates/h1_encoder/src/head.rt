@@ -11,14 +11,23 @@ ghost use Rattle.h1_encoder.specs.WrittenLines.{Grows, status_words};
 
 use crate::Asked;
 use crate::date::DateLine;
-use crate::headers::put_headers;
+use crate::headers::{END_LEN, put_headers};
 use crate::shape::{Shape, is_bodiless, shape_of};
 use bytes::BytesMut;
 use http_framing::BodySize;
 use http_types::{ConnectionType, NoMemory, ResponseHead, StatusCode};
 
-// What a head has beside its own headers and a reason of its own, but for rare lengths of its body.
+// What a head has beside its own headers and a reason of its own.
 const USUAL_LEN: usize = 160;
+
+// The most that the line has that frames the body, with the line end before it.
+const FRAMING_LEN: usize = 40;
+
+// The most that the connection line has.
+const CONNECTION_LEN: usize = 24;
+
+// What is to be left behind the status line, so that nothing but the header lines asks for room again.
+const REST_LEN: usize = FRAMING_LEN + CONNECTION_LEN + END_LEN;
 
 // What a header line has in the mean.
 const USUAL_LINE_LEN: usize = 40;
@@ -70,26 +79,40 @@ fn put_head(
     let lines = head.headers.len().saturating_mul(USUAL_LINE_LEN);
     out.reserve(lines.saturating_add(USUAL_LEN))?;
     put_status(out, asked, head)?;
-    put_framing(out, camel, head.status, shape, size)?;
-    put_connection(out, asked, camel, connection)?;
+    put_framing(out, camel, head.status, shape, size);
+    put_connection(out, asked, camel, connection);
     let has_date = put_headers(out, head, shape, camel)?;
-    put_end_of_head(out, camel, has_date, date)
+    put_end_of_head(out, camel, has_date, date);
+    Ok(())
 }
 
-// The status line, without its line end. The most common one is there as a whole.
+// The status line, without its line end. The most common one is there as a whole, and there is room for it. Behind each
+// there is room for the rest of a head without headers.
 fn put_status(out: &mut BytesMut, asked: Asked, head: &ResponseHead) -> Result<(), NoMemory>
+    requires { 160 ≤ out.old.spare }
     ensures ok { OnOk result (out.new.items ≡ out.old.items ++ status_words asked.minor (answer_of head.now)) }
+    ensures room { OnOk result (103 ≤ out.new.spare) }
     ensures err { OnErr result (out.new.items ≡ out.old.items) }
 {
     if is_plain_ok(asked, head) {
-        return out.extend_from_slice(b"HTTP/1.1 200 OK");
+        put_plain_ok(out);
+        return Ok(());
     }
     let start = status_start(asked.minor(), head.status);
     let reason = head.reason().as_bytes();
-    out.reserve(start.len() + reason.len())?;
+    out.reserve(start.len() + reason.len() + REST_LEN)?;
     out.extend_reserved(&start);
     out.extend_reserved(reason);
     Ok(())
+}
+
+// The most common one.
+fn put_plain_ok(out: &mut BytesMut)
+    requires { 15 ≤ out.old.spare }
+    ensures items { out.new.items ≡ out.old.items ++ codes "HTTP/1.1 200 OK" }
+    ensures spare { out.new.spare + 15 ≡ out.old.spare }
+{
+    out.extend_reserved(b"HTTP/1.1 200 OK");
 }
 
 // Whether it is that one.
@@ -122,31 +145,28 @@ fn status_start(minor: u8, status: StatusCode) -> [u8; 13]
     ]
 }
 
-// The line end of the status line, and the line that frames the body, if there is one.
-fn put_framing(
-    out: &mut BytesMut,
-    camel: bool,
-    status: StatusCode,
-    shape: Shape,
-    size: BodySize,
-) -> Result<(), NoMemory>
-    ensures ok { OnOk result (out.new.items ≡ out.old.items ++ (crlf_bytes
-        ++ (if answers.is_bodiless status then [] else texts.size_line camel (model_shape shape) (size_of size)))) }
-    ensures err { OnErr result (out.new.items ≡ out.old.items) }
+// The line end of the status line, and the line that frames the body, if there is one. There is room for both.
+fn put_framing(out: &mut BytesMut, camel: bool, status: StatusCode, shape: Shape, size: BodySize)
+    requires { 40 ≤ out.old.spare }
+    ensures items { out.new.items ≡ out.old.items ++ (crlf_bytes
+        ++ (if answers.is_bodiless status then [] else texts.size_line camel (model_shape shape) (size_of size))) }
+    ensures spare { out.old.spare ≤ out.new.spare + 40 }
 {
     if is_bodiless(status) {
-        return out.extend_from_slice(b"\r\n");
+        out.extend_reserved(b"\r\n");
+        return;
     }
     match size {
-        BodySize::Sized(0) if !camel => out.extend_from_slice(b"\r\ncontent-length: 0\r\n"),
-        BodySize::Sized(length) => write_content_length(length, out, camel),
-        BodySize::Stream if shape == Shape::Chunked => out.extend_from_slice(chunked_line(camel)),
-        BodySize::None | BodySize::Stream => out.extend_from_slice(b"\r\n"),
+        BodySize::Sized(0) if !camel => out.extend_reserved(b"\r\ncontent-length: 0\r\n"),
+        BodySize::Sized(length) => put_length(out, length, camel),
+        BodySize::Stream if shape == Shape::Chunked => out.extend_reserved(chunked_line(camel)),
+        BodySize::None | BodySize::Stream => out.extend_reserved(b"\r\n"),
     }
 }
 
 fn chunked_line(camel: bool) -> &'static [u8]
-    ensures { result.now ≡ crlf_bytes ++ texts.stream_line camel answers.shape_chunked }
+    ensures text { result.now ≡ crlf_bytes ++ texts.stream_line camel answers.shape_chunked }
+    ensures len { length result.now ≤ 40 }
 {
     if camel {
         b"\r\nTransfer-Encoding: chunked\r\n"
@@ -161,14 +181,23 @@ pub fn write_content_length(n: u64, out: &mut BytesMut, camel_case: bool) -> Res
     ensures ok { OnOk result (out.new.items ≡ out.old.items ++ (crlf_bytes ++ content_length_line camel_case n)) }
     ensures err { OnErr result (out.new.items ≡ out.old.items) }
 {
+    out.reserve(FRAMING_LEN)?;
+    put_length(out, n, camel_case);
+    Ok(())
+}
+
+// The same, where there is room.
+fn put_length(out: &mut BytesMut, n: u64, camel: bool)
+    requires { 40 ≤ out.old.spare }
+    ensures items { out.new.items ≡ out.old.items ++ (crlf_bytes ++ content_length_line camel n) }
+    ensures spare { out.old.spare ≤ out.new.spare + 40 }
+{
     let mut digits = itoa::Buffer::new();
     let digits = digits.format(n).as_bytes();
-    let name = length_name(camel_case);
-    out.reserve(20 + digits.len())?;
+    let name = length_name(camel);
     out.extend_reserved(name);
     out.extend_reserved(digits);
     out.extend_reserved(b"\r\n");
-    Ok(())
 }
 
 fn length_name(camel: bool) -> &'static [u8; 18]
@@ -181,26 +210,23 @@ fn length_name(camel: bool) -> &'static [u8; 18]
     }
 }
 
-// The line that says what becomes of the connection, if there is one.
-fn put_connection(
-    out: &mut BytesMut,
-    asked: Asked,
-    camel: bool,
-    connection: ConnectionType,
-) -> Result<(), NoMemory>
-    ensures ok { OnOk result (out.new.items ≡ out.old.items ++ texts.connection_line asked.minor camel (model_type connection)) }
-    ensures err { OnErr result (out.new.items ≡ out.old.items) }
+// The line that says what becomes of the connection, if there is one. There is room for it.
+fn put_connection(out: &mut BytesMut, asked: Asked, camel: bool, connection: ConnectionType)
+    requires { 24 ≤ out.old.spare }
+    ensures items { out.new.items ≡ out.old.items ++ texts.connection_line asked.minor camel (model_type connection) }
+    ensures spare { out.old.spare ≤ out.new.spare + 24 }
 {
     let line = connection_line(asked, camel, connection);
     if line.is_empty() {
-        return Ok(());
+        return;
     }
-    out.extend_from_slice(line)
+    out.extend_reserved(line)
 }
 
 // That line, where the version alone doesn't say it.
 fn connection_line(asked: Asked, camel: bool, connection: ConnectionType) -> &'static [u8]
-    ensures { result.now ≡ texts.connection_line asked.minor camel (model_type connection) }
+    ensures text { result.now ≡ texts.connection_line asked.minor camel (model_type connection) }
+    ensures len { length result.now ≤ 24 }
 {
     match connection {
         ConnectionType::Upgrade if camel => b"Connection: Upgrade\r\n",
@@ -214,34 +240,28 @@ fn connection_line(asked: Asked, camel: bool, connection: ConnectionType) -> &'s
     }
 }
 
-// The date line, unless there is one, and the empty line.
-fn put_end_of_head(
-    out: &mut BytesMut,
-    camel: bool,
-    has_date: bool,
-    date: &DateLine,
-) -> Result<(), NoMemory>
-    ensures ok { OnOk result ((now : ℕ) → now / 1000 ≡ date.now → out.new.items ≡ out.old.items
-        ++ ((if has_date then [] else date_line camel now) ++ crlf_bytes)) }
-    ensures err { OnErr result (out.new.items ≡ out.old.items) }
+// The date line, unless there is one, and the empty line. There is room for both.
+fn put_end_of_head(out: &mut BytesMut, camel: bool, has_date: bool, date: &DateLine)
+    requires { 39 ≤ out.old.spare }
+    ensures { (now : ℕ) → now / 1000 ≡ date.now → out.new.items ≡ out.old.items
+        ++ ((if has_date then [] else date_line camel now) ++ crlf_bytes) }
 {
     if has_date {
-        return out.extend_from_slice(b"\r\n");
+        out.extend_reserved(b"\r\n");
+        return;
     }
     if camel {
         put_camel_date(out, date)
     } else {
-        out.extend_from_slice(date.as_bytes())
+        out.extend_reserved(date.as_bytes())
     }
 }
 
-fn put_camel_date(out: &mut BytesMut, date: &DateLine) -> Result<(), NoMemory>
-    ensures ok { OnOk result ((now : ℕ) → now / 1000 ≡ date.now → out.new.items ≡ out.old.items ++ (date_line true now ++ crlf_bytes)) }
-    ensures err { OnErr result (out.new.items ≡ out.old.items) }
+fn put_camel_date(out: &mut BytesMut, date: &DateLine)
+    requires { 39 ≤ out.old.spare }
+    ensures { (now : ℕ) → now / 1000 ≡ date.now → out.new.items ≡ out.old.items ++ (date_line true now ++ crlf_bytes) }
 {
     let line = date.as_bytes();
-    out.reserve(line.len())?;
     out.extend_reserved(b"Date");
     out.extend_reserved(&line[4..]);
-    Ok(())
 }

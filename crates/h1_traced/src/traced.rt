@@ -14,8 +14,8 @@ ghost use Rattle.h1_traced.specs.Traced.{traced_of, TracedStands, TracedSteps, T
 use crate::Recorder;
 use crate::notes::{Bare, note_bare, note_made, note_next, note_read, note_step, note_tick};
 use h1_connection::{
-    BodySize, Boxed, Bytes, Connection, Event, Expiry, NextHead, NoMemory, Outcome, Pulled,
-    ResponseHead, ServiceConfig,
+    BodySize, Boxed, Bytes, Connection, Event, Expiry, HeadItem, NextHead, NoMemory, Outcome,
+    Pulled, ResponseHead, ServiceConfig,
 };
 use std::alloc::Global;
 use std::marker::Model;
@@ -140,6 +140,13 @@ impl<L: Recorder> Traced<L> {
     {
         let next = self.connection.next()?;
         note_next(&mut self.recorder, next)
+    }
+
+    /// Takes back a head that was handed out, which is no event. The next one is written over it.
+    pub fn reuse(&mut self, item: HeadItem)
+        ensures { self.new ≡ self.old }
+    {
+        self.connection.reuse(item);
     }
 
     /// The first bytes that wait were written to the peer. They are copied for a recorder that listens.

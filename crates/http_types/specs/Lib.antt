@@ -1,3 +1,4 @@
+pub mod BoxedLends
 pub mod ConnectionType
 pub mod Error
 pub mod Flags

@@ -24,6 +24,7 @@
 //! whose head was taken answers `Reused`. Want of memory leaves everything as it was.
 #![tactic(auto)]
 
+mod boxed;
 mod error;
 mod http_message;
 mod message;
@@ -31,6 +32,7 @@ mod requests;
 mod responses;
 mod text;
 
+pub use boxed::Boxed;
 pub use error::{
     Cause, ContentTypeError, DispatchError, Error, HttpError, Kind, ParseError, PayloadError,
 };

@@ -56,7 +56,7 @@ impl Proxy {
     {
         let refusal = refusal_of(&self.config.edge, &item);
         self.server = None;
-        self.note_request(item.head);
+        self.note_request(item.head.into_inner());
         self.reply(refusal)?;
         Ok(())
     }

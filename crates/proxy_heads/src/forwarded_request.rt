@@ -75,10 +75,11 @@ pub fn forwarded_head(alloc: Global, edge: &Edge, item: HeadItem) -> Result<Requ
 {
     let named = named_host(alloc, &item)?;
     let asks_for_all = asks_for_all(item.head.method.as_str(), item.target.as_slice());
-    let version = item.head.version;
-    let mut headers = item.head.headers;
-    let method = item.head.method;
-    let uri = uri_sent(asks_for_all, item.head.uri);
+    let head = item.head.into_inner();
+    let version = head.version;
+    let mut headers = head.headers;
+    let method = head.method;
+    let uri = uri_sent(asks_for_all, head.uri);
     remove_unforwarded(&mut headers, edge.trusts_client);
     add_own(&mut headers, edge, named, version)?;
     // Called for its clause alone: the lines stand name by name.

@@ -8,7 +8,7 @@ ghost use Rattle.raspcream.specs.contracts.machine.Machine.{the_row as machine_r
 ghost use Rattle.raspcream.specs.declared.machine.Machine.{Machine as M};
 
 use crate::call::call;
-use crate::config::Config;
+use crate::config::{Config, settings};
 use crate::machine::{Machine, fresh};
 use crate::reply::Reply;
 use std::alloc::Global;
@@ -32,8 +32,11 @@ fn made(alloc: Global, config: &Config) -> Result<Box<Machine>, u32>
     ensures can_be { IsOk result → CannotBe config.now → ⊥ }
     ensures code { IfErr result (λ code. ((code ≡ 1) × (CannotBe config.now → ⊥)) ⊎ ((code ≡ 3) × CannotBe config.now)) }
 {
-    let Some(machine) = fresh(alloc, config) else {
+    let Some(settings) = settings(config) else {
         return Err(3);
+    };
+    let Ok(machine) = fresh(alloc, config, settings) else {
+        return Err(1);
     };
     match Box::new(alloc, machine) {
         Ok(machine) => Ok(machine),

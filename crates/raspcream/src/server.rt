@@ -14,7 +14,7 @@ use crate::reply::{
     tell_number,
 };
 use crate::told::{numbers_of, reason_of, tell_expiry, tell_next};
-use h1_connection::{Connection, Frame, HeadItem, HeadRoom, ServiceConfig};
+use h1_connection::{Connection, Frame, HeadItem, HeadRoom, NoMemory, ServiceConfig};
 use std::alloc::Global;
 use std::marker::Model;
 
@@ -39,18 +39,19 @@ impl Model for Server {
 
 impl Server {
     /// A fresh one.
-    pub fn new(alloc: Global, config: ServiceConfig) -> Server
-        ensures value { result ≡ fresh_state config }
-        ensures stands { Stands result [] }
+    pub fn new(alloc: Global, config: ServiceConfig) -> Result<Server, NoMemory>
+        ensures value { IfOk result (λ server. server ≡ fresh_state config) }
+        ensures stands { IfOk result (λ server. Stands server []) }
     {
-        Server {
+        let item = HeadItem::new(alloc)?;
+        Ok(Server {
             alloc,
             connection: Connection::new(alloc, config),
-            item: HeadItem::new(alloc),
+            item,
             room: HeadRoom::new(),
             handed: Handed::new(),
             frame: None,
-        }
+        })
     }
 
     /// Bytes that were read.

@@ -81,7 +81,7 @@ fn serve<S: TimedSource, K: TimedSink, H: Handler>(
     ensures handles { Handles body.old (H.handled handler.old) body.new (H.handled handler.new) }
     ensures ends { IfOk result (λ end. HandlesToEnd body.old (H.handled handler.old) end body.new (H.handled handler.new)) }
 {
-    let mut item = HeadItem::new(alloc);
+    let mut item = HeadItem::new(alloc)?;
     let mut room = HeadRoom::new();
     body.tick()?;
     for _ in 0..u64::MAX {

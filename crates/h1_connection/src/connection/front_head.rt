@@ -88,7 +88,7 @@ pub fn read_found(
         return Ok(false);
     };
     let Ok(()) = cut(head_bytes, bytes, end) else {
-        item.head.headers.clear();
+        item.clear_headers();
         return Err(ParseError::NoMemory);
     };
     match read_piece(alloc, item, room, head_bytes, start) {
@@ -145,7 +145,7 @@ fn read_behind_blank_lines(
     ensures err { OnErr result (item.new ≡ without_headers item.old) }
 {
     let Ok(head) = bytes.slice(start..bytes.len()) else {
-        item.head.headers.clear();
+        item.clear_headers();
         return Err(ParseError::NoMemory);
     };
     read_head_into(alloc, item, room, &head)

@@ -20,6 +20,7 @@ use crate::connection::exchange::{Exchange, Reply};
 use crate::connection::parts::Parts;
 use crate::connection::reading::Reading;
 use crate::connection::request::Request;
+use crate::connection::spare::Spare;
 use crate::{End, HeadFault};
 use h1_decoder::{HeadItem, HeadRoom};
 use h1_encoder::Asked;
@@ -61,8 +62,14 @@ pub enum NextKind {
 }
 
 impl Parts {
-    /// Hands out the connection's end where it is to end, and else the next head.
-    pub fn next(&mut self, alloc: Global, config: &ServiceConfig) -> Result<NextHead, NoMemory>
+    /// Hands out the connection's end where it is to end, and else the next head, over the one that is spare or over a new
+    /// one.
+    pub fn next(
+        &mut self,
+        alloc: Global,
+        config: &ServiceConfig,
+        spare: &mut Spare,
+    ) -> Result<NextHead, NoMemory>
         requires { IsSound config.now self.old }
         ensures ok { IfOk result (λ next. IsHeld config.now self.old → IsNexted config.now self.old next self.new) }
         ensures marks { OnOk result (self.new.output.marks ≡ self.old.output.marks) }
@@ -75,12 +82,69 @@ impl Parts {
         if self.input.has_none() {
             return self.next_without(config);
         }
-        let mut item = HeadItem::new(alloc);
-        match self.next_into(alloc, config, &mut item, &mut HeadRoom::new())? {
-            NextKind::Head => Ok(NextHead::Head(item)),
+        if let Some(end) = self.noted_closing(config) {
+            self.is_over = true;
+            return Ok(NextHead::Closed(end));
+        }
+        let Ok(room) = spare.take_room(alloc) else {
+            return self.next_starved(config);
+        };
+        let Ok(item) = spare.take_item(alloc) else {
+            spare.keep_room(room);
+            return self.next_starved(config);
+        };
+        self.next_in(alloc, config, spare, item, room)
+    }
+
+    // The same, over this head. Where none comes, it is kept.
+    fn next_in(
+        &mut self,
+        alloc: Global,
+        config: &ServiceConfig,
+        spare: &mut Spare,
+        item: HeadItem,
+        room: Box<HeadRoom>,
+    ) -> Result<NextHead, NoMemory>
+        requires sound { IsSound config.now self.old }
+        requires runs { closing_by (setting_of config.now) (kept_of self.old) ≡ None }
+        ensures ok { IfOk result (λ next. IsHeld config.now self.old → IsNexted config.now self.old next self.new) }
+        ensures marks { OnOk result (self.new.output.marks ≡ self.old.output.marks) }
+        ensures ahead { IfOk result (λ next. MayAsk (setting_of config.now) (kept_of self.old) → IsHeld config.now self.old → NumberGoes config.now self.old next self.new) }
+        ensures opened { IfOk result (λ next. is_head next ≡ true → HasOpened (setting_of config.now) self.old.is_over (kept_of self.new)) }
+        ensures sound { OnOk result (IsSound config.now self.new) }
+        ensures no_memory_needed { NeedsNoMemory (setting_of config.now) (kept_of self.old) → IsOk result }
+        ensures err { OnErr result (self.new ≡ self.old) }
+    {
+        let mut item = item;
+        let mut room = room;
+        match self.read_next(alloc, config, &mut item, room.as_mut()) {
+            Ok(kind) => Ok(handed_out(spare, kind, item, room)),
+            Err(error) => {
+                spare.keep(item, room);
+                Err(error)
+            }
+        }
+    }
+
+    // The same where no block is to be had, which is no error where no whole head is there.
+    #[cold]
+    fn next_starved(&mut self, config: &ServiceConfig) -> Result<NextHead, NoMemory>
+        requires sound { IsSound config.now self.old }
+        requires runs { closing_by (setting_of config.now) (kept_of self.old) ≡ None }
+        ensures ok { IfOk result (λ next. IsHeld config.now self.old → IsNexted config.now self.old next self.new) }
+        ensures marks { OnOk result (self.new.output.marks ≡ self.old.output.marks) }
+        ensures ahead { IfOk result (λ next. MayAsk (setting_of config.now) (kept_of self.old) → IsHeld config.now self.old → NumberGoes config.now self.old next self.new) }
+        ensures no_head { IfOk result (λ next. is_head next ≡ false) }
+        ensures sound { OnOk result (IsSound config.now self.new) }
+        ensures no_memory_needed { NeedsNoMemory (setting_of config.now) (kept_of self.old) → IsOk result }
+        ensures err { OnErr result (self.new ≡ self.old) }
+    {
+        if !self.input.lacks_head() {
+            return Err(AllocError);
+        }
+        match self.go_without(config)? {
             NextKind::Fault(fault) => Ok(NextHead::Fault(fault)),
-            NextKind::Pending => Ok(NextHead::Pending),
-            NextKind::Closed(end) => Ok(NextHead::Closed(end)),
+            _ => Ok(NextHead::Pending),
         }
     }
 
@@ -130,6 +194,30 @@ impl Parts {
             self.is_over = true;
             return Ok(NextKind::Closed(end));
         }
+        self.read_next(alloc, config, item, room)
+    }
+
+    // The same where the connection isn't to end.
+    #[inline(always)]
+    fn read_next(
+        &mut self,
+        alloc: Global,
+        config: &ServiceConfig,
+        item: &mut HeadItem,
+        room: &mut HeadRoom,
+    ) -> Result<NextKind, NoMemory>
+        requires sound { IsSound config.now self.old }
+        requires runs { closing_by (setting_of config.now) (kept_of self.old) ≡ None }
+        ensures ok { IfOk result (λ kind. IsHeld config.now self.old → IsNexted config.now self.old (with_head item.new kind) self.new) }
+        ensures marks { OnOk result (self.new.output.marks ≡ self.old.output.marks) }
+        ensures ahead { IfOk result (λ kind. MayAsk (setting_of config.now) (kept_of self.old) → IsHeld config.now self.old → NumberGoes config.now self.old (with_head item.new kind) self.new) }
+        ensures opened { IfOk result (λ kind. is_head_kind kind ≡ true → HasOpened (setting_of config.now) self.old.is_over (kept_of self.new)) }
+        ensures sound { OnOk result (IsSound config.now self.new) }
+        ensures item { IfOk result (λ kind. KeepsItem (kept_of self.old).is_coming kind item.old item.new) }
+        ensures no_memory_needed { NeedsNoMemory (setting_of config.now) (kept_of self.old) → IsOk result }
+        ensures err { OnErr result (self.new ≡ self.old) }
+        ensures kept_item { OnErr result (LosesAtMostHeaders (kept_of self.old).is_coming item.old item.new) }
+    {
         match self.input.take_head(alloc, item, room) {
             Ok(true) => {
                 self.open(item);
@@ -218,6 +306,30 @@ impl Parts {
             self.input.end(&mut rest);
         }
         rest
+    }
+}
+
+// What comes, with its head. Where none came, that is spare.
+fn handed_out(spare: &mut Spare, kind: NextKind, item: HeadItem, room: Box<HeadRoom>) -> NextHead
+    ensures { result ≡ with_head item kind }
+{
+    match kind {
+        NextKind::Head => {
+            spare.keep_room(room);
+            NextHead::Head(item)
+        }
+        NextKind::Fault(fault) => {
+            spare.keep(item, room);
+            NextHead::Fault(fault)
+        }
+        NextKind::Pending => {
+            spare.keep(item, room);
+            NextHead::Pending
+        }
+        NextKind::Closed(end) => {
+            spare.keep(item, room);
+            NextHead::Closed(end)
+        }
     }
 }
 

@@ -106,6 +106,18 @@ impl Intake {
         self.input.has_none()
     }
 
+    /// Whether no whole head is there. The bytes are scanned where that isn't known.
+    pub fn lacks_head(&self) -> bool
+        ensures none { result ≡ true → IsHeadAhead self.now None }
+        ensures ahead { result ≡ true → is_some self.now.piece ≡ true → self.now.ahead ≡ 0 }
+        ensures there { result ≡ false → is_coming_in self.now.piece ≡ true }
+    {
+        if !self.input.is_searched() {
+            return true;
+        }
+        !self.input.is_coming()
+    }
+
     /// Takes the bytes that there is room for up to the limit, and says how many.
     pub fn take(&mut self, bytes: &[u8], limit: usize) -> Result<usize, NoMemory>
         ensures count { IfOk result (λ count. count ≡ min (length bytes.now) (limit - length self.old.unread)) }

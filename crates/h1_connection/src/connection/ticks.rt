@@ -14,6 +14,7 @@ ghost use Rattle.h1_connection.specs.Ticks.{expiry_of, IsQuietTick};
 use crate::End;
 use crate::connection::clock::is_kept_too_long;
 use crate::connection::parts::Parts;
+use crate::connection::spare::Spare;
 use http_types::{NoMemory, ServiceConfig};
 
 /// What a tick answers.
@@ -30,9 +31,14 @@ pub enum Expiry {
 }
 
 impl Parts {
-    /// A moment has come, in milliseconds after the start of 1970. The memory of an idle connection is given back: one
-    /// that is busy takes memory anew once a moment at most.
-    pub fn tick(&mut self, config: &ServiceConfig, moment: u64) -> Result<Expiry, NoMemory>
+    /// A moment has come, in milliseconds after the start of 1970. The memory of an idle connection is given back, with
+    /// what is spare: one that is busy takes memory anew once a moment at most.
+    pub fn tick(
+        &mut self,
+        config: &ServiceConfig,
+        spare: &mut Spare,
+        moment: u64,
+    ) -> Result<Expiry, NoMemory>
         requires sound { IsSound config.now self.old }
         requires before { moment < MAX_MOMENT }
         ensures ok { IfOk result (λ expiry. Steps config.now self.old (on.tick moment) (expiry_of expiry) self.new) }
@@ -42,17 +48,18 @@ impl Parts {
         ensures no_memory_needed { IsQuietTick (setting_of config.now) (kept_of self.old) moment → IsOk result }
         ensures err { OnErr result (self.new ≡ self.old) }
     {
-        self.give_back(moment);
+        self.give_back(spare, moment);
         self.take_tick(config, moment)
     }
 
     // At a new moment, where no request is under way, the memory in which no byte is held is given back.
-    fn give_back(&mut self, moment: u64)
+    fn give_back(&mut self, spare: &mut Spare, moment: u64)
         ensures { self.new ≡ self.old }
     {
         if self.clock.last != Some(moment) && self.is_free() {
             self.input.give_back();
             self.output.give_back();
+            spare.give_back();
         }
     }
 

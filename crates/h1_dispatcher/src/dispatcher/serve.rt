@@ -8,7 +8,7 @@ ghost use Rattle.h1_dispatcher.specs.Polls.{OnIdle, ServeSays, EndSays};
 
 use crate::dispatcher::{Dispatcher, DispatcherTurn, Ending, Work};
 use futures::task::{Context, Poll};
-use h1_connection::{BodyKind, NextHead, RequestHead};
+use h1_connection::{BodyKind, Boxed, NextHead, RequestHead};
 use h1_traced::Recorder;
 use http_bodies::MessageBody;
 use http_services::Service;
@@ -202,11 +202,11 @@ where
 }
 
 /// The request of this head, from this address.
-fn request_from(head: RequestHead, peer: Option<SocketAddr>) -> Request<(), ()>
+fn request_from(head: Boxed<RequestHead>, peer: Option<SocketAddr>) -> Request<(), ()>
     ensures { result ≡ asking_of peer head }
 {
     let mut head = head;
-    head.peer_addr = peer;
+    head.get_mut().peer_addr = peer;
     Request::new(head, ())
 }
 

@@ -8,18 +8,19 @@ use crate::http_message::HttpMessage;
 use crate::message::Message;
 use crate::requests::RequestHead;
 use crate::text::{first_text, has_word};
-use crate::{HeaderMap, Method, Uri, Version};
+use crate::{Boxed, HeaderMap, Method, Uri, Version};
 use http_map::CONNECTION;
 use std::marker::Model;
 use std::mem;
 use std::net::SocketAddr;
 
-/// A request: its head, its payload where it is there, and what a service keeps beside them.
+/// A request: its head, its payload where it is there, and what a service keeps beside them. The head is in a block of its
+/// own, so that a request is small.
 ///
 /// A contract sees it as the record of these three.
 #[derive(Debug, Drop)]
 pub struct Request<P, D> {
-    head: RequestHead,
+    head: Boxed<RequestHead>,
     payload: Option<P>,
     own: D,
 }
@@ -36,7 +37,7 @@ impl<P, D> Request<P, D> {
     ghost use Rattle.http_types.specs.RequestPartsLends.{lends_head, lends_headers, lends_uri, lends_payload, lends_own};
 
     /// A request with this head and without a payload.
-    pub fn new(head: RequestHead, own: D) -> Self
+    pub fn new(head: Boxed<RequestHead>, own: D) -> Self
         ensures { result ≡ record { head = head; payload = None; own = own } }
     {
         Request {
@@ -47,7 +48,7 @@ impl<P, D> Request<P, D> {
     }
 
     /// A request with this head and payload.
-    pub fn with_payload(head: RequestHead, payload: P, own: D) -> Self
+    pub fn with_payload(head: Boxed<RequestHead>, payload: P, own: D) -> Self
         ensures { result ≡ record { head = head; payload = Some payload; own = own } }
     {
         Request {
@@ -90,14 +91,14 @@ impl<P, D> Request<P, D> {
         ensures { result ≡ (self.head, self.payload, self.own) }
     {
         let Request { head, payload, own } = self;
-        (Message::new(head), payload, own)
+        (Message::new(head.into_inner()), payload, own)
     }
 
     /// The head.
     pub fn head(&self) -> &RequestHead
         ensures { result.now ≡ self.now.head }
     {
-        &self.head
+        self.head.get()
     }
 
     /// The head, for writing.
@@ -105,7 +106,7 @@ impl<P, D> Request<P, D> {
         ensures* writes_back { sem 𝓛 (lends_head P.row D.row self.entry result) }
         ensures value { result.now ≡ self.old.head }
     {
-        &mut self.head
+        self.head.get_mut()
     }
 
     /// The headers, for writing.
@@ -113,7 +114,7 @@ impl<P, D> Request<P, D> {
         ensures* writes_back { sem 𝓛 (lends_headers P.row D.row self.entry result) }
         ensures value { result.now ≡ self.old.head.headers }
     {
-        let head = &mut self.head;
+        let head = self.head.get_mut();
         &mut head.headers
     }
 
@@ -129,7 +130,7 @@ impl<P, D> Request<P, D> {
         ensures* writes_back { sem 𝓛 (lends_uri P.row D.row self.entry result) }
         ensures value { result.now ≡ self.old.head.uri }
     {
-        let head = &mut self.head;
+        let head = self.head.get_mut();
         &mut head.uri
     }
 

@@ -84,7 +84,7 @@ fn with_text(alloc: Global, text: &[u8]) -> Result<Connection, NoMemory> {
 // How many heads stand ahead behind each call for the next head.
 fn counts_of(alloc: Global, text: &[u8]) -> Result<Vec<usize>, NoMemory> {
     let mut connection = with_text(alloc, text)?;
-    let mut item = HeadItem::new(alloc);
+    let mut item = HeadItem::new(alloc)?;
     let answer = ResponseHead::new(alloc, StatusCode::OK);
     let mut counts = Vec::new(alloc);
     count_all(&mut connection, &mut item, &answer, &mut counts)?;
@@ -139,7 +139,7 @@ fn a_head_with_a_body_is_counted_and_is_the_last(rt: HostRuntime) -> Result<(), 
 #[test]
 fn heads_that_come_later_are_counted_behind_those(rt: HostRuntime) -> Result<(), Fail> {
     let mut connection = with_text(rt.alloc(), &requests(rt.alloc(), 2, b"")?)?;
-    let mut item = HeadItem::new(rt.alloc());
+    let mut item = HeadItem::new(rt.alloc())?;
     let answer = ResponseHead::new(rt.alloc(), StatusCode::OK);
     let mut counts = Vec::new(rt.alloc());
     assert!(rt; connection.ahead()? == 0);

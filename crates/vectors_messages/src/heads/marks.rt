@@ -2,8 +2,8 @@
 use crate::heads::maps::value_of;
 use http_map::{CONNECTION, CONTENT_TYPE, HeaderName, TRANSFER_ENCODING};
 use http_types::{
-    ConnectionType, HttpMessage, Method, NoMemory, ParseError, Request, RequestHead, ResponseHead,
-    StatusCode, Version,
+    Boxed, ConnectionType, HttpMessage, Method, NoMemory, ParseError, Request, RequestHead,
+    ResponseHead, StatusCode, Version,
 };
 use std::alloc::Global;
 use vectors::{Case, Report};
@@ -72,7 +72,7 @@ fn with_header(
     };
     let mut head = RequestHead::new(alloc);
     match head.headers.append(name, value) {
-        Ok(()) => Ok(Some(Request::new(head, ()))),
+        Ok(()) => Ok(Some(Request::new(Boxed::new(alloc, head)?, ()))),
         Err(error) => Err(error),
     }
 }

@@ -3,7 +3,7 @@ use crate::values::texts::put_mime;
 use http_types::header::CONTENT_TYPE;
 use http_types::header::names::CONTENT_ENCODING;
 use http_types::{
-    ContentTypeError, HeaderMap, HeaderName, HeaderValue, NoMemory, ParseError, Request,
+    Boxed, ContentTypeError, HeaderMap, HeaderName, HeaderValue, NoMemory, ParseError, Request,
     RequestHead,
 };
 use http_values::{ContentEncoding, Header, get_header, mime_type};
@@ -20,7 +20,7 @@ fn request_with(
     if !append_all(alloc, &mut head.headers, &name, case)? {
         return Ok(None);
     }
-    Ok(Some(Request::new(head, ())))
+    Ok(Some(Request::new(Boxed::new(alloc, head)?, ())))
 }
 
 // Appends headers of this name, and says whether no value is refused.

@@ -1,5 +1,5 @@
-use Rattle.std.proofs.Common.{◌≡◌, ℕ, Bool, false, List, [], ◌++◌, codes, refl, sym, ap, ◌∙◌, subst, rules, if◌then◌else◌}
-use Rattle.std.specs.Prelude.{OnOk, decimal}
+use Rattle.std.proofs.Common.{◌≡◌, ℕ, Bool, false, List, [], ◌++◌, codes, refl, sym, ap, ◌∙◌, rules, if◌then◌else◌}
+use Rattle.std.specs.Prelude.{decimal}
 use Rattle.std.specs.Fmt.{digits}
 use Rattle.httparse.specs.Ascii.{crlf_bytes}
 use Rattle.model_h1.specs.Answer as answers
@@ -19,8 +19,7 @@ no_bytes bodiless camel shape size has plain none =
     ap (λ (number : List ℕ). codes "\r\ncontent-length: " ++ (number ++ crlf_bytes)) (sym zero)
     ∙ sym (λ i. crlf_bytes ++ (if has i then [] else texts.size_line (plain i) shape (none i)))
 
-pub returns-in-Sized-eq0-clause-ok : goal.returns-in-Sized-eq0-clause-ok
-returns-in-Sized-eq0-clause-ok c =
-    subst (λ (text : List ℕ). OnOk c.extend_from_slice-in-Sized-eq0.result (c.extend_from_slice-in-Sized-eq0.new.self.items ≡ c.args.out.now.items ++ text))
-    (no_bytes _ c.args.camel (model_shape c.args.shape) (size_of c.args.size) (search rules) (search rules) (search rules))
-    c.extend_from_slice-in-Sized-eq0.ensures.ok
+pub returns-in-Sized-eq0-clause-items : goal.returns-in-Sized-eq0-clause-items
+returns-in-Sized-eq0-clause-items c =
+    c.extend_reserved-in-Sized-eq0.ensures.items
+    ∙ ap (λ (text : List ℕ). c.args.out.now.items ++ text) (no_bytes _ c.args.camel (model_shape c.args.shape) (size_of c.args.size) (search rules) (search rules) (search rules))

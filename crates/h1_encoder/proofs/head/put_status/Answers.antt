@@ -1,8 +1,7 @@
 use Rattle.std.proofs.Common.{◌≡◌, ◌+◌, ◌++◌, ◌∷◌, codes, rules, ◌∙◌}
 use Rattle.http.specs.StatusCode.{code_digits}
 use Rattle.http_types.specs.ResponseHead.{reason_text}
-use Rattle.std.proofs.Common.{List, ℕ, subst}
-use Rattle.std.specs.Prelude.{OnOk}
+use Rattle.std.proofs.Common.{List, ℕ, ap}
 use Rattle.h1_encoder.proofs.Pieces.{two}
 use Rattle.h1_encoder.proofs.head.put_status.Goals as goal
 
@@ -15,5 +14,4 @@ returns-clause-ok c =
 
 pub returns-then-is_plain_ok-clause-ok : goal.returns-then-is_plain_ok-clause-ok
 returns-then-is_plain_ok-clause-ok c =
-    subst (λ (text : List ℕ). OnOk c.extend_from_slice.result (c.extend_from_slice.new.self.items ≡ c.args.out.now.items ++ text))
-    (c.is_plain_ok.ensures c.if-is_plain_ok.true) c.extend_from_slice.ensures.ok
+    c.put_plain_ok.ensures.items ∙ ap (λ (text : List ℕ). c.args.out.now.items ++ text) (c.is_plain_ok.ensures c.if-is_plain_ok.true)

@@ -3,6 +3,7 @@ use Rattle.std.specs.Prelude.{option_map, if◌then◌else◌}
 use Rattle.http_uri.specs.declared.uri.Uri.{Uri}
 use Rattle.http.specs.declared.version.Version.{Version}
 use Rattle.http_header.specs.FieldValue.{FieldValue}
+use Rattle.http_types.specs.declared.requests.head.RequestHead.{RequestHead}
 use Rattle.http_map.specs.HeaderMap.{Entries, IsHeaderMap}
 use Rattle.model_h1.specs.AnswerText.{by_name}
 use Rattle.h1_encoder.specs.Meaning.{headers_of, minor_of}
@@ -25,23 +26,25 @@ uri_is given sent read asks is same by asked =
 pub returns-clause-says : goal.returns-clause-says
 returns-clause-says c = λ h says can.
     let e = edge_of c.args.edge.now in
+    let method = c.as_str.ensures.value ∙ ap (λ (q : RequestHead). q.method) c.deref.ensures in
     let lines = lines_are e c.args.item h (option_map (λ (v : FieldValue). v.bytes) c.in_ok-named.named) (minor_of c.args.item.head.version)
-    (headers_of c.remove_unforwarded.new.headers) (headers_of c.add_own.new.headers) says c.remove_unforwarded.ensures (c.in_ok-named.ensures h says)
-    (ap (λ (v : Version). via (minor_of v)) says.version ∙ via_of h.minor) c.in_ok-add_own.ensures in
+    (headers_of c.remove_unforwarded.new.headers) (headers_of c.add_own.new.headers) says (rw c.into_inner-head.ensures at c.remove_unforwarded.ensures) (c.in_ok-named.ensures h says)
+    (ap (λ (v : Version). via (minor_of v)) says.version ∙ via_of h.minor) (rw c.into_inner-head.ensures at c.in_ok-add_own.ensures) in
     let uri = uri_is c.from_parts.result.uri c.uri_sent-uri.result c.args.item.head.uri c.asks_for_all-asks_for_all.result (asks_for_all c.args.item.head.method c.args.item.target)
-    c.from_parts.ensures.uri c.uri_sent-uri.ensures (c.asks_for_all-asks_for_all.ensures ∙ (λ i. asks_for_all (c.as_str.ensures.value i) (c.as_slice.ensures i))) in
-    head_is e c.from_parts.result c.args.item h says can c.from_parts.ensures.method uri c.from_parts.ensures.version
+    c.from_parts.ensures.uri (rw c.into_inner-head.ensures at c.uri_sent-uri.ensures) (c.asks_for_all-asks_for_all.ensures ∙ (λ i. asks_for_all (method i) (c.as_slice.ensures i))) in
+    head_is e c.from_parts.result c.args.item h says can (rw c.into_inner-head.ensures at c.from_parts.ensures.method) uri c.from_parts.ensures.version
     c.from_parts.ensures.flags (ap headers_of c.from_parts.ensures.headers ∙ lines)
 
 pub returns-clause-text : goal.returns-clause-text
 returns-clause-text c = λ h says can s edges same.
     let e = edge_of c.args.edge.now in
+    let method = c.as_str.ensures.value ∙ ap (λ (q : RequestHead). q.method) c.deref.ensures in
     let lines = lines_are e c.args.item h (option_map (λ (v : FieldValue). v.bytes) c.in_ok-named.named) (minor_of c.args.item.head.version)
-    (headers_of c.remove_unforwarded.new.headers) (headers_of c.add_own.new.headers) says c.remove_unforwarded.ensures (c.in_ok-named.ensures h says)
-    (ap (λ (v : Version). via (minor_of v)) says.version ∙ via_of h.minor) c.in_ok-add_own.ensures in
+    (headers_of c.remove_unforwarded.new.headers) (headers_of c.add_own.new.headers) says (rw c.into_inner-head.ensures at c.remove_unforwarded.ensures) (c.in_ok-named.ensures h says)
+    (ap (λ (v : Version). via (minor_of v)) says.version ∙ via_of h.minor) (rw c.into_inner-head.ensures at c.in_ok-add_own.ensures) in
     let uri = uri_is c.from_parts.result.uri c.uri_sent-uri.result c.args.item.head.uri c.asks_for_all-asks_for_all.result (asks_for_all c.args.item.head.method c.args.item.target)
-    c.from_parts.ensures.uri c.uri_sent-uri.ensures (c.asks_for_all-asks_for_all.ensures ∙ (λ i. asks_for_all (c.as_str.ensures.value i) (c.as_slice.ensures i))) in
-    let is = head_is e c.from_parts.result c.args.item h says can c.from_parts.ensures.method uri c.from_parts.ensures.version
+    c.from_parts.ensures.uri (rw c.into_inner-head.ensures at c.uri_sent-uri.ensures) (c.asks_for_all-asks_for_all.ensures ∙ (λ i. asks_for_all (method i) (c.as_slice.ensures i))) in
+    let is = head_is e c.from_parts.result c.args.item h says can (rw c.into_inner-head.ensures at c.from_parts.ensures.method) uri c.from_parts.ensures.version
     c.from_parts.ensures.flags (ap headers_of c.from_parts.ensures.headers ∙ lines) in
     let P : Entries → Type 0 = λ m. IsHeaderMap m in
     text_is c.from_parts.result h s (subst P (sym c.from_parts.ensures.headers) c.len-valid.ensures.valid)

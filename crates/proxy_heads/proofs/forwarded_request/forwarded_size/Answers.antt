@@ -5,4 +5,4 @@ use Rattle.proxy_heads.proofs.forwarded_request.forwarded_size.Goals as goal
 
 pub returns : goal.returns
 returns c = λ h says.
-    c.size_by.ensures ∙ (λ i. size_by ((c.contains_key-states_length.ensures.found ∙ states_in c.args.item.now h says) i) (says.body i))
+    c.size_by.ensures ∙ (λ i. size_by (((rw c.deref.ensures at c.contains_key-states_length.ensures.found) ∙ states_in c.args.item.now h says) i) (says.body i))

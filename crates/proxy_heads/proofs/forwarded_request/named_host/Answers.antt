@@ -13,5 +13,5 @@ returns-in_ok-value-in-Some c = λ h says.
 
 pub returns-in_ok-value-in-None : goal.returns-in_ok-value-in-None
 returns-in_ok-value-in-None c = λ h says.
-    ap (option_map (λ (v : FieldValue). v.bytes)) c.in_ok-value-in-None.ensures
+    ap (option_map (λ (v : FieldValue). v.bytes)) (rw c.deref.ensures at c.in_ok-value-in-None.ensures)
     ∙ line_named c.args.item.now h says (ap authority_of (sym c.as_slice.ensures) ∙ c.in-None.ensures)

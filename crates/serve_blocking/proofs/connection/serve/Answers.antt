@@ -2,6 +2,9 @@ use Rattle.serve_blocking.proofs.Handled.{handles_none, handles_then, handles_fo
 use Rattle.serve_blocking.proofs.Waited.{waits_follow}
 use Rattle.serve_blocking.proofs.connection.serve.Goals as goal
 
+pub returns-in_err-item-clause-handles : goal.returns-in_err-item-clause-handles
+returns-in_err-item-clause-handles g c = handles_none _ _
+
 pub returns-in_err-tick-clause-handles : goal.returns-in_err-tick-clause-handles
 returns-in_err-tick-clause-handles g c = handles_follow _ _ _ (waits_follow _ _ c.in_err-tick.ensures.waits)
 

@@ -5,4 +5,4 @@ use Rattle.std.proofs.Common.{[], sym, subst}
 use Rattle.raspcream.proofs.server.Server.new.Goals as goal
 
 pub returns-clause-stands : goal.returns-clause-stands
-returns-clause-stands c = subst (λ (s : State). Stands s []) (sym c.new.ensures) (fresh_stands (setting_of c.args.config))
+returns-clause-stands c = subst (λ (s : State). Stands s []) (sym c.new-2.ensures) (fresh_stands (setting_of c.args.config))
