@@ -11,6 +11,8 @@ pub mod Served
 pub mod Fresh
 pub mod Below
 pub mod Times
+pub mod BodyMarks
+pub mod AnswerUses
 pub mod Replies
 pub mod Carried
 pub mod Still

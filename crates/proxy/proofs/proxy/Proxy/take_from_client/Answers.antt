@@ -35,10 +35,10 @@ returns-clause-took c = λ history all f.
     (sym (client_has c.args.self.now (λ none. c.if-client_room-eq0.false (c.client_room.ensures ∙ none))))
 
 pub returns-then-client_room-eq0-clause-replies : goal.returns-then-client_room-eq0-clause-replies
-returns-then-client_room-eq0-clause-replies c = record { client = inl refl; server = refl; unsent = refl; sent = refl }
+returns-then-client_room-eq0-clause-replies c = record { client = inl (refl, refl); server = refl; unsent = refl; sent = refl }
 
 pub returns-then-not-can_read-clause-replies : goal.returns-then-not-can_read-clause-replies
-returns-then-not-can_read-clause-replies c = record { client = inl refl; server = refl; unsent = refl; sent = refl }
+returns-then-not-can_read-clause-replies c = record { client = inl (refl, refl); server = refl; unsent = refl; sent = refl }
 
 pub returns-clause-replies : goal.returns-clause-replies
 returns-clause-replies c = record { client = inr (client_adds (on.read c.args.bytes.now) _ c.args.self.now.client c.read.new.self c.in_ok-count.ensures.stands); server = refl; unsent = refl; sent = refl }

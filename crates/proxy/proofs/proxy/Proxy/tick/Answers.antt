@@ -40,7 +40,7 @@ returns-clause-replies c =
     let q : Proxy = record c.args.self.now { client = c.tick.new.self } in
     replies_by (tick c.args.moment) done c.args.self.now (record q { moment = Some c.args.moment }) c.settle.new.self
     (ticks c.args.moment c.in_ok-expiry.expiry c.args.self.now c.tick.new.self c.requires.can_tick c.tick.ensures.settings c.in_ok-expiry.ensures.stands)
-    (record { client = client_adds (on.tick c.args.moment) _ c.args.self.now.client c.tick.new.self c.in_ok-expiry.ensures.stands; server = refl; unsent = refl; sent = refl })
+    (record { client = (c.in_ok-expiry.expiry, client_adds (on.tick c.args.moment) _ c.args.self.now.client c.tick.new.self c.in_ok-expiry.ensures.stands); server = refl; unsent = refl; sent = refl })
     c.in_ok-settle.ensures.replies
 
 pub returns-clause-expiry : goal.returns-clause-expiry
