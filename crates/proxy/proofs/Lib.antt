@@ -14,6 +14,7 @@ pub mod Times
 pub mod BodyMarks
 pub mod AnswerUses
 pub mod Replies
+pub mod EventReplies
 pub mod Carried
 pub mod Still
 pub mod Sending

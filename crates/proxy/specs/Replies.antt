@@ -327,7 +327,8 @@ AddsTo event o old new = (s : servers.State) × (t : servers.State) × (old ≡ 
 abbrev pub ClientDoes : event.ProxyEvent → event.ProxyOutcome → State → State → Type 0
 ClientDoes (event.client bytes) (event.took count) old new = ((count ≡ 0) × (new ≡ old)) ⊎ ClientAdds (on.read bytes) (on.took count) old new
 ClientDoes event.client_eof event.done old new =
-    ((new ≡ old) × (allowed_by (setting_of old.settings) old.kept on.eof ≡ false)) ⊎ ClientAdds on.eof on.done old new
+    ((new ≡ old) × (allowed_by (setting_of old.settings) old.kept on.eof ≡ false))
+    ⊎ ((allowed_by (setting_of old.settings) old.kept on.eof ≡ true) × ClientAdds on.eof on.done old new)
 ClientDoes (event.to_client count) (event.gave bytes) old new = ClientAdds (on.write count) (on.gave bytes) old new
 ClientDoes (event.tick moment) event.done old new = (expiry : Expiry) × ClientAdds (on.tick moment) (expiry_of expiry) old new
 ClientDoes (event.server bytes) (event.took count) old new = new ≡ old
@@ -357,6 +358,7 @@ pub record PutsNothing (by : event.ProxyEvent) (outcome : event.ProxyOutcome) (o
 pub record Replies (by : event.ProxyEvent) (outcome : event.ProxyOutcome) (old new : Proxy) : Type 0 where
   pub mid : Proxy
   pub goes : GoesBy by outcome old mid
+  pub serves : GoesOnServing old mid
   pub event : PutsNothing by outcome old mid
   pub turns : HasReplied mid new
 
@@ -364,6 +366,7 @@ pub record Replies (by : event.ProxyEvent) (outcome : event.ProxyOutcome) (old n
 pub record RepliesRefused (old new : Proxy) : Type 0 where
   pub mid : Proxy
   pub goes : GoesBy event.refused event.done old mid
+  pub serves : GoesOnServing old mid
   pub idle : HoldsNoRequest mid
   pub server : mid.server ≡ old.server
   pub puts : PutsLast [] (own 502) old.client mid.client

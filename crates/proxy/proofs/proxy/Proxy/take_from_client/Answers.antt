@@ -3,7 +3,7 @@ use Rattle.model_h1.specs.Event as on
 use Rattle.proxy.proofs.EventMoves.{client_nothing, client_reads}
 use Rattle.proxy.proofs.Rooms.{client_count, client_has}
 use Rattle.proxy.proofs.Served.{event_serves}
-use Rattle.proxy.proofs.Replies.{client_adds}
+use Rattle.proxy.proofs.EventReplies.{client_adds}
 use Rattle.std.proofs.Common.{refl, inl, inr}
 use Rattle.proxy.proofs.proxy.Proxy.take_from_client.Goals as goal
 

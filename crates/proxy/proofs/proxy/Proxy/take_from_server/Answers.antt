@@ -2,7 +2,7 @@ use Rattle.std.proofs.Common.{Some, sym, ◌∙◌}
 use Rattle.model_client.specs.ClientEvent as asked
 use Rattle.proxy.proofs.EventMoves.{server_nothing, server_reads, allows_of}
 use Rattle.proxy.proofs.Served.{with_server}
-use Rattle.proxy.proofs.Replies.{adds_to}
+use Rattle.proxy.proofs.EventReplies.{adds_to}
 use Rattle.std.proofs.Common.{refl, inl, inr}
 use Rattle.proxy.proofs.proxy.Proxy.take_from_server.Goals as goal
 

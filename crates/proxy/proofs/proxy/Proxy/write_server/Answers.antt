@@ -2,7 +2,7 @@ use Rattle.std.proofs.Common.{Some, sym}
 use Rattle.model_client.specs.ClientEvent as asked
 use Rattle.proxy.proofs.EventMoves.{allows_of, text_of, server_writes}
 use Rattle.proxy.proofs.Served.{with_server}
-use Rattle.proxy.proofs.Replies.{write_adds_to}
+use Rattle.proxy.proofs.EventReplies.{write_adds_to}
 use Rattle.std.proofs.Common.{refl}
 use Rattle.proxy.proofs.proxy.Proxy.write_server.Goals as goal
 
