@@ -16,5 +16,13 @@ pub mod AnswerUses
 pub mod Replies
 pub mod EventReplies
 pub mod Carried
+pub mod Forwarding
+pub mod ForwardSent
+pub mod ForwardWaiting
+pub mod ForwardIdle
+pub mod ForwardAnswers
+pub mod ForwardTurns
+pub mod ForwardEvents
+pub mod Forwarder
 pub mod Still
 pub mod Sending
