@@ -140,29 +140,29 @@ module _ (s : ProxyStep) (history : List ProxyStep) (p q : Proxy) (h : Holds (s 
   idle_opens puts = by_unsent q.unsent refl
     where
       by_unsent : (o : Option Unsent) → q.unsent ≡ o → Now c (s ∷ history) q
-      by_unsent None none = let x = (puts.1 trace stands).2 in absurd (not_none q.unsent x.1.1.0 none x.1.1.1)
+      by_unsent None none = let x = (puts.1 trace stands).2 in absurd (not_none q.unsent x.1.1 none x.1.2)
       by_unsent (Some u) here =
           let y = server_now in
           let x = (puts.1 trace stands).2 in
           waits_now c (s ∷ history) q u here
-          (unsent_can (edge c) x.0 u x.1.0 (same_unsent (edge c) x.0 q.unsent u x.1.1.0 here x.1.1.1 x.1.1.2)) y.server y.there
+          (unsent_can (edge c) x.0 u x.1.0 (same_unsent (edge c) x.0 q.unsent u x.1.1 here x.1.2 x.1.3)) y.server y.there
           (served_opened (edge c) (theirs c) (ours c) refl s history over (request_of u.head) (size_of u.size) u.sent.is_whole u.sent.is_broken y.server p.client.kept q.client.kept
           (λ before stood.
           let more = puts_to c.connections (AreBehindHead (IsOpened (edge c) q) []) p.client q.client client_at puts before stood in
           let z = more.2 in
-          (more.0, more.1, (z.0, waits_for (edge c) z.0 u z.1.0 (same_unsent (edge c) z.0 q.unsent u z.1.1.0 here z.1.1.1 z.1.1.2), z.2))) y.so_far)
+          (more.0, more.1, (z.0, waits_for (edge c) z.0 u z.1.0 (same_unsent (edge c) z.0 q.unsent u z.1.1 here z.1.2 z.1.3), z.2))) y.so_far)
 
   -- and its client is told to go on
   pub idle_tells : HasPut told_to_go_on p q → Now c (s ∷ history) q
   idle_tells puts = by_unsent q.unsent refl
     where
       by_unsent : (o : Option Unsent) → q.unsent ≡ o → Now c (s ∷ history) q
-      by_unsent None none = let x = (puts.1 trace stands).2 in absurd (not_none q.unsent x.1.0.1.0 none x.1.0.1.1)
+      by_unsent None none = let x = (puts.1 trace stands).2 in absurd (not_none q.unsent x.1.0.1 none x.1.0.2)
       by_unsent (Some u) here =
           let y = server_now in
           let x = (puts.1 trace stands).2 in
           waits_now c (s ∷ history) q u here
-          (unsent_can (edge c) x.0 u x.1.0.0 (same_unsent (edge c) x.0 q.unsent u x.1.0.1.0 here x.1.0.1.1 x.1.0.1.2)) y.server y.there
+          (unsent_can (edge c) x.0 u x.1.0.0 (same_unsent (edge c) x.0 q.unsent u x.1.0.1 here x.1.0.2 x.1.0.3)) y.server y.there
           (served_told (edge c) (theirs c) (ours c) refl s history over (request_of u.head) (size_of u.size) u.sent.is_whole u.sent.is_broken y.server p.client.kept q.client.kept
           (λ before stood.
           let more = puts_to c.connections (AreBehindHead (λ (g : Head). IsOpened (edge c) q g × ((g.minor == 0) ≡ false)) (goes_on ∷ [])) p.client q.client client_at puts
@@ -171,7 +171,7 @@ module _ (s : ProxyStep) (history : List ProxyStep) (p q : Proxy) (h : Holds (s 
           (
             more.0,
             more.1,
-            (z.0, waits_for (edge c) z.0 u z.1.0.0 (same_unsent (edge c) z.0 q.unsent u z.1.0.1.0 here z.1.0.1.1 z.1.0.1.2), z.1.1, z.2),
+            (z.0, waits_for (edge c) z.0 u z.1.0.0 (same_unsent (edge c) z.0 q.unsent u z.1.0.1 here z.1.0.2 z.1.0.3), z.1.1, z.2),
           )) y.so_far)
 
   -- it gets 400, and the connection closes

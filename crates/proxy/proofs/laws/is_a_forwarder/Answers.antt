@@ -1,5 +1,5 @@
 use Rattle.proxy.proofs.Forwarder.{is_forwarder}
 use Rattle.proxy.proofs.laws.is_a_forwarder.Goals as goal
 
-pub returns-clause : goal.returns-clause
-returns-clause c = is_forwarder
+pub returns : goal.returns
+returns c = is_forwarder
