@@ -26,9 +26,9 @@ pub served_first : (edge : Edge) (theirs ours : Setting) (client : Kept) (stage 
     → Carries edge theirs ours (record { client = client; server = None; under_way = nothing }) [] nothing_happened
     → IsServed edge theirs ours (record { client = client; server = None; under_way = nothing }) stage []
 served_first edge theirs ours client stage x = (
-    nothing_happened,
-    [],
-    record { tells = record { carries = x; same = tt; places = λ k. refl; is = at_first }; last = tt; state = tt },
+  nothing_happened,
+  [],
+  record { tells = record { carries = x; same = tt; places = λ k. refl; is = at_first }; last = tt; state = tt },
 )
 
 -- what it did is as the theorem has it
