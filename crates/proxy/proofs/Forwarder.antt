@@ -3,7 +3,8 @@ use Rattle.std.proofs.Common.{◌≡◌, ℕ, Bool, true, false, List, [], ◌�
 use Rattle.std.specs.Prelude.{◌<◌, if◌then◌else◌, option_map}
 use Rattle.http_config.specs.Config.{Settings, AreUsable}
 use Rattle.model_h1.specs.Event as on
-use Rattle.model_state.specs.Local.{allowed_by}
+use Rattle.model_state.specs.Kept.{fresh}
+use Rattle.model_state.specs.Local.{closing_by, allowed_by}
 use Rattle.model_state.specs.StandsFor.{StandsFor}
 use Rattle.h1_connection.specs.EventMeaning.{setting_of}
 use Rattle.h1_connection.specs.State.{State, fresh_state}
@@ -73,8 +74,12 @@ record Went (history : List ProxyStep) (p : Proxy) : Type 0 where
   first : history ≡ [] → p.client ≡ fresh_state p.config.connections
 
 -- its connection takes the end of its input while nothing has happened
+takes_at_first : (settings : Settings) → allowed_by (setting_of settings) fresh on.eof ≡ true
+unfolding allowed_by closing_by
+takes_at_first settings = refl
+
 fresh_takes : (p : Proxy) → p.client ≡ fresh_state p.config.connections → client_takes p on.eof ≡ true
-fresh_takes p is = ap (λ (s : State). allowed_by (setting_of s.settings) s.kept on.eof) is
+fresh_takes p is = ap (λ (s : State). allowed_by (setting_of s.settings) s.kept on.eof) is ∙ takes_at_first p.config.connections
 
 not_empty : (s : ProxyStep) (history : List ProxyStep) → s ∷ history ≡ [] → ⊥
 not_empty s history e = let no : s ∷ history ≡ [] = e in cc no
