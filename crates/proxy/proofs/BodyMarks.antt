@@ -25,8 +25,7 @@ pub as_far : (p q : Proxy) (sent next : SentRequest) → p.sent ≡ Some sent �
     → (a b : SentRequest) → p.sent ≡ Some a → q.sent ≡ Some b → (b.is_whole ≡ a.is_whole) × (b.is_broken ≡ a.is_broken)
 as_far p q sent next old new whole broken a b here there =
     let x = same_sent p.sent sent a old here in
-    let y = same_sent q.sent next b new there in
-    (
+    let y = same_sent q.sent next b new there in (
       ap (λ (r : SentRequest). r.is_whole) (sym y) ∙ whole ∙ ap (λ (r : SentRequest). r.is_whole) x,
       ap (λ (r : SentRequest). r.is_broken) (sym y) ∙ broken ∙ ap (λ (r : SentRequest). r.is_broken) x,
     )

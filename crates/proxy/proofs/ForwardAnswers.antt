@@ -66,10 +66,10 @@ good_one false true is = absurd (false≢true is)
 good_one true interim is = absurd (false≢true is)
 
 -- both messages are whole, and the answer doesn't say close
-keeps_by : (whole closes open : Bool) → (whole && not closes && open) ≡ true → (whole ≡ true) × (closes ≡ false)
-keeps_by true false open is = (refl, refl)
-keeps_by true true open is = absurd (false≢true is)
-keeps_by false closes open is = absurd (false≢true is)
+keeps_by : (whole closes goes : Bool) → (whole && not closes && goes) ≡ true → (whole ≡ true) × (closes ≡ false)
+keeps_by true false goes is = (refl, refl)
+keeps_by true true goes is = absurd (false≢true is)
+keeps_by false closes goes is = absurd (false≢true is)
 
 -- ---- turn by turn
 
@@ -255,14 +255,11 @@ module _ (s : ProxyStep) (history : List ProxyStep) (p q : Proxy) (h : Holds (s 
           mid_at : y.mid.settings ≡ c.connections
           mid_at = y.first.0 ∙ client_at
 
-          abbrev P : List Exchange → Type 0
-          P = AboutNewest (IsHead is_head)
-
-          left : ServedAs (edge c) (theirs c) (ours c) P (sending y.there.kept at.server.kept sent.is_whole sent.is_broken) before_head (s ∷ history)
+          left : ServedAs (edge c) (theirs c) (ours c) (AboutNewest (IsHead is_head)) (sending y.there.kept at.server.kept sent.is_whole sent.is_broken) before_head (s ∷ history)
           left =
-              left_as (edge c) (theirs c) (ours c) refl s history before_head P (sending y.mid.kept at.server.kept sent.is_whole sent.is_broken) y.there.kept
+              left_as (edge c) (theirs c) (ours c) refl s history before_head (AboutNewest (IsHead is_head)) (sending y.mid.kept at.server.kept sent.is_whole sent.is_broken) y.there.kept
               (leaves_to c.connections y.mid y.there mid_at y.leaves)
-              (silent_as (edge c) (theirs c) (ours c) refl s history before_head P (sending p.client.kept at.server.kept sent.is_whole sent.is_broken) y.mid.kept
+              (silent_as (edge c) (theirs c) (ours c) refl s history before_head (AboutNewest (IsHead is_head)) (sending p.client.kept at.server.kept sent.is_whole sent.is_broken) y.mid.kept
               (puts_to c.connections (λ ps. ps ≡ []) p.client y.mid client_at y.first)
               (about_as (edge c) (theirs c) (ours c) refl s history (sending p.client.kept at.server.kept sent.is_whole sent.is_broken) before_head is_head asks_so before))
 

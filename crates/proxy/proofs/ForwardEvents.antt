@@ -320,8 +320,7 @@ module _ (history : List ProxyStep) (p mid : Proxy) (h : Holds history p) (serve
       by_case (inr (may, adds)) =
           let moved = goes.1 history h.all h.forwards in
           subst (λ (steps : List ProxyStep). Holds steps mid) (taken may)
-          (stepped past.client_eof past.done
-          (
+          (stepped past.client_eof past.done (
             goes.0,
             λ steps all f.
                 let y = goes.1 steps all f in (
@@ -425,8 +424,7 @@ module _ (history : List ProxyStep) (p mid : Proxy) (h : Holds history p) (serve
       h.now.served in
       stepped past.connected past.done goes (λ at.
       server_now history p mid h next fresh ev.client ev.server ev.unsent ev.sent
-      (subst (λ (v : UnderWay). So history p mid h (record { client = p.client.kept; server = Some fresh.kept; under_way = v }) next) (sym is)
-      (
+      (subst (λ (v : UnderWay). So history p mid h (record { client = p.client.kept; server = Some fresh.kept; under_way = v }) next) (sym is) (
         _,
         x.1,
         serves_connected (edge p.config) (theirs p.config) (ours p.config) refl h.now.stage (request_of u.head) (size_of u.size) u.sent.is_whole u.sent.is_broken

@@ -167,8 +167,7 @@ module _ (s : ProxyStep) (history : List ProxyStep) (p q : Proxy) (h : Holds (s 
           (λ before stood.
           let more = puts_to c.connections (AreBehindHead (λ (g : Head). IsOpened (edge c) q g × ((g.minor == 0) ≡ false)) (goes_on ∷ [])) p.client q.client client_at puts
           before stood in
-          let z = more.2 in
-          (
+          let z = more.2 in (
             more.0,
             more.1,
             (z.0, waits_for (edge c) z.0 u z.1.0.0 (same_unsent (edge c) z.0 q.unsent u z.1.0.1 here z.1.0.2 z.1.0.3), z.1.1, z.2),

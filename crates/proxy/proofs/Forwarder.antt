@@ -41,12 +41,16 @@ idle_first p f = by_fields p.unsent p.sent refl refl
     by_fields None None here there = record { unsent = here; sent = there }
     by_fields (Some u) o here there =
         absurd (subst (λ (w : Option Unsent). IsUnderWay (edge p.config) (under_way_of w p.sent) [] (option_map (λ s. s.kept) p.server) []) here f.carries.under_way)
-    by_fields None (Some s) here there = absurd (no_sent (option_map (λ s. s.kept) p.server) (subst₂ (λ (w : Option Unsent) (v : Option SentRequest).
-    IsUnderWay (edge p.config) (under_way_of w v) [] (option_map (λ s. s.kept) p.server) []) here there f.carries.under_way))
+    by_fields None (Some s) here there = absurd (no_sent (option_map (λ s. s.kept) p.server) under)
       where
         no_sent : (server : Option ClientKept) → IsUnderWay (edge p.config) (under_way_of None (Some s)) [] server [] → ⊥
         no_sent None x = x
         no_sent (Some k) x = x
+
+        under : IsUnderWay (edge p.config) (under_way_of None (Some s)) [] (option_map (λ s. s.kept) p.server) []
+        under =
+            subst₂ (λ (w : Option Unsent) (v : Option SentRequest). IsUnderWay (edge p.config) (under_way_of w v) [] (option_map (λ s. s.kept) p.server) []) here there
+            f.carries.under_way
 
 holds_first : (p : Proxy) → p.server ≡ None → Forwards p [] nothing_happened → IsServed p → Holds [] p
 holds_first p none f wanted =

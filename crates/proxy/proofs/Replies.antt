@@ -353,14 +353,13 @@ head_replies p q item c idle hands (inr (cannot, (false, right, puts, gone))) = 
 -- the client's connection, which isn't to end, hasn't closed
 pub closed_replies : (p : Proxy) (c : State) → HoldsNoRequest p → is_closing p ≡ false → c.settings ≡ p.client.settings
     → ((trace : List Step) → Stands p.client trace → is_closing p ≡ true) → TurnReplies p (record p { client = c })
-closed_replies p c idle going settings closing =
-    (
-      nothing_put,
-      idle_cause p (record p { client = c }) idle,
-      (settings, λ trace stands. absurd (false≢true (sym going ∙ closing trace stands))),
-      idle_body nothing_put p (record p { client = c }) idle.sent,
-      refl,
-    )
+closed_replies p c idle going settings closing = (
+  nothing_put,
+  idle_cause p (record p { client = c }) idle,
+  (settings, λ trace stands. absurd (false≢true (sym going ∙ closing trace stands))),
+  idle_body nothing_put p (record p { client = c }) idle.sent,
+  refl,
+)
 
 -- ---- a server connection on which no request is under way
 

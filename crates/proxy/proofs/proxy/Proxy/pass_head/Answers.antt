@@ -70,12 +70,11 @@ returns-then-not-is_eof-clause-replies c = λ a read says.
           (head_passes c.args.sent.is_head a _ _ c.args.self.now.client c.put_head.new.client (c.in_ok-head.ensures read.0 a read.1 says)
           (c.reply_size-size.ensures a says) c.in_ok-put_head.ensures.puts),
       follows_on _ false c.args.sent a c.args.server q (c.reply_size-size.ensures a says)
-          (not_at_once c.reply_size-size.result (λ e. false≢true (sym c.if-not-is_eof.true ∙ c.is_eof.ensures.1 e)))
-          (
+          (not_at_once c.reply_size-size.result (λ e. false≢true (sym c.if-not-is_eof.true ∙ c.is_eof.ensures.1 e))) (
             goes_as q c.answered-sent.result c.args.server c.args.server _ [] (record { unsent = c.requires.runs.unsent; sent = refl })
                 (c.answered-sent.ensures.marks ∙ closing_marks c.args.sent.is_head _ (says_close a) (c.says_close.ensures read.0 a read.1 says)) refl (hands_same c.args.server),
             ap Some (c.answered-sent.ensures.same
-            ∙ ap (λ (b : Bool). record c.args.sent { is_answered = true; closes = b }) (c.says_close.ensures read.0 a read.1 says)),
+                ∙ ap (λ (b : Bool). record c.args.sent { is_answered = true; closes = b }) (c.says_close.ensures read.0 a read.1 says)),
           ),
     )
 

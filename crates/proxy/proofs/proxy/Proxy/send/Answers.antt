@@ -92,18 +92,18 @@ returns-then-branch-clause-replies c =
         c.args.unsent,
         refl,
         record {
-      server = c.in-Some.server;
-      is_there = is;
-      read = read_all c.in-Some.server (sym (ap is_server_used is) ∙ sym c.is_server_used.ensures ∙ c.if-is_server_used.false);
-      told = t;
-      tells = c.tell_time.ensures.told;
-      dated =
-          dated (record c.args.self.now { unsent = Some c.args.unsent }) c.in-Some.server t is
-          (sym (ap is_server_used is) ∙ sym c.is_server_used.ensures ∙ c.if-is_server_used.false) c.tell_time.ensures.told;
-      after = c.ask.new.server;
-      asks = did_ask _ (request_of c.args.unsent.head) (size_of c.args.unsent.size) t c.ask.new.server c.if-branch.true c.in_ok-ask.ensures;
-      noted = c.note_unsent.ensures.noted;
-    },
+          server = c.in-Some.server;
+          is_there = is;
+          read = read_all c.in-Some.server (sym (ap is_server_used is) ∙ sym c.is_server_used.ensures ∙ c.if-is_server_used.false);
+          told = t;
+          tells = c.tell_time.ensures.told;
+          dated =
+              dated (record c.args.self.now { unsent = Some c.args.unsent }) c.in-Some.server t is
+              (sym (ap is_server_used is) ∙ sym c.is_server_used.ensures ∙ c.if-is_server_used.false) c.tell_time.ensures.told;
+          after = c.ask.new.server;
+          asks = did_ask _ (request_of c.args.unsent.head) (size_of c.args.unsent.size) t c.ask.new.server c.if-branch.true c.in_ok-ask.ensures;
+          noted = c.note_unsent.ensures.noted;
+        },
       ),
       same_puts c.args.self.now.client _
           (noted_client (record c.args.self.now { unsent = None; sent = Some c.args.unsent.sent; server = Some c.ask.new.server }) _ c.note_unsent.ensures.noted),
