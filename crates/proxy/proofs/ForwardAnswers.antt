@@ -37,7 +37,7 @@ use Rattle.proxy.specs.Served.{Fits}
 use Rattle.proxy.specs.Replies.{own, passed, PutsLast, PutsHead, broken_body, no_answer, passed_on, piece_on, end_on, cut_off, IsUnanswered, WasAnswered, marks_of, may_keep, ReplyIsOver, IsDropped, IsBad, LacksAnswer, Follows, HasAnswer, HasBytes, HasEnd, LacksEnd, AwaitsAnswer, HasCause, HasPut, KeepsBody}
 use Rattle.proxy.proofs.BodyMarks.{same_sent}
 use Rattle.proxy.proofs.Times.{trace_of}
-use Rattle.proxy.proofs.Forwarding.{edge, theirs, ours, FitsMark, Now, Holds, at_stage, at_client, idle_now, sent_now, goes_on_now, puts_to, may_to, leaves_to, leaves_settings, hands_to, tells_to}
+use Rattle.proxy.proofs.Forwarding.{edge, theirs, ours, kept_in, FitsMark, Now, Holds, at_stage, at_client, idle_now, sent_now, goes_on_now, puts_to, may_to, leaves_to, leaves_settings, hands_to, tells_to}
 use Rattle.proxy.proofs.ForwardSent.{AtSent, at_sent}
 
 -- ---- what a server's connection can be asked
@@ -125,7 +125,7 @@ module _ (s : ProxyStep) (history : List ProxyStep) (p q : Proxy) (h : Holds (s 
   -- ---- it is over
 
   gone_now : IsDropped q → So (done q.client.kept) over → Now c (s ∷ history) q
-  gone_now gone x = idle_now c (s ∷ history) q gone.unsent gone.sent None (ap (option_map (λ s. s.kept)) gone.server) x
+  gone_now gone x = idle_now c (s ∷ history) q gone.unsent gone.sent None (ap kept_in gone.server) x
 
   over_now : (sent : SentRequest) (a : Answer) (closes : Bool) (last : servers.State) → says_close a ≡ closes → ReplyIsOver sent.is_whole closes last q
       → So (sending q.client.kept last.kept sent.is_whole sent.is_broken) (answering a) → Now c (s ∷ history) q
@@ -135,12 +135,12 @@ module _ (s : ProxyStep) (history : List ProxyStep) (p q : Proxy) (h : Holds (s 
       by_keep true is =
           let y = keeps_by sent.is_whole closes (is_none (client_closing last.kept)) is in
           let there : q.server ≡ Some last = gone.server ∙ ap (λ (t : Bool). if t then Some last else None) is in
-          idle_now c (s ∷ history) q gone.unsent gone.sent (Some last.kept) (ap (option_map (λ s. s.kept)) there)
+          idle_now c (s ∷ history) q gone.unsent gone.sent (Some last.kept) (ap kept_in there)
           (served_over (edge c) (theirs c) (ours c) refl s history sent.is_broken q.client.kept last.kept a (says ∙ y.1)
           (subst (λ (w : Bool). So (sending q.client.kept last.kept w sent.is_broken) (answering a)) y.0 x))
       by_keep false is =
           let none : q.server ≡ None = gone.server ∙ ap (λ (t : Bool). if t then Some last else None) is in
-          idle_now c (s ∷ history) q gone.unsent gone.sent None (ap (option_map (λ s. s.kept)) none)
+          idle_now c (s ∷ history) q gone.unsent gone.sent None (ap kept_in none)
           (served_dropped (edge c) (theirs c) (ours c) refl s history (answering a) sent.is_whole sent.is_broken q.client.kept last.kept over x)
 
   -- ---- no answer comes
@@ -197,7 +197,7 @@ module _ (s : ProxyStep) (history : List ProxyStep) (p q : Proxy) (h : Holds (s 
       let x : AwaitsAnswer (Some at.server) = subst AwaitsAnswer at.there awaits in
       let t = x.0 in
       let link = trace_of (ours c) at.server.kept h.all.links
-      (subst (λ (o : Option servers.State). IsServer (ours c) (option_map (λ s. s.kept) o) h.all.links) at.there h.forwards.carries.server) in
+      (subst (λ (o : Option servers.State). IsServer (ours c) (kept_in o) h.all.links) at.there h.forwards.carries.server) in
       let waits = x.2 link.0 (subst (λ (e : Settings). IsClientTrace (asking.setting_of e) link.0 at.server.kept) (sym at.settings) link.1) in
       let t0 = served_broken (edge c) (theirs c) (ours c) refl s history before_head sent.is_whole sent.is_broken p.client.kept at.server.kept fault puts.mid.kept
       (puts_to c.connections (λ ps. ps ≡ request_breaks fault ∷ []) p.client puts.mid client_at puts.first) (unanswered sent at un.unanswered) in

@@ -50,13 +50,13 @@ use Rattle.proxy.specs.Replies.{own, PutsLast, ClientAdds, ServerAdds, AddsTo, P
 use Rattle.proxy.specs.Runs.{MayCome}
 use Rattle.proxy.proofs.EventMoves.{three_parts, some_unsent}
 use Rattle.proxy.proofs.EventReplies.{no_server_of}
-use Rattle.proxy.proofs.Forwarding.{edge, theirs, ours, CanBeAsked, FitsStage, Now, Holds, serving, as_parts, from_parts, at_stage, idle_now, waits_now, has_settings, puts_to, may_to, leaves_to, leaves_settings}
+use Rattle.proxy.proofs.Forwarding.{edge, theirs, ours, kept_in, CanBeAsked, FitsStage, Now, Holds, serving, as_parts, from_parts, at_stage, idle_now, waits_now, has_settings, puts_to, may_to, leaves_to, leaves_settings}
 
 -- ---- what is kept
 
 -- behind an event, of the same request, by this server connection
 now_by : (config : ProxyConfig) (history next : List ProxyStep) (p mid : Proxy) (now : Now config history p) (server : Option ClientKept) → mid.unsent ≡ p.unsent → mid.sent ≡ p.sent
-    → option_map (λ s. s.kept) mid.server ≡ server
+    → kept_in mid.server ≡ server
     → ServesSoFar (edge config) (theirs config) (ours config) (record { client = mid.client.kept; server = server; under_way = under_way_of p.unsent p.sent }) now.stage next
     → Now config next mid
 now_by config history next p mid now server unsent sent there x = record {
@@ -155,7 +155,7 @@ module _ (history : List ProxyStep) (p mid : Proxy) (h : Holds history p) where
   c = p.config
 
   abbrev was : Option ClientKept
-  was = option_map (λ s. s.kept) p.server
+  was = kept_in p.server
 
   abbrev under : UnderWay
   under = under_way_of p.unsent p.sent
@@ -200,7 +200,7 @@ module _ (history : List ProxyStep) (p mid : Proxy) (h : Holds history p) where
   -- behind what the client's side did
   client_now : (next : List ProxyStep) → mid.server ≡ p.server → mid.unsent ≡ p.unsent → mid.sent ≡ p.sent
       → So (record { client = mid.client.kept; server = was; under_way = under }) next → Now c next mid
-  client_now next server unsent sent x = now_by c history next p mid h.now was unsent sent (ap (option_map (λ s. s.kept)) server) x
+  client_now next server unsent sent x = now_by c history next p mid h.now was unsent sent (ap kept_in server) x
 
   -- this happened on the server connection, of which bytes came, or the end of its input
   came_event : (e : asked.ClientEvent) (o : asked.ClientOutcome) (event : ProxyEvent) (outcome : ProxyOutcome) (more : List ℕ) (a b : servers.State)
@@ -211,7 +211,7 @@ module _ (history : List ProxyStep) (p mid : Proxy) (h : Holds history p) where
       → So (record { client = p.client.kept; server = Some b.kept; under_way = under }) (record { event = event; outcome = outcome } ∷ history)
   came_event e o event outcome more a b little adds_none says not_refused changes came told first there at adds =
       let settings = has_settings c.connections p.server a there h.forwards.server in
-      let x = as_parts c history p h.now.stage (Some a.kept) under (ap (option_map (λ s. s.kept)) there) refl h.now.served in
+      let x = as_parts c history p h.now.stage (Some a.kept) under (ap kept_in there) refl h.now.served in
       let link = has_link (ours c) a.kept x.0.links x.2.tells.carries.server in
       let does = asked_to c.connections e o a b settings at adds in
       let m = made c.connections e o a.kept b.kept link.newest.happened link.ran (does link.newest.happened link.ran) in
@@ -227,7 +227,7 @@ module _ (history : List ProxyStep) (p mid : Proxy) (h : Holds history p) where
   server_now : (next : List ProxyStep) (b : servers.State) → mid.client ≡ p.client → mid.server ≡ Some b → mid.unsent ≡ p.unsent → mid.sent ≡ p.sent
       → So (record { client = p.client.kept; server = Some b.kept; under_way = under }) next → Now c next mid
   server_now next b client server unsent sent x =
-      now_by c history next p mid h.now (Some b.kept) unsent sent (ap (option_map (λ s. s.kept)) server)
+      now_by c history next p mid h.now (Some b.kept) unsent sent (ap kept_in server)
       (subst (λ (k : Kept). So (record { client = k; server = Some b.kept; under_way = under }) next) (sym (ap (λ (s : State). s.kept) client)) x)
 
 -- ---- each event
@@ -397,7 +397,7 @@ module _ (history : List ProxyStep) (p mid : Proxy) (h : Holds history p) (serve
       by_link a b there at adds =
           let settings = has_settings p.config.connections p.server a there h.forwards.server in
           let under = under_way_of p.unsent p.sent in
-          let x = as_parts p.config history p h.now.stage (Some a.kept) under (ap (option_map (λ s. s.kept)) there) refl h.now.served in
+          let x = as_parts p.config history p h.now.stage (Some a.kept) under (ap kept_in there) refl h.now.served in
           let link = has_link (ours p.config) a.kept x.0.links x.2.tells.carries.server in
           let does = asked_to p.config.connections (asked.write n) (asked.gave bytes) a b settings at adds in
           let m = made p.config.connections (asked.write n) (asked.gave bytes) a.kept b.kept link.newest.happened link.ran (does link.newest.happened link.ran) in
@@ -420,7 +420,7 @@ module _ (history : List ProxyStep) (p mid : Proxy) (h : Holds history p) (serve
       let none = no_server_of p wants in
       let next : List ProxyStep = record { event = past.connected; outcome = past.done } ∷ history in
       let fresh = servers.fresh_state p.config.connections in
-      let x = as_parts p.config history p h.now.stage None (waits (request_of u.head) (size_of u.size) u.sent.is_whole u.sent.is_broken) (ap (option_map (λ s. s.kept)) none) is
+      let x = as_parts p.config history p h.now.stage None (waits (request_of u.head) (size_of u.size) u.sent.is_whole u.sent.is_broken) (ap kept_in none) is
       h.now.served in
       stepped past.connected past.done goes (λ at.
       server_now history p mid h next fresh ev.client ev.server ev.unsent ev.sent
@@ -451,7 +451,7 @@ module _ (history : List ProxyStep) (p mid : Proxy) (h : Holds history p) (serve
       record { client = p.client.kept; server = None; under_way = waits (request_of u.head) (size_of u.size) u.sent.is_whole u.sent.is_broken } in
       let x0 =
       at_stage p.config history waiting h.now.stage over at_over
-      (as_parts p.config history p h.now.stage None (waits (request_of u.head) (size_of u.size) u.sent.is_whole u.sent.is_broken) (ap (option_map (λ s. s.kept)) none) is
+      (as_parts p.config history p h.now.stage None (waits (request_of u.head) (size_of u.size) u.sent.is_whole u.sent.is_broken) (ap kept_in none) is
       h.now.served) in
       let x1 = served_refused e t o refl over (request_of u.head) (size_of u.size) u.sent.is_whole u.sent.is_broken p.client.kept history x0 in
       let x2 = silent_as e t o refl s history over owes (record { client = p.client.kept; server = None; under_way = nothing }) puts.mid.kept
@@ -460,7 +460,7 @@ module _ (history : List ProxyStep) (p mid : Proxy) (h : Holds history p) (serve
       (leaves_to p.config.connections puts.mid puts.there begun puts.leaves) x2 in
       let x4 = own_put e t o refl s history over (own_head 502) (sized 0) puts.there.kept mid.client.kept
       (may_to p.config.connections (own 502) puts.there mid.client (leaves_settings puts.mid puts.there puts.leaves ∙ begun) puts.last) x3 in
-      stepped past.refused past.done goes (λ at. idle_now p.config (s ∷ history) mid idle.unsent idle.sent None (ap (option_map (λ s. s.kept)) (same ∙ none)) x4)
+      stepped past.refused past.done goes (λ at. idle_now p.config (s ∷ history) mid idle.unsent idle.sent None (ap kept_in (same ∙ none)) x4)
 
 -- ---- any event
 

@@ -30,7 +30,7 @@ use Rattle.proxy.specs.declared.proxy.SentRequest.{SentRequest}
 use Rattle.proxy_heads.specs.declared.refusal.Refusal.TheVariants.{BadHead}
 use Rattle.proxy.specs.Kept.{under_way_of, IsUnsent, HoldsNoRequest}
 use Rattle.proxy.specs.Replies.{nothing_put, opened, told_to_go_on, refused_head, not_forwardable, own, refusal_part, AreBehindHead, IsOpened, IsHeadRefused, CannotBeSent, IsDropped, HasPut, KeepsUnsent, KeepsServer, KeepsIdle}
-use Rattle.proxy.proofs.Forwarding.{edge, theirs, ours, FitsStage, Now, Holds, serving, as_parts, at_stage, idle_now, waits_now, puts_to, may_to, leaves_to, leaves_settings}
+use Rattle.proxy.proofs.Forwarding.{edge, theirs, ours, kept_in, FitsStage, Now, Holds, serving, as_parts, at_stage, idle_now, waits_now, puts_to, may_to, leaves_to, leaves_settings}
 
 -- ---- a request that can be sent on can be asked of a server
 
@@ -85,7 +85,7 @@ module _ (s : ProxyStep) (history : List ProxyStep) (p q : Proxy) (h : Holds (s 
   c = p.config
 
   abbrev was : Option ClientKept
-  was = option_map (λ s. s.kept) p.server
+  was = kept_in p.server
 
   client_at : p.client.settings ≡ c.connections
   client_at = h.forwards.client
@@ -104,17 +104,17 @@ module _ (s : ProxyStep) (history : List ProxyStep) (p q : Proxy) (h : Holds (s 
   -- the server connection that there is behind the turn, closed before it or not
   record Server : Type 0 where
     server : Option ClientKept
-    there : option_map (λ s. s.kept) q.server ≡ server
+    there : kept_in q.server ≡ server
     so_far : ServesSoFar (edge c) (theirs c) (ours c) (record { client = p.client.kept; server = server; under_way = nothing }) over (s ∷ history)
 
   server_now : Server
   server_now = by_case (keeps idle).1
     where
       gone : q.server ≡ None → Server
-      gone none = record { server = None; there = ap (option_map (λ s. s.kept)) none; so_far = closed }
+      gone none = record { server = None; there = ap kept_in none; so_far = closed }
 
       by_case : KeepsServer p q → Server
-      by_case (inl same) = record { server = was; there = ap (option_map (λ s. s.kept)) same; so_far = served }
+      by_case (inl same) = record { server = was; there = ap kept_in same; so_far = served }
       by_case (inr (inl x)) = gone x.0
       by_case (inr (inr x)) = gone x.0
 
@@ -178,7 +178,7 @@ module _ (s : ProxyStep) (history : List ProxyStep) (p q : Proxy) (h : Holds (s 
   idle_refuses puts gone =
       let mid_at = puts.first.0 ∙ client_at in
       let there_at = leaves_settings puts.mid puts.there puts.leaves ∙ mid_at in
-      idle_now c (s ∷ history) q gone.unsent gone.sent None (ap (option_map (λ s. s.kept)) gone.server)
+      idle_now c (s ∷ history) q gone.unsent gone.sent None (ap kept_in gone.server)
       (served_refusal (edge c) (theirs c) (ours c) refl s history over was p.client.kept puts.mid.kept puts.there.kept q.client.kept
       (puts_to c.connections (AreBehindHead (IsHeadRefused (edge c)) []) p.client puts.mid client_at puts.first)
       (leaves_to c.connections puts.mid puts.there mid_at puts.leaves) (may_to c.connections (refusal_part BadHead) puts.there q.client there_at puts.last) served)
@@ -188,7 +188,7 @@ module _ (s : ProxyStep) (history : List ProxyStep) (p q : Proxy) (h : Holds (s 
   idle_declines puts gone =
       let mid_at = puts.first.0 ∙ client_at in
       let there_at = leaves_settings puts.mid puts.there puts.leaves ∙ mid_at in
-      idle_now c (s ∷ history) q gone.unsent gone.sent None (ap (option_map (λ s. s.kept)) gone.server)
+      idle_now c (s ∷ history) q gone.unsent gone.sent None (ap kept_in gone.server)
       (served_unforwardable (edge c) (theirs c) (ours c) refl s history over was p.client.kept puts.mid.kept puts.there.kept q.client.kept
       (puts_to c.connections (AreBehindHead (CannotBeSent (edge c)) []) p.client puts.mid client_at puts.first)
       (leaves_to c.connections puts.mid puts.there mid_at puts.leaves) (may_to c.connections (own 501) puts.there q.client there_at puts.last) served)

@@ -24,7 +24,7 @@ use Rattle.proxy.specs.Sides.{ServerDid}
 use Rattle.proxy.specs.Puts.{Puts}
 use Rattle.proxy.specs.Kept.{under_way_of, kept_of, Runs}
 use Rattle.proxy.specs.Replies.{nothing_put, body_on, body_whole, broken_late, marks_of, WasAnswered, SendsOn, HasCause, HasPut, KeepsBody}
-use Rattle.proxy.proofs.Forwarding.{edge, theirs, ours, FitsMark, FitsStage, Now, Holds, as_parts, at_stage, sent_now, goes_on_now, has_settings, puts_to, hands_to}
+use Rattle.proxy.proofs.Forwarding.{edge, theirs, ours, kept_in, FitsMark, FitsStage, Now, Holds, as_parts, at_stage, sent_now, goes_on_now, has_settings, puts_to, hands_to}
 
 -- ---- what is known of it
 
@@ -48,13 +48,13 @@ at_sent history p sent h runs = by_server p.server refl
 
     by_server : (o : Option servers.State) → p.server ≡ o → AtSent history p sent h.now.stage
     by_server None none =
-        absurd ((as_parts p.config history p h.now.stage None (is_sent sent.is_whole sent.is_broken) (ap (option_map (λ s. s.kept)) none) under h.now.served).2.state)
+        absurd ((as_parts p.config history p h.now.stage None (is_sent sent.is_whole sent.is_broken) (ap kept_in none) under h.now.served).2.state)
     by_server (Some s) there = record {
       server = s;
       there = there;
       settings = has_settings p.config.connections p.server s there h.forwards.server;
       fits = fits;
-      served = as_parts p.config history p h.now.stage (Some s.kept) (is_sent sent.is_whole sent.is_broken) (ap (option_map (λ s. s.kept)) there) under h.now.served;
+      served = as_parts p.config history p h.now.stage (Some s.kept) (is_sent sent.is_whole sent.is_broken) (ap kept_in there) under h.now.served;
     }
 
 -- an event that was allowed and is done, by these settings

@@ -7,6 +7,7 @@ use Rattle.h1_encoder.specs.Meaning.{size_of}
 use Rattle.model_client.specs.ClientEvent as asked
 use Rattle.model_client.specs.ClientKept.{ClientKept, is_free_of, is_waited_for, client_closing, client_allows}
 use Rattle.model_client.specs.ClientStep.{ClientChange}
+use Rattle.h1_connection.specs.State.{State}
 use Rattle.h1_client.specs.ClientMeaning as asking
 use Rattle.h1_client.specs.ClientMeaning.{request_of}
 use Rattle.h1_client.specs.State as servers
@@ -31,7 +32,7 @@ use Rattle.proxy.specs.Rests.{may_turn, IsNoted}
 use Rattle.proxy.specs.Served.{Fits}
 use Rattle.proxy.proofs.Puts.{did_hands, hands_same}
 use Rattle.proxy.proofs.Replies.{noted_client, noted_server, noted_unsent, noted_sent}
-use Rattle.proxy.proofs.Forwarding.{edge, theirs, ours, CanBeAsked, FitsStage, FitsMark, Now, Holds, as_parts, at_stage, at_client, waits_now, sent_now, has_settings, hands_to}
+use Rattle.proxy.proofs.Forwarding.{edge, theirs, ours, kept_in, CanBeAsked, FitsStage, FitsMark, Now, Holds, as_parts, at_stage, at_client, waits_now, sent_now, has_settings, hands_to}
 use Rattle.proxy.proofs.ForwardSent.{allowed_to, step_to}
 
 -- ---- the time is told
@@ -97,7 +98,7 @@ module _ (s : ProxyStep) (history : List ProxyStep) (p q : Proxy) (h : Holds (s 
   can = subst CanBeAsked at h.now.asked
 
   -- by the server connection that is there, if one is
-  served_by : (server : Option ClientKept) → option_map (λ s. s.kept) p.server ≡ server
+  served_by : (server : Option ClientKept) → kept_in p.server ≡ server
       → ServesSoFar (edge c) (theirs c) (ours c) (record { client = p.client.kept; server = server; under_way = under }) over (s ∷ history)
   served_by server there =
       at_stage c (s ∷ history) (record { client = p.client.kept; server = server; under_way = under }) h.now.stage over at_over
@@ -112,7 +113,7 @@ module _ (s : ProxyStep) (history : List ProxyStep) (p q : Proxy) (h : Holds (s 
       let hands = told_hands p.moment a x.told x.tells in
       let told_at = hands.0 ∙ settings in
       let t0 = served_quiet (edge c) (theirs c) (ours c) refl s history over (record { client = p.client.kept; server = Some a.kept; under_way = under }) a.kept x.told.kept
-      (hands_to c.connections [] a x.told settings hands) (served_by (Some a.kept) (ap (option_map (λ s. s.kept)) x.is_there)) in
+      (hands_to c.connections [] a x.told settings hands) (served_by (Some a.kept) (ap kept_in x.is_there)) in
       let t1 = served_sent (edge c) (theirs c) (ours c) refl s history (request_of u.head) (size_of u.size) u.sent.is_whole u.sent.is_broken p.client.kept x.told.kept x.after.kept
       (allowed_to c.connections (asking_of u) x.told x.after told_at x.asks) (step_to c.connections (asking_of u) x.told x.after told_at x.asks)
       (same.waiting ∙ x.read.waiting) (ap is_free_of same.reading ∙ x.read.free) (same.unread ∙ x.read.unread) (x.dated (s ∷ history) h.all h.forwards) t0 in
@@ -121,7 +122,7 @@ module _ (s : ProxyStep) (history : List ProxyStep) (p q : Proxy) (h : Holds (s 
       sent_now c (s ∷ history) q u.sent x.after before_head (record { unsent = noted_unsent next q x.noted; sent = noted_sent next q x.noted })
       (noted_server next q x.noted) (subst (λ (b : Bool). FitsMark b u.sent.closes before_head) (sym unanswered) refl)
       (at_client c (s ∷ history) p.client.kept q.client.kept (Some x.after.kept) (is_sent u.sent.is_whole u.sent.is_broken) before_head
-      (ap (λ s. s.kept) (noted_client next q x.noted)) t1)
+      (ap (λ (k : State). k.kept) (noted_client next q x.noted)) t1)
 
   -- it waits on, without a server connection
   left : (a : servers.State) → p.server ≡ Some a → CannotSend u p.moment (Some a)
@@ -129,12 +130,12 @@ module _ (s : ProxyStep) (history : List ProxyStep) (p q : Proxy) (h : Holds (s 
   left a there (inl used) =
       let settings = has_settings c.connections p.server a there h.forwards.server in
       served_left_waiting (edge c) (theirs c) (ours c) refl s history over (request_of u.head) (size_of u.size) u.sent.is_whole u.sent.is_broken p.client.kept a.kept can room
-      (unfit_used c.connections a u settings used) (served_by (Some a.kept) (ap (option_map (λ s. s.kept)) there))
+      (unfit_used c.connections a u settings used) (served_by (Some a.kept) (ap kept_in there))
   left a there (inr (told, tells, refuses)) =
       let settings = has_settings c.connections p.server a there h.forwards.server in
       let hands = told_hands p.moment a told tells in
       let t0 = served_quiet (edge c) (theirs c) (ours c) refl s history over (record { client = p.client.kept; server = Some a.kept; under_way = under }) a.kept told.kept
-      (hands_to c.connections [] a told settings hands) (served_by (Some a.kept) (ap (option_map (λ s. s.kept)) there)) in
+      (hands_to c.connections [] a told settings hands) (served_by (Some a.kept) (ap kept_in there)) in
       served_left_waiting (edge c) (theirs c) (ours c) refl s history over (request_of u.head) (size_of u.size) u.sent.is_whole u.sent.is_broken p.client.kept told.kept can room
       (λ unused none. inr (subst (λ (t : Settings). client_allows (asking.setting_of t) told.kept (asking_of u) ≡ false) (hands.0 ∙ settings) refuses)) t0
 
@@ -146,7 +147,7 @@ module _ (s : ProxyStep) (history : List ProxyStep) (p q : Proxy) (h : Holds (s 
           subst (Now c (s ∷ history)) (sym x.waits) (waits_now c (s ∷ history) (record p { server = None }) u at can None refl t)
 
       by_server : (o : Option servers.State) → p.server ≡ o → Now c (s ∷ history) q
-      by_server None none = now (served_by None (ap (option_map (λ s. s.kept)) none))
+      by_server None none = now (served_by None (ap kept_in none))
       by_server (Some a) there = now (left a there (subst (CannotSend u p.moment) there x.cannot))
 
   -- a turn does one of the two, or none may be made

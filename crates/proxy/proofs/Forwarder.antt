@@ -27,7 +27,7 @@ use Rattle.proxy.specs.Rests.{IsNoted}
 use Rattle.proxy.specs.Served.{IsServed}
 use Rattle.proxy.specs.Replies.{HasReplied, Replies}
 use Rattle.proxy.specs.Runs.{MayCome, RepliesBy, Ran, at_first, behind, noted, waiting_of, IsAForwarder}
-use Rattle.proxy.proofs.Forwarding.{edge, theirs, ours, Holds, idle_now}
+use Rattle.proxy.proofs.Forwarding.{edge, theirs, ours, kept_in, Holds, idle_now}
 use Rattle.proxy.proofs.ForwardTurns.{same_config, turns_hold}
 use Rattle.proxy.proofs.ForwardEvents.{event_holds, refused_holds}
 
@@ -40,22 +40,22 @@ idle_first p f = by_fields p.unsent p.sent refl refl
     by_fields : (u : Option Unsent) (o : Option SentRequest) → p.unsent ≡ u → p.sent ≡ o → HoldsNoRequest p
     by_fields None None here there = record { unsent = here; sent = there }
     by_fields (Some u) o here there =
-        absurd (subst (λ (w : Option Unsent). IsUnderWay (edge p.config) (under_way_of w p.sent) [] (option_map (λ s. s.kept) p.server) []) here f.carries.under_way)
-    by_fields None (Some s) here there = absurd (no_sent (option_map (λ s. s.kept) p.server) under)
+        absurd (subst (λ (w : Option Unsent). IsUnderWay (edge p.config) (under_way_of w p.sent) [] (kept_in p.server) []) here f.carries.under_way)
+    by_fields None (Some s) here there = absurd (no_sent (kept_in p.server) under)
       where
         no_sent : (server : Option ClientKept) → IsUnderWay (edge p.config) (under_way_of None (Some s)) [] server [] → ⊥
         no_sent None x = x
         no_sent (Some k) x = x
 
-        under : IsUnderWay (edge p.config) (under_way_of None (Some s)) [] (option_map (λ s. s.kept) p.server) []
+        under : IsUnderWay (edge p.config) (under_way_of None (Some s)) [] (kept_in p.server) []
         under =
-            subst₂ (λ (w : Option Unsent) (v : Option SentRequest). IsUnderWay (edge p.config) (under_way_of w v) [] (option_map (λ s. s.kept) p.server) []) here there
+            subst₂ (λ (w : Option Unsent) (v : Option SentRequest). IsUnderWay (edge p.config) (under_way_of w v) [] (kept_in p.server) []) here there
             f.carries.under_way
 
 holds_first : (p : Proxy) → p.server ≡ None → Forwards p [] nothing_happened → IsServed p → Holds [] p
 holds_first p none f wanted =
     let idle = idle_first p f in
-    let there : option_map (λ s. s.kept) p.server ≡ None = ap (option_map (λ s. s.kept)) none in
+    let there : kept_in p.server ≡ None = ap kept_in none in
     record {
       all = nothing_happened;
       forwards = f;
@@ -64,7 +64,7 @@ holds_first p none f wanted =
           (served_first (edge p.config) (theirs p.config) (ours p.config) p.client.kept over (carried p idle there f));
     }
   where
-    carried : (p : Proxy) (idle : HoldsNoRequest p) → option_map (λ s. s.kept) p.server ≡ None → (f : Forwards p [] nothing_happened)
+    carried : (p : Proxy) (idle : HoldsNoRequest p) → kept_in p.server ≡ None → (f : Forwards p [] nothing_happened)
         → Carries (edge p.config) (theirs p.config) (ours p.config) (record { client = p.client.kept; server = None; under_way = nothing }) [] nothing_happened
     carried p idle there f =
         subst₂ (λ (o : Option ClientKept) (u : UnderWay).
@@ -172,7 +172,7 @@ went _ _ (noted history old new before is) room =
     noted_went history old new is (went history old before (subst (λ (c : ProxyConfig). 0 < (ours c).write_buffer) same room))
 
 -- what waits towards the server
-same_waiting : (o : Option servers.State) → waiting_in (option_map (λ s. s.kept) o) ≡ waiting_of o
+same_waiting : (o : Option servers.State) → waiting_in (kept_in o) ≡ waiting_of o
 same_waiting None = refl
 same_waiting (Some s) = refl
 

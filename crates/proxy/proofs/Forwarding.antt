@@ -44,6 +44,10 @@ theirs c = setting_of c.connections
 abbrev pub ours : ProxyConfig → Setting
 ours c = asking.setting_of c.connections
 
+-- what is kept of a server connection, if one is there
+abbrev pub kept_in : Option servers.State → Option ClientKept
+kept_in server = option_map (λ s. s.kept) server
+
 -- ---- how far the request is that is under way
 
 -- by whether its answer's head was passed on, and whether that says that its server closes the connection
@@ -97,7 +101,7 @@ holds_then s history p q h t now =
 -- ---- what is kept, by what is known of the fields
 
 pub as_parts : (config : ProxyConfig) (history : List ProxyStep) (p : Proxy) (stage : Stage) (server : Option ClientKept) (u : UnderWay)
-    → option_map (λ s. s.kept) p.server ≡ server → under_way_of p.unsent p.sent ≡ u
+    → kept_in p.server ≡ server → under_way_of p.unsent p.sent ≡ u
     → ServesSoFar (edge config) (theirs config) (ours config) (kept_of p) stage history
     → ServesSoFar (edge config) (theirs config) (ours config) (record { client = p.client.kept; server = server; under_way = u }) stage history
 as_parts config history p stage server u there under x =
@@ -105,7 +109,7 @@ as_parts config history p stage server u there under x =
     ServesSoFar (edge config) (theirs config) (ours config) (record { client = p.client.kept; server = o; under_way = w }) stage history) there under x
 
 pub from_parts : (config : ProxyConfig) (history : List ProxyStep) (p : Proxy) (stage : Stage) (server : Option ClientKept) (u : UnderWay)
-    → option_map (λ s. s.kept) p.server ≡ server → under_way_of p.unsent p.sent ≡ u
+    → kept_in p.server ≡ server → under_way_of p.unsent p.sent ≡ u
     → ServesSoFar (edge config) (theirs config) (ours config) (record { client = p.client.kept; server = server; under_way = u }) stage history
     → ServesSoFar (edge config) (theirs config) (ours config) (kept_of p) stage history
 from_parts config history p stage server u there under x =
@@ -126,7 +130,7 @@ at_client config history a b server u stage is x =
 
 module _ (config : ProxyConfig) (history : List ProxyStep) (q : Proxy) where
   -- no request is under way
-  pub idle_now : q.unsent ≡ None → q.sent ≡ None → (server : Option ClientKept) → option_map (λ s. s.kept) q.server ≡ server
+  pub idle_now : q.unsent ≡ None → q.sent ≡ None → (server : Option ClientKept) → kept_in q.server ≡ server
       → ServesSoFar (edge config) (theirs config) (ours config) (record { client = q.client.kept; server = server; under_way = nothing }) over history
       → Now config history q
   idle_now unsent sent server there x = record {
@@ -138,7 +142,7 @@ module _ (config : ProxyConfig) (history : List ProxyStep) (q : Proxy) where
 
   -- one waits
   pub waits_now : (u : Unsent) → q.unsent ≡ Some u → can_be_sent (request_of u.head) (size_of u.size) ≡ true → (server : Option ClientKept)
-      → option_map (λ s. s.kept) q.server ≡ server
+      → kept_in q.server ≡ server
       → ServesSoFar (edge config) (theirs config) (ours config)
       (record { client = q.client.kept; server = server; under_way = waits (request_of u.head) (size_of u.size) u.sent.is_whole u.sent.is_broken }) over history
       → Now config history q
@@ -159,7 +163,7 @@ module _ (config : ProxyConfig) (history : List ProxyStep) (q : Proxy) where
     asked = subst CanBeAsked (sym runs.unsent) tt;
     stage = stage;
     fits = subst₂ (λ (u : Option Unsent) (o : Option SentRequest). FitsStage u o stage) (sym runs.unsent) (sym runs.sent) fits;
-    served = from_parts config history q stage (Some after.kept) (is_sent sent.is_whole sent.is_broken) (ap (option_map (λ s. s.kept)) there)
+    served = from_parts config history q stage (Some after.kept) (is_sent sent.is_whole sent.is_broken) (ap kept_in there)
         (ap₂ under_way_of runs.unsent runs.sent) x;
   }
 
