@@ -1,7 +1,7 @@
 -- A forwarder that holds so far does so behind each turn on the answer to the request that was sent on: it is passed on, or no answer comes.
 use Rattle.std.proofs.Common.{◌≡◌, ◌⊎◌, inl, inr, ℕ, Bool, true, false, not, ◌&&◌, List, [], ◌∷◌, Option, Some, None, refl, sym, ap, ◌∙◌, subst, subst₂}
 use Rattle.std.specs.Prelude.{is_some, is_none, if◌then◌else◌, ◌||◌, ◌==◌, option_map}
-use Rattle.std.proofs.lemmas.Bool.{false≢true}
+use Rattle.std.proofs.lemmas.Bool.{false≢true, cond-true, cond-false}
 use Rattle.http_config.specs.Config.{Settings}
 use Rattle.model_h1.specs.Answer.{size_of, is_at_once}
 use Rattle.model_h1.specs.Event as on
@@ -134,12 +134,12 @@ module _ (s : ProxyStep) (history : List ProxyStep) (p q : Proxy) (h : Holds (s 
       by_keep : (t : Bool) → may_keep sent.is_whole closes last ≡ t → Now c (s ∷ history) q
       by_keep true is =
           let y = keeps_by sent.is_whole closes (is_none (client_closing last.kept)) is in
-          let there : q.server ≡ Some last = gone.server ∙ ap (λ (t : Bool). if t then Some last else None) is in
+          let there : q.server ≡ Some last = gone.server ∙ cond-true {A = Option servers.State} (may_keep sent.is_whole closes last) (Some last) None is in
           idle_now c (s ∷ history) q gone.unsent gone.sent (Some last.kept) (ap kept_in there)
           (served_over (edge c) (theirs c) (ours c) refl s history sent.is_broken q.client.kept last.kept a (says ∙ y.1)
           (subst (λ (w : Bool). So (sending q.client.kept last.kept w sent.is_broken) (answering a)) y.0 x))
       by_keep false is =
-          let none : q.server ≡ None = gone.server ∙ ap (λ (t : Bool). if t then Some last else None) is in
+          let none : q.server ≡ None = gone.server ∙ cond-false {A = Option servers.State} (may_keep sent.is_whole closes last) (Some last) None is in
           idle_now c (s ∷ history) q gone.unsent gone.sent None (ap kept_in none)
           (served_dropped (edge c) (theirs c) (ours c) refl s history (answering a) sent.is_whole sent.is_broken q.client.kept last.kept over x)
 

@@ -1,7 +1,7 @@
 -- A forwarder that holds so far does so behind each event, before the turns that follow it.
 use Rattle.std.proofs.Common.{◌≡◌, ◌⊎◌, inl, inr, ℕ, ◌≤◌, Bool, true, false, not, ◌&&◌, List, [], ◌∷◌, ◌++◌, length, take, append-nil, arith, Option, Some, None, refl, sym, ap, ap₂, ◌∙◌, subst, subst₂}
 use Rattle.std.specs.Prelude.{◌-◌, IsTrue, min, if◌then◌else◌, is_some, is_none, option_map}
-use Rattle.std.proofs.lemmas.Bool.{false≢true}
+use Rattle.std.proofs.lemmas.Bool.{false≢true, cond-true, cond-false}
 use Rattle.http_config.specs.Config.{Settings}
 use Rattle.model_h1.specs.Answer.{size_of as sized}
 use Rattle.model_h1.specs.Event as on
@@ -305,10 +305,10 @@ module _ (history : List ProxyStep) (p mid : Proxy) (h : Holds history p) (serve
     where
       taken : client_takes p on.eof ≡ true → (record { event = past.client_eof; outcome = past.done } ∷ history) ≡ history_by past.client_eof past.done p history
       taken may =
-          sym (ap (λ (t : Bool). if t then record { event = past.client_eof; outcome = past.done } ∷ history else history) may)
+          sym (cond-true {A = List ProxyStep} (client_takes p on.eof) (record { event = past.client_eof; outcome = past.done } ∷ history) history may)
 
       kept : client_takes p on.eof ≡ false → history ≡ history_by past.client_eof past.done p history
-      kept no = sym (ap (λ (t : Bool). if t then record { event = past.client_eof; outcome = past.done } ∷ history else history) no)
+      kept no = sym (cond-false {A = List ProxyStep} (client_takes p on.eof) (record { event = past.client_eof; outcome = past.done } ∷ history) history no)
 
       by_case : ((mid.client ≡ p.client) × (client_takes p on.eof ≡ false)) ⊎ ((client_takes p on.eof ≡ true) × ClientAdds on.eof on.done p.client mid.client)
           → Holds (history_by past.client_eof past.done p history) mid
@@ -326,7 +326,7 @@ module _ (history : List ProxyStep) (p mid : Proxy) (h : Holds history p) (serve
                 let y = goes.1 steps all f in (
                   y.0,
                   subst (λ (more : List ProxyStep). Forwards mid more y.0)
-                      (ap (λ (t : Bool). if t then record { event = past.client_eof; outcome = past.done } ∷ steps else steps) may) y.1,
+                      (cond-true {A = List ProxyStep} (client_takes p on.eof) (record { event = past.client_eof; outcome = past.done } ∷ steps) steps may) y.1,
                 ),
           )
           (λ at.

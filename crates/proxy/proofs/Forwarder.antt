@@ -1,5 +1,6 @@
 -- A forwarder, whatever events it was told.
 use Rattle.std.proofs.Common.{◌≡◌, ℕ, Bool, true, false, List, [], ◌∷◌, Option, Some, None, refl, sym, ap, ap₂, ◌∙◌, subst, subst₂}
+use Rattle.std.proofs.lemmas.Bool.{cond-true}
 use Rattle.std.specs.Prelude.{◌<◌, if◌then◌else◌, option_map}
 use Rattle.http_config.specs.Config.{Settings, AreUsable}
 use Rattle.model_h1.specs.Event as on
@@ -98,17 +99,20 @@ then_turns (s ∷ history) p mid new room some same h turns = record {
 }
 
 -- behind an event something has happened
+abbrev with_step : Bool → ProxyStep → List ProxyStep → List ProxyStep
+with_step takes s history = if takes then s ∷ history else history
+
+not_without : (takes : Bool) (s first : ProxyStep) (history : List ProxyStep) → with_step takes first (s ∷ history) ≡ [] → ⊥
+not_without true s first history e = not_empty first (s ∷ history) e
+not_without false s first history e = not_empty s history e
+
 some_by : (by : ProxyEvent) (outcome : ProxyOutcome) (p : Proxy) (history : List ProxyStep) → (history ≡ [] → client_takes p on.eof ≡ true)
     → history_by by outcome p history ≡ [] → ⊥
 some_by past.client_eof outcome p [] takes e =
-    let is : history_by past.client_eof outcome p [] ≡ record { event = past.client_eof; outcome = outcome } ∷ [] =
-    ap (λ (t : Bool). if t then record { event = past.client_eof; outcome = outcome } ∷ [] else []) (takes refl) in
-    not_empty (record { event = past.client_eof; outcome = outcome }) [] (sym is ∙ e)
-some_by past.client_eof outcome p (s ∷ history) takes e = by_test (client_takes p on.eof) e
-  where
-    by_test : (t : Bool) → (if t then record { event = past.client_eof; outcome = outcome } ∷ s ∷ history else s ∷ history) ≡ [] → ⊥
-    by_test true e = not_empty _ _ e
-    by_test false e = not_empty s history e
+    not_empty (record { event = past.client_eof; outcome = outcome }) []
+    (sym (cond-true {A = List ProxyStep} (client_takes p on.eof) (record { event = past.client_eof; outcome = outcome } ∷ []) [] (takes refl)) ∙ e)
+some_by past.client_eof outcome p (s ∷ history) takes e =
+    not_without (client_takes p on.eof) s (record { event = past.client_eof; outcome = outcome }) history e
 some_by by outcome p history takes e = not_empty (record { event = by; outcome = outcome }) history e
 
 step_holds : (by : ProxyEvent) (outcome : ProxyOutcome) (history : List ProxyStep) (old new : Proxy) → 0 < (ours old.config).write_buffer → Went history old → MayCome by old
