@@ -1,6 +1,6 @@
 -- A forwarder that holds so far does so behind each turn on the answer to the request that was sent on: it is passed on, or no answer comes.
 use Rattle.std.proofs.Common.{◌≡◌, ◌⊎◌, inl, inr, ℕ, Bool, true, false, not, ◌&&◌, List, [], ◌∷◌, Option, Some, None, refl, sym, ap, ◌∙◌, subst, subst₂}
-use Rattle.std.specs.Prelude.{is_some, is_none, if◌then◌else◌, ◌||◌, ◌==◌, option_map}
+use Rattle.std.specs.Prelude.{is_some, is_none, if◌then◌else◌}
 use Rattle.std.proofs.lemmas.Bool.{false≢true, cond-true, cond-false}
 use Rattle.http_config.specs.Config.{Settings}
 use Rattle.model_h1.specs.Answer.{size_of, is_at_once}
@@ -11,13 +11,12 @@ use Rattle.model_client.specs.AnswerParse.{is_interim}
 use Rattle.model_client.specs.AnswerReading.{Answer}
 use Rattle.model_client.specs.ClientEvent as asked
 use Rattle.model_client.specs.ClientEvent.{ClientEnd, input_ended}
-use Rattle.model_client.specs.ClientKept.{ClientKept, is_free, is_waited_for, has_bytes, client_closing, client_allows}
+use Rattle.model_client.specs.ClientKept.{ClientKept, is_free, is_waited_for, has_bytes, client_closing}
 use Rattle.model_client.specs.ClientTrace.{Happened, IsClientTrace}
 use Rattle.h1_client.specs.ClientMeaning as asking
 use Rattle.h1_client.specs.State as servers
 use Rattle.model_proxy.specs.Answers.{says_close, reply_size, own_head}
 use Rattle.model_proxy.specs.Past.{ProxyStep}
-use Rattle.model_proxy.specs.Exchange.{Exchange}
 use Rattle.model_proxy.specs.Carried.{nothing, is_sent, IsServer, ForwarderKept}
 use Rattle.model_proxy.specs.Parts.{is_refused, body_bytes, body_end, body_fault, continues, ends, breaks_off, request_breaks}
 use Rattle.model_proxy.proofs.OnLinks.{Stage, before_head, over, answering}
@@ -34,10 +33,10 @@ use Rattle.proxy.specs.Puts.{MayPut, MayLeave, Hands, CannotTell, is_sound, IsRe
 use Rattle.proxy.specs.Kept.{Runs}
 use Rattle.proxy.specs.Wants.{IsAskedBy}
 use Rattle.proxy.specs.Served.{Fits}
-use Rattle.proxy.specs.Replies.{own, passed, PutsLast, PutsHead, broken_body, no_answer, passed_on, piece_on, end_on, cut_off, IsUnanswered, WasAnswered, marks_of, may_keep, ReplyIsOver, IsDropped, IsBad, LacksAnswer, Follows, HasAnswer, HasBytes, HasEnd, LacksEnd, AwaitsAnswer, HasCause, HasPut, KeepsBody}
+use Rattle.proxy.specs.Replies.{own, passed, PutsLast, PutsHead, broken_body, no_answer, passed_on, piece_on, end_on, cut_off, marks_of, may_keep, ReplyIsOver, IsDropped, IsBad, LacksAnswer, Follows, HasAnswer, HasBytes, HasEnd, LacksEnd, AwaitsAnswer, HasCause, HasPut, KeepsBody}
 use Rattle.proxy.proofs.BodyMarks.{same_sent}
 use Rattle.proxy.proofs.Times.{trace_of}
-use Rattle.proxy.proofs.Forwarding.{edge, theirs, ours, kept_in, FitsMark, Now, Holds, at_stage, at_client, idle_now, sent_now, goes_on_now, puts_to, may_to, leaves_to, leaves_settings, hands_to, tells_to}
+use Rattle.proxy.proofs.Forwarding.{edge, theirs, ours, kept_in, FitsMark, Now, Holds, at_stage, at_client, idle_now, goes_on_now, puts_to, may_to, leaves_to, leaves_settings, hands_to, tells_to}
 use Rattle.proxy.proofs.ForwardSent.{AtSent, at_sent}
 
 -- ---- what a server's connection can be asked

@@ -1,6 +1,6 @@
 -- A forwarder that holds so far does so behind each event, before the turns that follow it.
 use Rattle.std.proofs.Common.{◌≡◌, ◌⊎◌, inl, inr, ℕ, ◌≤◌, Bool, true, false, not, ◌&&◌, List, [], ◌∷◌, ◌++◌, length, take, append-nil, arith, Option, Some, None, refl, sym, ap, ap₂, ◌∙◌, subst, subst₂}
-use Rattle.std.specs.Prelude.{◌-◌, IsTrue, min, if◌then◌else◌, is_some, is_none, option_map}
+use Rattle.std.specs.Prelude.{◌-◌, IsTrue, min, if◌then◌else◌, is_some, is_none}
 use Rattle.std.proofs.lemmas.Bool.{false≢true, cond-true, cond-false}
 use Rattle.http_config.specs.Config.{Settings}
 use Rattle.model_h1.specs.Answer.{size_of as sized}
@@ -32,12 +32,12 @@ use Rattle.model_proxy.specs.Moves.{Does, DoesAsked}
 use Rattle.model_proxy.proofs.Quiet.{BringsNothing, done_brings_nothing}
 use Rattle.model_proxy.proofs.Events.{SaysNoBytes, LeavesServers, AddsNoText, ChangesServer, client_leaves, client_eof_leaves, to_client_leaves, tick_leaves, server_none_leaves, read_changes, eof_changes, write_changes, read_adds, eof_adds, write_adds}
 use Rattle.model_proxy.proofs.AskedSince.{same_end}
-use Rattle.model_proxy.proofs.OnLinks.{Stage, over}
+use Rattle.model_proxy.proofs.OnLinks.{over}
 use Rattle.model_proxy.proofs.LinkSteps.{one_trace, IsLittle}
 use Rattle.model_proxy.proofs.SilentSteps.{IsSilent}
 use Rattle.model_proxy.proofs.Halves.{waiting_in}
 use Rattle.model_proxy.proofs.Serves.{serves_client, serves_nothing, serves_connected, serves_written, serves_came}
-use Rattle.model_proxy.proofs.Served.{IsServed as ServesSoFar, ServedAs, has_link, silent_as, left_as}
+use Rattle.model_proxy.proofs.Served.{IsServed as ServesSoFar, has_link, silent_as, left_as}
 use Rattle.model_proxy.proofs.ServedFailures.{Owes, own_put}
 use Rattle.model_proxy.proofs.ServedFirst.{served_refused}
 use Rattle.proxy.specs.declared.proxy.Proxy.{Proxy}
@@ -50,7 +50,7 @@ use Rattle.proxy.specs.Replies.{own, PutsLast, ClientAdds, ServerAdds, AddsTo, P
 use Rattle.proxy.specs.Runs.{MayCome}
 use Rattle.proxy.proofs.EventMoves.{three_parts, some_unsent}
 use Rattle.proxy.proofs.EventReplies.{no_server_of}
-use Rattle.proxy.proofs.Forwarding.{edge, theirs, ours, kept_in, CanBeAsked, FitsStage, Now, Holds, serving, as_parts, from_parts, at_stage, idle_now, waits_now, has_settings, puts_to, may_to, leaves_to, leaves_settings}
+use Rattle.proxy.proofs.Forwarding.{edge, theirs, ours, kept_in, CanBeAsked, FitsStage, Now, Holds, serving, as_parts, from_parts, at_stage, idle_now, has_settings, puts_to, may_to, leaves_to, leaves_settings}
 
 -- ---- what is kept
 

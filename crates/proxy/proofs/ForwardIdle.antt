@@ -1,10 +1,10 @@
 -- A forwarder that holds so far does so behind each turn that begins while no request is under way: a head is handed out, which waits, or gets a reply
 -- of the forwarder's own; or nothing is put.
 use Rattle.std.proofs.Common.{◌≡◌, inl, inr, ℕ, Bool, true, false, not, ◌&&◌, List, [], ◌∷◌, Option, Some, None, refl, sym, ap, ap₂, ◌∙◌, subst, subst₂}
-use Rattle.std.specs.Prelude.{◌==◌, codes, bytes_eq, nat_le, if◌then◌else◌, option_map}
+use Rattle.std.specs.Prelude.{◌==◌, codes, bytes_eq, nat_le, if◌then◌else◌}
 use Rattle.std.proofs.lemmas.Bool.{false≢true}
 use Rattle.model_h1.specs.Answer.{BodySize, size_none, size_of as sized, size_stream, shape_none, shape_length}
-use Rattle.model_h1.specs.Request.{Head}
+use Rattle.model_h1.specs.Request.{Head, is_raw_kind}
 use Rattle.model_h1.specs.Sums.{Step}
 use Rattle.h1_encoder.specs.Meaning.{size_of}
 use Rattle.model_client.specs.ClientEvent.{ClientRequest}

@@ -1,19 +1,17 @@
 -- A forwarder that holds so far does so behind each turn on the request that was sent on: more of its body goes on, it breaks, or nothing is put.
-use Rattle.std.proofs.Common.{◌≡◌, ℕ, Bool, true, false, List, [], ◌∷◌, Option, Some, None, refl, sym, ap, ap₂, ◌∙◌, subst, subst₂}
-use Rattle.std.specs.Prelude.{IsTrue, option_map}
+use Rattle.std.proofs.Common.{◌≡◌, ℕ, true, List, [], ◌∷◌, Option, Some, None, refl, sym, ap, ap₂, ◌∙◌, subst, subst₂}
+use Rattle.std.specs.Prelude.{IsTrue}
 use Rattle.http_config.specs.Config.{Settings}
 use Rattle.model_h1.specs.Event as on
-use Rattle.model_client.specs.AnswerReading.{Answer}
 use Rattle.model_client.specs.ClientEvent as asked
-use Rattle.model_client.specs.ClientKept.{ClientKept, client_allows}
+use Rattle.model_client.specs.ClientKept.{client_allows}
 use Rattle.model_client.specs.ClientStep.{IsClientStep}
 use Rattle.h1_client.specs.ClientMeaning as asking
 use Rattle.h1_client.specs.State as servers
-use Rattle.model_proxy.specs.Answers.{says_close}
 use Rattle.model_proxy.specs.Past.{ProxyStep}
 use Rattle.model_proxy.specs.Carried.{UnderWay, is_sent}
 use Rattle.model_proxy.specs.Parts.{takes, takes_end, request_breaks}
-use Rattle.model_proxy.proofs.OnLinks.{Stage, before_head, answering}
+use Rattle.model_proxy.proofs.OnLinks.{Stage}
 use Rattle.model_proxy.proofs.Served.{IsServed as ServesSoFar, served_silent, served_quiet}
 use Rattle.model_proxy.proofs.ServedTurns.{served_piece, served_whole, served_broken}
 use Rattle.proxy.specs.declared.proxy.Proxy.{Proxy}
@@ -21,10 +19,9 @@ use Rattle.proxy.specs.declared.proxy.ProxyConfig.{ProxyConfig}
 use Rattle.proxy.specs.declared.proxy.SentRequest.{SentRequest}
 use Rattle.proxy.specs.declared.proxy.Unsent.{Unsent}
 use Rattle.proxy.specs.Sides.{ServerDid}
-use Rattle.proxy.specs.Puts.{Puts}
-use Rattle.proxy.specs.Kept.{under_way_of, kept_of, Runs}
-use Rattle.proxy.specs.Replies.{nothing_put, body_on, body_whole, broken_late, marks_of, WasAnswered, SendsOn, HasCause, HasPut, KeepsBody}
-use Rattle.proxy.proofs.Forwarding.{edge, theirs, ours, kept_in, FitsMark, FitsStage, Now, Holds, as_parts, at_stage, sent_now, goes_on_now, has_settings, puts_to, hands_to}
+use Rattle.proxy.specs.Kept.{under_way_of, Runs}
+use Rattle.proxy.specs.Replies.{nothing_put, body_on, body_whole, broken_late, marks_of, SendsOn, HasCause, HasPut, KeepsBody}
+use Rattle.proxy.proofs.Forwarding.{edge, theirs, ours, kept_in, FitsMark, FitsStage, Now, Holds, as_parts, sent_now, goes_on_now, has_settings, puts_to, hands_to}
 
 -- ---- what is known of it
 

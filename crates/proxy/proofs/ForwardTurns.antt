@@ -1,5 +1,5 @@
 -- A forwarder that holds so far does so behind each turn, and behind all turns that follow an event.
-use Rattle.std.proofs.Common.{◌≡◌, ℕ, List, ◌∷◌, Option, Some, None, refl, sym, ◌∙◌, subst}
+use Rattle.std.proofs.Common.{◌≡◌, List, ◌∷◌, Option, Some, None, refl, sym, ◌∙◌, subst}
 use Rattle.std.specs.Prelude.{◌<◌}
 use Rattle.model_proxy.specs.Past.{ProxyStep}
 use Rattle.proxy.specs.declared.proxy.Proxy.{Proxy}

@@ -1,6 +1,6 @@
 -- A forwarder that holds so far does so behind each turn on the request that waits: it is sent on, or waits on.
 use Rattle.std.proofs.Common.{◌≡◌, ◌⊎◌, inl, inr, ℕ, Bool, true, false, not, List, [], ◌∷◌, Option, Some, None, refl, sym, ap, ◌∙◌, subst}
-use Rattle.std.specs.Prelude.{◌<◌, ◌||◌, IsTrue, is_some, option_map}
+use Rattle.std.specs.Prelude.{◌<◌, ◌||◌, is_some}
 use Rattle.std.proofs.lemmas.Bool.{false≢true}
 use Rattle.http_config.specs.Config.{Settings}
 use Rattle.h1_encoder.specs.Meaning.{size_of}
@@ -13,8 +13,7 @@ use Rattle.h1_client.specs.ClientMeaning.{request_of}
 use Rattle.h1_client.specs.State as servers
 use Rattle.model_proxy.specs.Past.{ProxyStep}
 use Rattle.model_proxy.specs.Carried.{UnderWay, waits, is_sent}
-use Rattle.model_proxy.specs.Parts.{Handed}
-use Rattle.model_proxy.proofs.OnLinks.{Stage, before_head, over}
+use Rattle.model_proxy.proofs.OnLinks.{before_head, over}
 use Rattle.model_proxy.proofs.LinkSteps.{IsUnused}
 use Rattle.model_proxy.proofs.BadAnswers.{may_tell}
 use Rattle.model_proxy.proofs.ServesTurns.{IsUnfit}
@@ -23,12 +22,10 @@ use Rattle.model_proxy.proofs.ServedTurns.{served_sent, served_left_waiting}
 use Rattle.proxy.specs.declared.proxy.Proxy.{Proxy}
 use Rattle.proxy.specs.declared.proxy.ProxyConfig.{ProxyConfig}
 use Rattle.proxy.specs.declared.proxy.Unsent.{Unsent}
-use Rattle.proxy.specs.declared.proxy.SentRequest.{SentRequest}
-use Rattle.proxy.specs.Sides.{ServerDid}
 use Rattle.proxy.specs.Puts.{Hands}
-use Rattle.proxy.specs.Kept.{under_way_of, kept_of}
+use Rattle.proxy.specs.Kept.{under_way_of}
 use Rattle.proxy.specs.Fresh.{is_used, IsToldTime, asking_of, IsSentUpstream, CannotSend, WaitsOn, SendsWhereItCan}
-use Rattle.proxy.specs.Rests.{may_turn, IsNoted}
+use Rattle.proxy.specs.Rests.{may_turn}
 use Rattle.proxy.specs.Served.{Fits}
 use Rattle.proxy.proofs.Puts.{did_hands, hands_same}
 use Rattle.proxy.proofs.Replies.{noted_client, noted_server, noted_unsent, noted_sent}

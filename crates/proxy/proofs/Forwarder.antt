@@ -1,7 +1,7 @@
 -- A forwarder, whatever events it was told.
 use Rattle.std.proofs.Common.{◌≡◌, ℕ, Bool, true, false, List, [], ◌∷◌, Option, Some, None, refl, sym, ap, ap₂, ◌∙◌, subst, subst₂}
 use Rattle.std.proofs.lemmas.Bool.{cond-true}
-use Rattle.std.specs.Prelude.{◌<◌, if◌then◌else◌, option_map}
+use Rattle.std.specs.Prelude.{◌<◌, if◌then◌else◌}
 use Rattle.http_config.specs.Config.{Settings, AreUsable}
 use Rattle.model_h1.specs.Event as on
 use Rattle.model_state.specs.Kept.{fresh}

@@ -1,15 +1,14 @@
 -- What holds of a forwarder so far: what is kept is that of all that happened, which is what a forwarder does; and what the calls of its two
 -- connections do is said in the model's words.
-use Rattle.std.proofs.Common.{◌≡◌, ◌⊎◌, inl, inr, Bool, true, false, List, [], ◌∷◌, ◌++◌, Option, Some, None, refl, sym, ap, ap₂, ◌∙◌, subst, subst₂}
+use Rattle.std.proofs.Common.{◌≡◌, ◌⊎◌, inl, inr, Bool, true, false, List, [], ◌∷◌, ◌++◌, Option, Some, None, refl, sym, ap, ap₂, subst, subst₂}
 use Rattle.std.specs.Prelude.{⊤, option_map}
 use Rattle.http_config.specs.Config.{Settings}
 use Rattle.model_h1.specs.Setting.{Setting}
-use Rattle.model_h1.specs.Sums.{Step}
 use Rattle.model_state.specs.Kept.{Kept}
 use Rattle.model_state.specs.StandsFor.{StandsFor}
 use Rattle.h1_encoder.specs.Meaning.{size_of}
 use Rattle.h1_connection.specs.EventMeaning.{setting_of}
-use Rattle.h1_connection.specs.State.{State, Stands}
+use Rattle.h1_connection.specs.State.{State}
 use Rattle.model_client.specs.AnswerReading.{Answer}
 use Rattle.model_client.specs.ClientEvent as asked
 use Rattle.model_client.specs.ClientKept.{ClientKept, can_be_sent}

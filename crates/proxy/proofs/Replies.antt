@@ -1,6 +1,6 @@
 -- Why a forwarder puts each part of a reply.
-use Rattle.std.proofs.Common.{◌≡◌, ◌⊎◌, inl, inr, ℕ, Bool, true, false, not, List, [], ◌∷◌, take, Option, Some, None, refl, sym, ap, ◌∙◌, subst, subst₂}
-use Rattle.std.specs.Prelude.{IsTrue, is_some, is_none, if◌then◌else◌}
+use Rattle.std.proofs.Common.{◌≡◌, ◌⊎◌, inl, inr, ℕ, Bool, true, false, List, [], ◌∷◌, Option, Some, None, refl, sym, ap, ◌∙◌, subst, subst₂}
+use Rattle.std.specs.Prelude.{if◌then◌else◌}
 use Rattle.std.proofs.lemmas.Bool.{false≢true}
 use Rattle.model_h1.specs.Answer.{AnswerHead, BodySize, is_at_once}
 use Rattle.model_h1.specs.Event as on
@@ -11,7 +11,7 @@ use Rattle.h1_decoder.specs.HeadItem.{SaysHead}
 use Rattle.h1_decoder.specs.declared.decoder.HeadItem.{HeadItem}
 use Rattle.h1_decoder.specs.declared.response.ResponseItem.{ResponseItem}
 use Rattle.h1_payload.specs.declared.pulled.Pulled.TheVariants as pulled
-use Rattle.h1_connection.specs.State.{State, Stands, GoesOn, Is}
+use Rattle.h1_connection.specs.State.{State, Stands, Is}
 use Rattle.model_client.specs.AnswerParse.{is_interim}
 use Rattle.model_client.specs.AnswerReading.{Answer}
 use Rattle.model_client.specs.ClientEvent as asked
@@ -19,7 +19,6 @@ use Rattle.h1_client.specs.State as servers
 use Rattle.h1_client.specs.declared.event.ClientEnd.{ClientEnd}
 use Rattle.h1_client.specs.declared.event.NextAnswer.TheVariants as answered
 use Rattle.model_proxy.specs.Answers.{says_close, reply_head, reply_size}
-use Rattle.model_proxy.specs.Past.{ProxyEvent, ProxyOutcome}
 use Rattle.model_proxy.specs.Past as past
 use Rattle.proxy.specs.Leaves.{LeavesAnswer}
 use Rattle.model_proxy.specs.Parts.{Part, begins, continues, ends, breaks_off, goes_on, request_breaks, is_refused, Handed, body_bytes, body_fault}
@@ -31,10 +30,9 @@ use Rattle.proxy.specs.declared.proxy.Proxy.{Proxy}
 use Rattle.proxy.specs.declared.proxy.ProxyConfig.{ProxyConfig}
 use Rattle.proxy.specs.declared.proxy.SentRequest.{SentRequest}
 use Rattle.proxy.specs.declared.proxy.Unsent.{Unsent}
-use Rattle.proxy.specs.Kept.{HoldsNoRequest, Runs, GoesBy, wants_server, is_closing, server_text}
+use Rattle.proxy.specs.Kept.{HoldsNoRequest, Runs, is_closing}
 use Rattle.proxy.specs.Rests.{IsNoted}
-use Rattle.proxy.proofs.EventMoves.{three_parts}
-use Rattle.proxy.specs.Replies.{TurnPuts, nothing_put, opened, told_to_go_on, body_on, body_whole, PutsAfter, AreBehindHead, IsOpened, IsHeadRefused, CannotBeSent, SendsOn, KeepsBody, broken_body, broken_late, refused_head, not_forwardable, no_answer, passed_on, piece_on, end_on, cut_off, own, refusal_part, passed, PutsLast, PutsHead, IsUnanswered, WasAnswered, Marks, marks_of, GoesOnBy, GoesOnWaiting, IsDropped, ReplyIsOver, KeepsServer, KeepsIdle, KeepsFor, LacksAnswer, Follows, FollowsHead, LacksEnd, AwaitsAnswer, HasCause, TurnReplies, Fails, Breaks, PassesBody, UsesAnswer, TakesAnswer, Opens, ClientAdds, AddsTo, PutsNothing, HasReplied, Replies, RepliesRefused}
+use Rattle.proxy.specs.Replies.{TurnPuts, nothing_put, opened, told_to_go_on, body_on, body_whole, PutsAfter, AreBehindHead, IsOpened, IsHeadRefused, CannotBeSent, SendsOn, KeepsBody, broken_body, broken_late, refused_head, not_forwardable, no_answer, passed_on, piece_on, end_on, cut_off, own, refusal_part, passed, PutsLast, PutsHead, IsUnanswered, WasAnswered, Marks, marks_of, GoesOnBy, GoesOnWaiting, IsDropped, ReplyIsOver, KeepsServer, KeepsIdle, KeepsFor, LacksAnswer, Follows, FollowsHead, LacksEnd, AwaitsAnswer, HasCause, TurnReplies, Fails, Breaks, PassesBody, UsesAnswer, TakesAnswer, Opens}
 use Rattle.proxy.proofs.AnswerUses.{over_out}
 use Rattle.proxy.proofs.BodyMarks.{idle_body, gone_body, as_far, same_body, whole_far, broken_far}
 

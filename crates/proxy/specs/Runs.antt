@@ -1,5 +1,5 @@
 -- What a forwarder may have gone through: events, one after another, each with what its call requires and promises; and that it forwarded then.
-use Rattle.std.specs.Prelude.{◌≡◌, ℕ, ◌≤◌, Bool, true, List, [], length, Option, None, option_map, ⊤}
+use Rattle.std.specs.Prelude.{◌≡◌, ℕ, ◌≤◌, true, List, [], length, Option, None, option_map, ⊤}
 use Rattle.model_h1.specs.Event as on
 use Rattle.model_h1.specs.Sums.{Step}
 use Rattle.model_client.specs.ClientEvent as asked
