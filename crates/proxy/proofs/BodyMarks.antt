@@ -1,5 +1,5 @@
 -- How far the body of the request that was sent on is.
-use Rattle.std.proofs.Common.{◌≡◌, Option, Some, None, sym, ap, ◌∙◌}
+use Rattle.std.proofs.Common.{◌≡◌, true, Option, Some, None, sym, ap, ◌∙◌}
 use Rattle.model_h1.specs.Event as on
 use Rattle.proxy.specs.declared.proxy.Proxy.{Proxy}
 use Rattle.proxy.specs.declared.proxy.SentRequest.{SentRequest}

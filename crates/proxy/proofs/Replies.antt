@@ -19,7 +19,6 @@ use Rattle.h1_client.specs.State as servers
 use Rattle.h1_client.specs.declared.event.ClientEnd.{ClientEnd}
 use Rattle.h1_client.specs.declared.event.NextAnswer.TheVariants as answered
 use Rattle.model_proxy.specs.Answers.{says_close, reply_head, reply_size}
-use Rattle.model_proxy.specs.Past as past
 use Rattle.proxy.specs.Leaves.{LeavesAnswer}
 use Rattle.model_proxy.specs.Parts.{Part, begins, continues, ends, breaks_off, goes_on, request_breaks, is_refused, Handed, body_bytes, body_fault}
 use Rattle.proxy.specs.Puts.{Puts, IsRefused, MayPut, MayLeave, HandsHead, HandsAnswer, HandsPiece, Hands, HandsNone, CannotPull, IsReadUp}
