@@ -2,7 +2,7 @@
 use Rattle.std.proofs.Common.{◌≡◌, ℕ, Bool, true, false, List, [], ◌∷◌, Option, Some, None, refl, sym, ap, ap₂, ◌∙◌, subst, subst₂}
 use Rattle.std.proofs.lemmas.Bool.{cond-true}
 use Rattle.std.specs.Prelude.{◌<◌, if◌then◌else◌}
-use Rattle.http_config.specs.Config.{Settings, AreUsable}
+use Rattle.http_config.specs.Config.{Settings}
 use Rattle.model_h1.specs.Event as on
 use Rattle.model_state.specs.Kept.{fresh}
 use Rattle.model_state.specs.Local.{closing_by, allowed_by}
@@ -27,7 +27,7 @@ use Rattle.proxy.specs.Kept.{under_way_of, Forwards, HoldsNoRequest, history_by,
 use Rattle.proxy.specs.Rests.{IsNoted}
 use Rattle.proxy.specs.Served.{IsServed}
 use Rattle.proxy.specs.Replies.{HasReplied, Replies}
-use Rattle.proxy.specs.Runs.{MayCome, RepliesBy, Ran, at_first, behind, noted, waiting_of, IsAForwarder}
+use Rattle.proxy.specs.Runs.{MayCome, RepliesBy, Ran, at_first, behind, noted, waiting_of, IsUsable, IsAForwarder}
 use Rattle.proxy.proofs.Forwarding.{edge, theirs, ours, kept_in, Holds, idle_now}
 use Rattle.proxy.proofs.ForwardTurns.{same_config, turns_hold}
 use Rattle.proxy.proofs.ForwardEvents.{event_holds, refused_holds}
@@ -180,7 +180,7 @@ same_waiting : (o : Option servers.State) → waiting_in (kept_in o) ≡ waiting
 same_waiting None = refl
 same_waiting (Some s) = refl
 
-pub is_forwarder : (history : List ProxyStep) (p : Proxy) → Ran history p → AreUsable p.config.connections → IsAForwarder history p
+pub is_forwarder : (history : List ProxyStep) (p : Proxy) → Ran history p → IsUsable p → IsAForwarder history p
 is_forwarder history p ran usable =
     let x = went history p ran usable.room in
     let y = x.holds.now.served in

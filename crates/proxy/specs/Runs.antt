@@ -1,5 +1,6 @@
 -- What a forwarder may have gone through: events, one after another, each with what its call requires and promises; and that it forwarded then.
 use Rattle.std.specs.Prelude.{◌≡◌, ℕ, ◌≤◌, true, List, [], length, Option, None, option_map, ⊤}
+use Rattle.http_config.specs.Config.{AreUsable}
 use Rattle.model_h1.specs.Event as on
 use Rattle.model_h1.specs.Sums.{Step}
 use Rattle.model_client.specs.ClientEvent as asked
@@ -46,6 +47,10 @@ pub data Ran : List ProxyStep → Proxy → Type 0 where
   noted : (history : List ProxyStep) (old new : Proxy) → Ran history old → IsNoted old new → Ran history new
 
 -- ---- the theorem
+
+-- its settings are such as their builder makes: a piece of a request finds room
+abbrev pub IsUsable : Proxy → Type 0
+IsUsable p = AreUsable p.config.connections
 
 -- the bytes that wait to be given to the server, where a connection is open
 abbrev pub waiting_of : Option servers.State → Option (List ℕ)

@@ -21,8 +21,7 @@ ghost use Rattle.proxy.specs.Rests.{may_turn, IsHeldUp, RestsWhereItMay};
 ghost use Rattle.proxy.specs.Served.{IsServed, IsRequestUnderWay, IsNewestBy};
 ghost use Rattle.proxy.specs.declared.proxy.SentRequest.{SentRequest};
 ghost use Rattle.proxy.specs.Replies.{WasAnswered, marks_of, HasReplied, IsCarried};
-ghost use Rattle.proxy.specs.Runs.{Ran, IsAForwarder};
-ghost use Rattle.http_config.specs.Config.{AreUsable};
+ghost use Rattle.proxy.specs.Runs.{Ran, IsUsable, IsAForwarder};
 
 /// Of what came from either side, and wasn't passed on yet, no more is held than may be: the hold size of the config. So no peer
 /// makes a forwarder hold more unread bytes.
@@ -97,5 +96,5 @@ pub fn a_reply_is_its_answer()
 /// to one server connection, and its client got one reply to it, in order: the server's answer, made anew, or one of the forwarder's own, each for its
 /// cause, and cut only where that answer was bad. Each of that stands behind each single event, so nothing comes before its cause.
 pub fn is_a_forwarder()
-    ensures { (history : List ProxyStep) (p : Proxy) → Ran history p → AreUsable p.config.connections → IsAForwarder history p }
+    ensures { (history : List ProxyStep) (p : Proxy) → Ran history p → IsUsable p → IsAForwarder history p }
 {}
