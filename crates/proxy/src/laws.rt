@@ -92,9 +92,10 @@ pub fn a_reply_is_its_answer()
         → IsCarried (marks_of sent) s old new }
 {}
 
-/// A forwarder, whatever events it was told: each request that its client's connection handed out was sent on once at most, whole or as far as it came,
-/// to one server connection, and its client got one reply to it, in order: the server's answer, made anew, or one of the forwarder's own, each for its
-/// cause, and cut only where that answer was bad. Each of that stands behind each single event, so nothing comes before its cause.
+/// A forwarder, whatever events it was told. Each request that its client's connection handed out was sent on once at most, to one server
+/// connection, whole or as far as it came. Its client got one reply to each at most, in order: the server's answer, made anew, or one of the
+/// forwarder's own, each for its cause; and a reply is cut only where that answer was bad. This holds behind each event, so nothing comes before
+/// its cause. It says nothing of when a reply comes: the clauses `rests` and `serves` do.
 pub fn is_a_forwarder()
     ensures { (history : List ProxyStep) (p : Proxy) → Ran history p → IsUsable p → IsAForwarder history p }
 {}
