@@ -10,7 +10,7 @@ use thiserror::Error;
 #[derive(Clone, Copy, Debug, PartialEq, Eq, Error)]
 pub enum GetError {
     /// The standard output takes no more.
-    #[error("the standard output takes no more")]
+    #[error("the output takes no more")]
     Output,
 
     /// The text is no URL.
@@ -81,6 +81,18 @@ pub enum GetError {
     #[error("the server goes on to another protocol, for which nobody asked")]
     Protocol,
 
+    /// An answer of this status isn't wanted.
+    #[error("an answer of this status isn't wanted")]
+    Unwanted,
+
+    /// A redirect that names no URL.
+    #[error("the server redirects to what is no URL")]
+    Location,
+
+    /// More redirects than are followed.
+    #[error("the server redirects more than ten times")]
+    Redirects,
+
     /// The request can't be sent.
     #[error("such a request can't be sent")]
     Request,
@@ -104,7 +116,9 @@ impl GetError {
             GetError::NoMemory => 5,
             GetError::Unanswered | GetError::Lost | GetError::BadHead | GetError::LongHead => 6,
             GetError::BadChunks | GetError::Protocol | GetError::Request => 6,
+            GetError::Location | GetError::Redirects => 6,
             GetError::Late => 7,
+            GetError::Unwanted => 22,
         }
     }
 
