@@ -44,6 +44,7 @@ error_status get_error.Unreachable = 4
 error_status get_error.NoMemory = 5
 error_status get_error.Late = 7
 error_status get_error.Unwanted = 22
+error_status get_error.Request = 64
 error_status _ = 6
 
 -- the status after an outcome more, where this one tells of a refusal

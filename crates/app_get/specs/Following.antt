@@ -60,12 +60,12 @@ is_of_url get_error.Scheme = true
 is_of_url get_error.NoMemory = true
 is_of_url _ = false
 
--- The redirect can't be followed: memory runs out, it names nothing, or the URL that it names isn't taken.
+-- The redirect can't be followed: memory runs out, it names nothing, or it names a URL that isn't taken.
 abbrev pub IsBarred : Stage → Reply → GetError → Type 0
 IsBarred stage reply error =
     (error ≡ get_error.NoMemory)
     ⊎ (((error ≡ get_error.Location) × NamesNone stage.url reply.location)
-    ⊎ ((is_of_url error ≡ true) × ((url : Parts) × Names stage.url reply.location url)))
+    ⊎ ((error ≡ get_error.Elsewhere) × ((url : Parts) × Names stage.url reply.location url)))
 
 -- After so many redirects this answer is the last: it isn't followed, or it can't be, or it is one redirect too many.
 abbrev pub IsLast : Bool → ℕ → Stage → Reply → Result ℕ GetError → Type 0

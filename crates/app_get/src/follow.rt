@@ -1,5 +1,7 @@
 //! Redirect after redirect.
-ghost use Rattle.std.specs.Prelude.{◌≡◌, true, Option, List, [], ◌∷◌, IfOk, IfErr};
+ghost use Rattle.std.specs.Prelude.{◌≡◌, ◌⊎◌, true, Option, List, [], ◌∷◌, IfOk, IfErr};
+ghost use Rattle.http_uri.specs.Uri.{Spells};
+ghost use Rattle.url.specs.Parts.{serialize};
 ghost use Rattle.app_get.specs.Fetching.{Notes};
 ghost use Rattle.app_get.specs.Following.{Asked, came, is_followed, is_of_url, IsFirst, Leads, IsBarred, Follows};
 
@@ -97,11 +99,23 @@ impl Stage {
             return Err(GetError::Location);
         };
         let url = resolve(&self.url, location)?;
-        let target = Target::read(alloc, url.as_str())?;
+        let target = redirected(alloc, &url)?;
         let is_same = is_same_place(&self.target, &target);
         let hop = self
             .hop
             .after(reply.status, self.hop.method(method), is_same);
         Ok(Stage { url, target, hop })
+    }
+}
+
+// What the URL of a redirect leads to.
+fn redirected(alloc: Global, url: &Url) -> Result<Target, GetError>
+    ensures ok { IfOk result (λ target. Spells (serialize url.now) target.uri) }
+    ensures err { IfErr result (λ error. (error ≡ GetError.NoMemory) ⊎ (error ≡ GetError.Elsewhere)) }
+{
+    match Target::read(alloc, url.as_str()) {
+        Ok(target) => Ok(target),
+        Err(GetError::NoMemory) => Err(GetError::NoMemory),
+        Err(_) => Err(GetError::Elsewhere),
     }
 }

@@ -29,7 +29,7 @@ Asks for each URL by HTTP/1.1, and writes the bodies of the answers to the stand
 
 URLs of one host and port share a connection as long as the server keeps it.
 
-It ends with status 0; 1 where the output takes no more; 2 for words out of form; 3 where FILE can't be read; 4 where
+It ends with status 0; 1 where the output can't be written; 2 for words out of form; 3 where FILE can't be read; 4 where
 no connection can be made; 5 where memory runs out; 6 where the connection or the answer breaks off or is none of
 HTTP/1; 7 where the server takes too long; 8 where an answer's status is 400 or above: its body is written all the
 same; with --fail it isn't, and the status is 22; 64 for a method or a field that can't be sent. What is wrong is said
