@@ -83,11 +83,13 @@ launch_get() {
     valued="--wait --data -d --output -o --request -X --header -H"
     urls=0
     sent=
+    method=
     value() {
         [ $# -gt 1 ] || wrong NoValue
         case $1 in
             --wait) is_number "$2" 86400 && [ "${2#+}" -gt 0 ] || wrong Wait ;;
             --output | -o) word=$(absolute "$2") ;;
+            --request | -X) method=own ;;
             --data | -d)
                 [ -z "$sent" ] || wrong TwoFiles
                 sent=yes
@@ -107,7 +109,10 @@ launch_get() {
     read_words "$@"
     [ "$urls" -gt 0 ] || wrong NoUrl
     case $given in
-        *" --head "* | *" -I "*) [ -z "$sent" ] || wrong HeadWithFile ;;
+        *" --head "* | *" -I "*)
+            [ -z "$sent" ] || wrong HeadWithFile
+            [ -z "$method" ] || wrong HeadWithMethod
+            ;;
     esac
     case $given in
         *" --chunked "*) [ -n "$sent" ] || wrong ChunkedAlone ;;

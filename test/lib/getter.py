@@ -206,7 +206,11 @@ def output_clients(program, url, small, big):
     written("a refusal that makes no file", 22, None, "-f", f"{url}/nothing")
     written("a refusal and then a body to a file", 22, small, "-f", f"{url}/nothing", f"{url}/a.txt", before=b"old")
     written("a server that isn't there, which leaves the file as it is", 4, b"old", "http://127.0.0.1:%d/" % free_port(), before=b"old")
-    check("app_get, a file that can't be written", lambda: differs(run(program, "-o", "/proc/nothing/x", f"{url}/a.txt").returncode, 1))
+
+    def unwritten():
+        done = run(program, "-o", "/proc/nothing/x", f"{url}/a.txt")
+        return differs((done.returncode, done.stderr), (1, b"app_get: /proc/nothing/x: the output can't be written\n"))
+    check("app_get, a file that can't be written", unwritten)
 
 
 def moved(status, place):
@@ -247,6 +251,11 @@ def redirect_clients(program, folder):
     led("-L to no URL", 6, b"", [moved(302, b"http://[")], [b"GET /d/a"], "-L")
     led("-L to what is no text", 6, b"", [moved(302, b"/\xff")], [b"GET /d/a"], "-L")
     led("-L to another scheme", 6, b"", [moved(302, b"https://127.0.0.1/")], [b"GET /d/a"], "-L")
+
+    def barred():
+        url = Parrot([moved(302, b"https://127.0.0.1/")]).url + "/"
+        return differs(run(program, "-L", url).stderr, f"app_get: {url}: the server redirects to a URL that can't be asked for, such as https://\n".encode())
+    check("app_get, what is said of a redirect to https", barred)
     led("-L to a URL with a user", 6, b"", [moved(302, b"http://a:b@127.0.0.1/")], [b"GET /d/a"], "-L")
     led("-L and a redirect of which only the head came", 0, b"hi", [moved(302, b"/b")[:-5], ok], [b"GET /d/a", b"GET /b"], "-L")
     led("-L and a refusal", 8, b"", [moved(302, b"/b"), gone], [b"GET /d/a", b"GET /b"], "-L")
