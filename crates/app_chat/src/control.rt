@@ -21,6 +21,9 @@ pub enum Farewell {
 
     /// There is no room for its message now.
     NoRoom,
+
+    /// The program ends, or its hub does.
+    Away,
 }
 
 impl Farewell {
@@ -39,6 +42,7 @@ impl Farewell {
             Farewell::TooBig => 1009,
             Farewell::Silent => 1008,
             Farewell::NoRoom => 1013,
+            Farewell::Away => 1001,
         }
     }
 
@@ -49,6 +53,7 @@ impl Farewell {
             Farewell::TooBig => &[0x88, 2, 0x03, 0xf1],
             Farewell::Silent => &[0x88, 2, 0x03, 0xf0],
             Farewell::NoRoom => &[0x88, 2, 0x03, 0xf5],
+            Farewell::Away => &[0x88, 2, 0x03, 0xe9],
         }
     }
 }

@@ -49,6 +49,9 @@ pub struct Hall {
     // Everybody is let go, and then a new hub is begun.
     is_renewing: bool,
 
+    // The program ends: nobody is read, and all leave.
+    is_closing: bool,
+
     // Those who left, and whom nobody asked for since.
     gone: Vec<Gone>,
 }
@@ -67,13 +70,14 @@ impl Hall {
             is_full: false,
             lost: 0,
             is_renewing: false,
+            is_closing: false,
             gone: Vec::new(alloc),
         })
     }
 
-    /// How many members are there.
-    pub fn len(&self) -> usize {
-        self.present.len()
+    /// Nobody is there.
+    pub fn is_empty(&self) -> bool {
+        self.present.is_empty()
     }
 
     /// The number of the next member, where one may come.
@@ -84,7 +88,7 @@ impl Hall {
         if self.house.len() >= MAX_NUMBERS {
             self.is_renewing = true;
         }
-        if self.is_renewing || self.present.len() as u64 >= self.limits.members {
+        if self.is_renewing || self.is_closing || self.present.len() as u64 >= self.limits.members {
             return None;
         }
         Some(self.house.len())
@@ -153,7 +157,8 @@ impl Hall {
         let pace = Pace {
             alloc: self.alloc,
             limits: self.limits,
-            reads: !self.is_full,
+            reads: !self.is_full && !self.is_closing,
+            leaves: self.is_closing,
             uptime,
         };
         let served = serve(&mut self.house, number, member, &mut self.room, &pace)?;
@@ -181,7 +186,12 @@ impl Hall {
         mem::replace(&mut self.gone, Vec::new(self.alloc))
     }
 
-    /// The program ends: all leave.
+    /// The program ends: nobody is read or joins any more, and each member is told Close 1001 once nothing waits for it.
+    pub fn close(&mut self) {
+        self.is_closing = true;
+    }
+
+    /// The time is up: all who are left are cut off.
     pub fn dismiss_all(&mut self) -> Result<(), NoMemory> {
         for place in &mut self.members {
             if let Some(member) = place.take() {
@@ -248,7 +258,7 @@ impl Hall {
     /// A second has passed. The moment is in milliseconds since 1970, the other one is of uptime.
     pub fn tick(&mut self, moment: u64, uptime: u64) -> Result<(), NoMemory> {
         self.count()?;
-        let (reads, limits) = (!self.is_full, self.limits);
+        let (reads, limits) = (!self.is_full && !self.is_closing, self.limits);
         for place in 0..self.present.len() {
             let Some(&number) = self.present.get(place) else {
                 break;
@@ -264,7 +274,12 @@ impl Hall {
                 )?;
                 watch(&mut self.house, number, member, reads, &limits, uptime)?;
                 if self.is_renewing {
-                    self.house.drain(number)?;
+                    dismiss(
+                        &mut self.house,
+                        number,
+                        &mut member.standing,
+                        Farewell::Away,
+                    )?;
                 }
             }
         }

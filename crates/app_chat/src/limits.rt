@@ -56,6 +56,9 @@ pub struct Limits {
 
     /// How long a peer is waited for after the last byte was written.
     pub linger: u64,
+
+    /// How long the members have at the program's end, for what waits for them and their Close.
+    pub leave: u64,
 }
 
 impl Limits {
@@ -74,6 +77,7 @@ impl Limits {
             visit: 30_000,
             end: 10_000,
             linger: 2000,
+            leave: 5000,
         }
     }
 
@@ -104,6 +108,7 @@ impl Limits {
             "visit" => self.visit = number,
             "end" => self.end = number,
             "linger" => self.linger = number,
+            "leave" => self.leave = number,
             _ => {}
         }
         true
@@ -123,7 +128,7 @@ fn range_of(name: &str) -> Option<(u64, u64)> {
         "message" => Some((LEAST_MESSAGE, MOST_MESSAGE)),
         "unfinished" | "waiting" => Some((0, MOST_BYTES)),
         "idle" | "answer" | "stall" | "visit" => Some((1, MOST_TIME)),
-        "head" | "end" | "linger" => Some((0, MOST_TIME)),
+        "head" | "end" | "linger" | "leave" => Some((0, MOST_TIME)),
         _ => None,
     }
 }

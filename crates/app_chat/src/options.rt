@@ -41,10 +41,12 @@ The limits, their defaults, and the least and the most that they may be:
   visit=30000          how long a connection may be there without having joined
   end=10000            how long a connection that ends has for what is left to write; 0: no limit
   linger=2000          how long a peer is waited for after the last byte was written
+  leave=5000           how long the members have at the end, before who is left is cut off
 
-It ends where the standard input ends. Who doesn't read is told Close 1008 once 1024 frames wait for it. Without --origin
-a page of any site that a member visits may join the rooms in that member's browser. Nothing waits for who reads the log: 64
-KiB of lines are kept meanwhile, further ones are lost, and a line says how many.
+It ends where the standard input ends: nobody is read any more, and each member is sent what waits for it, then Close 1001.
+Who doesn't read is told Close 1008 once 1024 frames wait for it. Without --origin a page of any site that a member visits
+may join the rooms in that member's browser. Nothing waits for who reads the log: 64 KiB of lines are kept meanwhile, further
+ones are lost, and a line says how many.
 
 It ends with status 0, 64 for words out of form, and 1 for all else that fails, as a port that is taken. A sentence on
 standard error says why.";

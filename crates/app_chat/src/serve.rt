@@ -40,6 +40,9 @@ pub struct Pace {
     /// Somebody is read.
     pub reads: bool,
 
+    /// All are to leave, each once nothing waits for it.
+    pub leaves: bool,
+
     /// In milliseconds.
     pub uptime: u64,
 }
@@ -64,8 +67,32 @@ pub fn serve(
     }
     let mut round = go(house, number, member, &mut room[..limit], uptime)?;
     round.moved = round.moved || came;
+    if !round.moved {
+        round.moved = leave(house, number, member, pace)?;
+    }
     let is_over = end(house, number, member, pace, &mut round.moved);
     Ok(Served { round, is_over })
+}
+
+// Lets a member go, where all leave, once it has all that waited for it. It says whether it did.
+fn leave(
+    house: &mut House,
+    number: usize,
+    member: &mut Member,
+    pace: &Pace,
+) -> Result<bool, NoMemory> {
+    let standing = &mut member.standing;
+    if !pace.leaves
+        || !standing.is_heard()
+        || standing.asks
+        || !standing.owed.is_empty()
+        || house.waiting(number) > 0
+        || buffered(house, number) > 0
+    {
+        return Ok(false);
+    }
+    dismiss(house, number, standing, Farewell::Away)?;
+    Ok(true)
 }
 
 // Ends what has nothing more to do, and says whether its socket is done with.

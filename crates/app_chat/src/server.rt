@@ -71,8 +71,8 @@ pub struct Server {
     config: ServiceConfig,
     limits: Limits,
     poll: Poll,
-    rooms: TcpListener,
-    pages: TcpListener,
+    rooms: Option<TcpListener>,
+    pages: Option<TcpListener>,
     hall: Hall,
     gate: Gate,
     journal: Journal,
@@ -81,6 +81,9 @@ pub struct Server {
     may_accept: bool,
     may_visit: bool,
     input_ended: bool,
+
+    // Until when members may take what waits for them, once the input has ended, in milliseconds of uptime.
+    until: Option<u64>,
     last_tick: u64,
 }
 
@@ -109,8 +112,8 @@ impl Server {
             config,
             limits,
             poll,
-            rooms,
-            pages,
+            rooms: Some(rooms),
+            pages: Some(pages),
             hall: Hall::new(alloc, config, limits)?,
             gate,
             journal,
@@ -119,11 +122,12 @@ impl Server {
             may_accept: true,
             may_visit: true,
             input_ended: false,
+            until: None,
             last_tick: 0,
         })
     }
 
-    /// Serves until the standard input ends, if it is watched.
+    /// Serves until the standard input ends, if it is watched. Then the members leave.
     pub fn run(&mut self, watches_input: bool) -> Result<(), ServeError> {
         if watches_input {
             self.watch_input();
@@ -131,26 +135,58 @@ impl Server {
         let mut events = Events::with_capacity(self.alloc, EVENTS)?;
         let mut moved = false;
         for _ in 0..u64::MAX {
-            let wait = if moved { 0 } else { SECOND };
-            if self
-                .poll
-                .poll(&mut events, Some(Duration::from_millis(wait)))
-                .is_err()
-            {
-                return Err(ServeError::Poll);
-            }
-            for event in &events {
-                self.note(event.token().0, event.is_readable(), event.is_writable());
-            }
+            let wait = if moved { 0 } else { self.longest_wait() };
+            self.wait(&mut events, wait)?;
             if self.input_ended {
-                return self.end();
+                self.close();
             }
             moved = self.turn()?;
+            if self.is_over() {
+                return self.end();
+            }
         }
         Ok(())
     }
 
-    // Cuts all members off, and writes the rest of the log where somebody reads it.
+    // Waits until something is ready, at most for so many milliseconds.
+    fn wait(&mut self, events: &mut Events, wait: u64) -> Result<(), ServeError> {
+        let wait = Some(Duration::from_millis(wait));
+        if self.poll.poll(events, wait).is_err() {
+            return Err(ServeError::Poll);
+        }
+        for event in &*events {
+            self.note(event.token().0, event.is_readable(), event.is_writable());
+        }
+        Ok(())
+    }
+
+    // The longest wait, in milliseconds.
+    fn longest_wait(&self) -> u64 {
+        match self.until {
+            Some(until) => until.saturating_sub(self.now().uptime).min(SECOND),
+            None => SECOND,
+        }
+    }
+
+    // The input has ended: nobody comes any more, and the members are to leave.
+    fn close(&mut self) {
+        if self.until.is_none() {
+            self.rooms = None;
+            self.pages = None;
+            self.hall.close();
+            self.until = Some(self.now().uptime.saturating_add(self.limits.leave));
+        }
+    }
+
+    // Nobody is left, or the time to leave is up.
+    fn is_over(&self) -> bool {
+        match self.until {
+            Some(until) => self.hall.is_empty() || self.now().uptime >= until,
+            None => false,
+        }
+    }
+
+    // Cuts off who is left, and writes the rest of the log where somebody reads it.
     fn end(&mut self) -> Result<(), ServeError> {
         self.hall.dismiss_all()?;
         let now = self.now();
@@ -362,10 +398,16 @@ fn admit(
 }
 
 // The next connection, where one waits; `may_accept` says whether there may be more.
-fn accept(listener: &TcpListener, may_accept: &mut bool) -> Option<(TcpStream, SocketAddr)> {
+fn accept(
+    listener: &Option<TcpListener>,
+    may_accept: &mut bool,
+) -> Option<(TcpStream, SocketAddr)> {
     if !*may_accept {
         return None;
     }
+    let Some(listener) = listener else {
+        return None;
+    };
     match listener.accept() {
         Ok((stream, peer)) => {
             // Small pieces go out at once.
