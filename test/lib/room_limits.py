@@ -1,8 +1,8 @@
-"""Limits of app_chat, its log, and the statuses with which it ends."""
+"""Limits of app_chat, its log, its end, and the statuses with which it ends."""
 import json, re, socket, subprocess, threading, time
 
 from checks import check, connect, differs, free_port, read_all, statuses_of, wait_for
-from rooms import ASKED, SECONDS, frame, frames_of, head, joined
+from rooms import ASKED, SECONDS, closed_rooms, frame, frames_of, head, joined, joined_frames, masked, room_clients
 
 # What the limits of the server are whose limits are tried, and its words.
 TIGHT = {"members": 4, "joining": 8, "message": 20_000, "unfinished": 30_000, "waiting": 1_000_000, "idle": 1000, "answer": 1000,
@@ -106,36 +106,6 @@ def limited_rooms(address):
             return "its socket is still there"
     check("rooms with limits, one that doesn't end after its Close", lingering)
 
-    def deaf():
-        # While so much waits for one that doesn't read, nobody is read; once it is cut off, all are again.
-        sock = socket.socket()
-        sock.setsockopt(socket.SOL_SOCKET, socket.SO_RCVBUF, 4096)
-        sock.settimeout(SECONDS)
-        sock.connect(address)
-        sock.sendall(ASKED % b"/deaf")
-        time.sleep(0.3)
-        speaker, _ = joined(address, b"/deaf")
-        other, _ = joined(address, b"/elsewhere")
-        with sock, speaker, other:
-            began = time.monotonic()
-            for _ in range(400):
-                speaker.sendall(frame(0x82, bytes(16_000)))
-            time.sleep(max(0.0, 1.3 - (time.monotonic() - began)))
-            asked = time.monotonic()
-            other.sendall(frame(0x89, b"here"))
-            seen = b""
-            while b"\x8a\x04here" not in seen:
-                seen += other.recv(100)
-            waited = time.monotonic() - asked
-            last = b""
-            try:
-                while piece := sock.recv(65536):
-                    last = (last + piece)[-100:]
-            except ConnectionResetError:
-                pass
-        return None if b"\x88\x02" not in last and 0.2 < waited < 10 else f"{waited:.1f} s, {last[-10:]}"
-    check("rooms with limits, one that doesn't read, and one that isn't read", deaf)
-
 
 # ---- the log
 
@@ -200,11 +170,12 @@ def logged_rooms(program):
             seen = [json.loads(line) for line in server.end()]
             # A connection of wait_for asks nothing.
             found = [(one["event"], one["method"], one["target"], one.get("status", one.get("code"))) for one in seen]
-            wrong = differs(found, [
+            # One may have left only after the next one came.
+            wrong = differs(sorted(found, key=str), sorted([
                 ("answered", "GET", "/\u00c3\u00a9\"", 404), ("answered", "GET", "/old", 426), ("answered", None, None, 400),
                 ("joined", "GET", "/kitchen?x", 101), ("left", "GET", "/kitchen?x", 4001), ("joined", "GET", "/broken", 101),
                 ("left", "GET", "/broken", 1002), ("joined", "GET", "/gone", 101), ("left", "GET", "/gone", None),
-                ("joined", "GET", "/stays", 101), ("left", "GET", "/stays", None)])
+                ("joined", "GET", "/stays", 101), ("left", "GET", "/stays", 1001)], key=str))
             left = [one for one in seen if one["event"] == "left"][0]
             wrong = wrong or differs((left["received"], left["sent"]), (received, sent))
             return wrong or (None if re.fullmatch(r"127\.0\.0\.1:\d+", left["peer"]) and left["milliseconds"] < 5000 else left)
@@ -219,9 +190,10 @@ def logged_rooms(program):
             if None in found:
                 return seen
             found = [one[1].rsplit(" ", 2)[0] for one in found]
-            wrong = differs(found[:6], [r'answered GET /\xc3\xa9" 404', "answered GET /old 426", "answered - - 400",
-                                        "joined GET /kitchen?x 101", "left GET /kitchen?x 4001", "joined GET /broken 101"])
-            return wrong or (None if f" left GET /kitchen?x 4001 {received} {sent} " in seen[4] else seen[4])
+            wrong = differs(sorted(found), sorted([
+                r'answered GET /\xc3\xa9" 404', "answered GET /old 426", "answered - - 400", "joined GET /kitchen?x 101",
+                "left GET /kitchen?x 4001", "joined GET /broken 101", "left GET /broken 1002", "joined GET /gone 101", "left GET /gone -"]))
+            return wrong or (None if any(f" left GET /kitchen?x 4001 {received} {sent} " in line for line in seen) else seen)
     check("rooms, the log", in_words)
 
     def ask(address, count):
@@ -232,7 +204,7 @@ def logged_rooms(program):
 
     def unread():
         # A pipe holds 64 KiB, the program as much; the rest is lost, and all are answered.
-        with Logged(program, "--log=json") as server:
+        with Logged(program, "--log=json", "--limit", "visit=600000") as server:
             answered = ask(server.address, 2999)
             seen = []
             # The reader comes back.
@@ -257,6 +229,121 @@ def logged_rooms(program):
     check("rooms, a log whose reader is gone", closed)
 
 
+# ---- members that don't read
+
+def unread_rooms(program):
+    """While so much waits for one that doesn't read, nobody is read; once it is cut off, all are again."""
+    def deaf():
+        with Logged(program, "--limit", "waiting=1000000", "--limit", "stall=4000") as server:
+            sock = small_buffer(server.address, b"/deaf")
+            speaker, other = joined(server.address, b"/deaf")[0], joined(server.address, b"/elsewhere")[0]
+            speaking = threading.Thread(target=lambda: [speaker.sendall(frame(0x82, bytes(16_000))) for _ in range(400)])
+            speaking.start()
+            # What waits is counted each second.
+            time.sleep(2)
+            asked, seen = time.monotonic(), b""
+            other.sendall(frame(0x89, b"here"))
+            while b"\x8a\x04here" not in seen and (piece := other.recv(100)):
+                seen += piece
+            waited, last = time.monotonic() - asked, b""
+            try:
+                while piece := sock.recv(65536):
+                    last = (last + piece)[-100:]
+            except ConnectionResetError:
+                pass
+            speaking.join(SECONDS)
+            for one in (sock, speaker, other):
+                one.close()
+            return None if seen.endswith(b"here") and b"\x88\x02" not in last and 0.5 < waited < 20 else f"{waited:.1f} s, {seen}, {last[-10:]}"
+    check("rooms, one that doesn't read, and one that isn't read meanwhile", deaf)
+
+
+# ---- the end
+
+def leaving_rooms(program):
+    def told():
+        with Logged(program, "--log") as server:
+            members = [joined(server.address, b"/leave%d" % number)[0] for number in range(3)]
+            members[0].sendall(masked(0x01, b"half a message"))
+            time.sleep(0.3)
+            server.process.stdin.close()
+            ends = []
+            for sock in members:
+                ends.append(frames_of(read_all(sock)))
+                sock.close()
+            left = [line for line in server.process.stderr.read().decode().splitlines() if " left GET /leave" in line and " 1001 " in line]
+            return differs((ends, len(left), server.process.wait(SECONDS)), ([[(0x88, b"\x03\xe9")]] * 3, 3, 0))
+    check("rooms, all are told Close 1001 where the input ends", told)
+
+    def waits():
+        # What waits for one that doesn't read comes first, and nobody new comes meanwhile.
+        with Logged(program, "--limit", "leave=600000") as server:
+            one, other = small_buffer(server.address, b"/late"), joined(server.address, b"/late")[0]
+            for number in range(200):
+                other.sendall(masked(0x82, number.to_bytes(2, "big") * 8000))
+            other.sendall(frame(0x89, b"all"))
+            while b"\x8a\x03all" not in other.recv(100):
+                pass
+            server.process.stdin.close()
+            wrong = differs(frames_of(read_all(other)), [(0x88, b"\x03\xe9")])
+            try:
+                socket.create_connection(server.address, timeout=SECONDS).close()
+                wrong = wrong or "it takes a further connection"
+            except ConnectionRefusedError:
+                pass
+            seen = joined_frames(without_pings(frames_of(read_all(one))))
+            one.close()
+            other.close()
+            wanted = [(0x82, number.to_bytes(2, "big") * 8000) for number in range(200)] + [(0x88, b"\x03\xe9")]
+            return wrong or (None if seen == wanted else [(first, len(payload)) for first, payload in seen]) or differs(server.process.wait(SECONDS), 0)
+    check("rooms, what waits for one comes before its Close 1001", waits)
+
+    def deaf():
+        with Logged(program, "--limit", "leave=2000") as server:
+            one, other = small_buffer(server.address, b"/deaf"), joined(server.address, b"/deaf")[0]
+            for _ in range(400):
+                other.sendall(frame(0x82, bytes(16_000)))
+            began = time.monotonic()
+            server.process.stdin.close()
+            status, took = server.process.wait(SECONDS), time.monotonic() - began
+            one.close()
+            other.close()
+            return None if status == 0 and 1.9 < took < 10 else (status, f"{took:.1f} s")
+    check("rooms, one that takes nothing is cut off once the time to leave is up", deaf)
+
+
+def small_buffer(address, room):
+    """A member that reads nothing yet, and has little room for what comes."""
+    sock = socket.socket()
+    sock.setsockopt(socket.SOL_SOCKET, socket.SO_RCVBUF, 4096)
+    sock.settimeout(SECONDS)
+    sock.connect(address)
+    sock.sendall(ASKED % room)
+    seen = b""
+    while not seen.endswith(b"\r\n\r\n"):
+        seen += sock.recv(1)
+    return sock
+
+
+# ---- memory
+
+def hoarding_rooms(address):
+    """Many members with unfinished messages: above what these may have in all, all but the small ones are let go."""
+    def hoarded():
+        members = [joined(address, b"/hoard%d" % number)[0] for number in range(41)]
+        small, _ = joined(address, b"/hoard")
+        small.sendall(masked(0x02, bytes(60_000)))
+        for sock in members:
+            sock.sendall(frame(0x02, bytes(900_000)))
+        ends = [frames_of(read_all(sock)) for sock in members]
+        small.sendall(masked(0x80, b"") + frame(0x88, b""))
+        wrong = differs(frames_of(read_all(small)), [(0x88, b"")])
+        for sock in members:
+            sock.close()
+        return wrong or differs(ends, [[(0x88, b"\x03\xf5")]] * len(members))
+    check("rooms, unfinished messages of 36,900,000 bytes", hoarded)
+
+
 # ---- statuses
 
 def ended_rooms(program):
@@ -277,3 +364,21 @@ def ended_rooms(program):
         taken.bind(("127.0.0.1", 0))
         taken.listen()
         ends("a taken port", 1, "is taken", str(taken.getsockname()[1]))
+
+
+# ---- all
+
+def chat_clients(at, program):
+    """All checks of the rooms, of those servers that are there."""
+    if program:
+        ended_rooms(program)
+        logged_rooms(program)
+        unread_rooms(program)
+        leaving_rooms(program)
+    if at["tight"]:
+        limited_rooms(at["tight"])
+    if at["closed"]:
+        closed_rooms(at["closed"])
+    if at["rooms"]:
+        room_clients(at["rooms"])
+        hoarding_rooms(at["rooms"])

@@ -154,21 +154,6 @@ def socket_members(address):
     refused("no version of WebSocket", b"Sec-WebSocket-Version: 13\r\n", b"")
     refused("HTTP/1.0", b"HTTP/1.1", b"HTTP/1.0")
 
-    def hoarded():
-        # 40 members have 36,000,000 bytes of unfinished messages: all but one of 60,000 bytes are let go.
-        members = [joined(address, b"/hoard%d" % number)[0] for number in range(41)]
-        small, _ = joined(address, b"/hoard")
-        small.sendall(masked(0x02, bytes(60_000)))
-        for sock in members:
-            sock.sendall(frame(0x02, bytes(900_000)))
-        ends = [frames_of(read_all(sock)) for sock in members]
-        small.sendall(masked(0x80, b"") + frame(0x88, b""))
-        wrong = differs(frames_of(read_all(small)), [(0x88, b"")])
-        for sock in members:
-            sock.close()
-        return wrong or differs(ends, [[(0x88, b"\x03\xf5")]] * len(members))
-    check("rooms, unfinished messages of 36,900,000 bytes", hoarded)
-
     def gone():
         # The last words of one who vanishes are heard, and nobody else is disturbed.
         one, _ = joined(address, b"/gone")
