@@ -234,13 +234,17 @@ def logged_rooms(program):
 def unread_rooms(program):
     """While so much waits for one that doesn't read, nobody is read; once it is cut off, all are again."""
     def deaf():
-        with Logged(program, "--limit", "waiting=1000000", "--limit", "stall=4000") as server:
+        with Logged(program, "--limit", "waiting=1000000", "--limit", "stall=8000") as server:
             sock = small_buffer(server.address, b"/deaf")
             speaker, other = joined(server.address, b"/deaf")[0], joined(server.address, b"/elsewhere")[0]
-            speaking = threading.Thread(target=lambda: [speaker.sendall(frame(0x82, bytes(16_000))) for _ in range(400)])
+            said = []
+            speaking = threading.Thread(target=lambda: [said.append(speaker.sendall(frame(0x82, bytes(16_000)))) for _ in range(1500)], daemon=True)
             speaking.start()
-            # What waits is counted each second.
-            time.sleep(2)
+            # Until the speaker isn't read any more.
+            before = -1
+            while before < len(said):
+                before = len(said)
+                time.sleep(1.5)
             asked, seen = time.monotonic(), b""
             other.sendall(frame(0x89, b"here"))
             while b"\x8a\x04here" not in seen and (piece := other.recv(100)):
@@ -251,7 +255,6 @@ def unread_rooms(program):
                     last = (last + piece)[-100:]
             except ConnectionResetError:
                 pass
-            speaking.join(SECONDS)
             for one in (sock, speaker, other):
                 one.close()
             return None if seen.endswith(b"here") and b"\x88\x02" not in last and 0.5 < waited < 20 else f"{waited:.1f} s, {seen}, {last[-10:]}"
