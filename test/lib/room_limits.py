@@ -234,7 +234,7 @@ def logged_rooms(program):
 def unread_rooms(program):
     """While so much waits for one that doesn't read, nobody is read; once it is cut off, all are again."""
     def deaf():
-        with Logged(program, "--limit", "waiting=1000000", "--limit", "stall=8000") as server:
+        with Logged(program, "--limit", "waiting=1000000", "--limit", "stall=8000", "--limit", "idle=600000") as server:
             sock = small_buffer(server.address, b"/deaf")
             speaker, other = joined(server.address, b"/deaf")[0], joined(server.address, b"/elsewhere")[0]
             said = []
@@ -280,7 +280,7 @@ def leaving_rooms(program):
 
     def waits():
         # What waits for one that doesn't read comes first, and nobody new comes meanwhile.
-        with Logged(program, "--limit", "leave=600000") as server:
+        with Logged(program, "--limit", "leave=600000", "--limit", "idle=600000") as server:
             one, other = small_buffer(server.address, b"/late"), joined(server.address, b"/late")[0]
             for number in range(200):
                 other.sendall(masked(0x82, number.to_bytes(2, "big") * 8000))
@@ -302,7 +302,7 @@ def leaving_rooms(program):
     check("rooms, what waits for one comes before its Close 1001", waits)
 
     def deaf():
-        with Logged(program, "--limit", "leave=2000") as server:
+        with Logged(program, "--limit", "leave=2000", "--limit", "idle=600000") as server:
             one, other = small_buffer(server.address, b"/deaf"), joined(server.address, b"/deaf")[0]
             for _ in range(400):
                 other.sendall(frame(0x82, bytes(16_000)))
