@@ -238,8 +238,16 @@ def unread_rooms(program):
             sock = small_buffer(server.address, b"/deaf")
             speaker, other = joined(server.address, b"/deaf")[0], joined(server.address, b"/elsewhere")[0]
             said = []
-            speaking = threading.Thread(target=lambda: [said.append(speaker.sendall(frame(0x82, bytes(16_000)))) for _ in range(1500)], daemon=True)
-            speaking.start()
+
+            def speak():
+                try:
+                    for _ in range(1500):
+                        speaker.sendall(frame(0x82, bytes(16_000)))
+                        said.append(True)
+                except OSError:
+                    # It is closed below.
+                    pass
+            threading.Thread(target=speak, daemon=True).start()
             # Until the speaker isn't read any more.
             before = -1
             while before < len(said):
