@@ -1,5 +1,5 @@
 """Clients of app_proxy before several servers: who is asked, who is left out, and that nothing is asked twice."""
-import re, socket, threading, time
+import socket, threading, time
 
 from checks import check, differs, free_port, run, statuses_of
 from forwarder import LAST, Forwarder, exchange
@@ -7,10 +7,10 @@ from upstream import Upstream
 
 
 class Named:
-    """A server that answers with its name; `answers` is false of one that closes after each request, and None of one that says
-    nothing."""
-    def __init__(self, name, answers=True, port=0):
-        self.name, self.answers = name, answers
+    """A server that answers with its name, after so many seconds; `answers` is false of one that closes after each request, and
+    None of one that says nothing."""
+    def __init__(self, name, answers=True, port=0, seconds=0):
+        self.name, self.answers, self.seconds = name, answers, seconds
         self.connections = self.requests = 0
         self.listener = socket.create_server(("127.0.0.1", port), backlog=64)
         self.address = self.listener.getsockname()
@@ -31,6 +31,7 @@ class Named:
                 while seen := sock.recv(65536):
                     self.requests += seen.count(b" HTTP/1.1\r\n")
                     if self.answers:
+                        time.sleep(self.seconds)
                         sock.sendall(b"HTTP/1.1 200 OK\r\ncontent-length: %d\r\n\r\n" % len(self.name) + self.name)
                     elif self.answers is False:
                         return
@@ -122,6 +123,12 @@ def down_clients(program):
         with Forwarder(program, [it.address for it in servers], "--limit", "server=1000") as forwarder:
             return differs((b" ".join(asked(forwarder.address, 6)), servers[0].requests), (b"502 b b b b b", 1))
     check("forwarder, a server that says nothing for too long is left out", silent)
+
+    def slow():
+        servers = Named(b"a", seconds=0.8), Named(b"b")
+        with Forwarder(program, [it.address for it in servers]) as forwarder:
+            return differs((b"".join(asked(forwarder.address, 6)), servers[0].requests, servers[1].requests), (b"ababab", 3, 3))
+    check("forwarder, a server that answers late is waited for, and keeps its turn", slow)
 
     def whole():
         server = Upstream()
