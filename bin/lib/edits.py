@@ -288,15 +288,13 @@ def is_old(crate, row):
 
 HEAD = """# Edits
 
-An edit is a wrong body that the prover has to refuse (`crates/NAME/must-fail`). `bin/edits` tries those of the crates that it is
-given, or of all, and writes this table. The gate tries {gate} of the {all} (`*.edit`), and `bin/edits` all of them, also those that
-the gate has no time for (`*.edit.md`).
+An edit is a wrong body that the prover has to refuse (`crates/NAME/must-fail`). `bin/edits` tries those of the named crates, or
+of all, and writes this table. The gate tries {gate} of the {all} (`*.edit`), and has no time for the others (`*.edit.md`).
 
-An edit counts as refused at a goal where the first thing that the prover names is a goal of the function that was changed. The
-others are named with what came of them: `name`, refused only because a proof names what the edit took away; `elsewhere`, refused,
-but at a goal of another function first; `limit`, the prover came to a limit of its own. A row is written only by a run that tried
-all edits of its crate. The last column is a sum of the crate's code, contracts, definitions and edits: where it is another one by
-now, `bin/edits --look` says so, and they are to be tried again.
+An edit is refused at a goal where the first thing that the prover names of the changed function is a goal. Other outcomes stand
+before the edits: `name`, only a proof names what the edit took away; `elsewhere`, first a goal of another function; `limit`, the
+prover came to a limit of its own. A row is written once all edits of a crate were tried. The last column is a sum of its code,
+contracts, definitions and edits; `bin/edits --look` names old rows.
 
 | crate | edits | tried | refused at a goal | sum |
 |---|---|---|---|---|
@@ -305,9 +303,10 @@ now, `bin/edits --look` says so, and they are to be tried again.
 
 def write_table(crate, edits, day, root=ROOT):
     """Writes the table anew, with this crate's row; the others stay."""
-    others = [f"`{it.name}`: {it.outcome}" for it in edits if it.outcome != GOAL]
+    others = [it for it in edits if it.outcome != GOAL]
+    kinds = sorted({it.outcome for it in others})
     good = len(edits) - len(others)
-    told = "all" if not others else f"{good}; " + ", ".join(others)
+    told = "; ".join([str(good), *(f"{kind}: " + ", ".join(f"`{it.name}`" for it in others if it.outcome == kind) for kind in kinds)]) if others else "all"
     write_rows({**read_rows(root), crate: [f"`{crate}`", str(len(edits)), day, told, text_of(crate, root)]}, root)
 
 
