@@ -289,7 +289,7 @@ def is_old(crate, row):
 HEAD = """# Edits
 
 An edit is a wrong body that the prover has to refuse (`crates/NAME/must-fail`). `bin/edits` tries those of the named crates, or
-of all, and writes this table. The gate tries {gate} of the {all} (`*.edit`), and not the others (`*.edit.md`).
+all, and writes this table. The gate tries {gate} of the {all} (`*.edit`), and not the others (`*.edit.md`).
 
 An edit is refused at a goal where the first thing that the prover names of the changed function is a goal. Other outcomes stand
 before the edits: `name`, only a proof names what the edit took away; `elsewhere`, first a goal of another function; `limit`, the
