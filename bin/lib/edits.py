@@ -178,14 +178,16 @@ def module_of(path):
 
 
 def type_at(lines, line):
-    """The type or trait that the block around a line belongs to, or nothing."""
+    """The type or trait that the block around a line belongs to, as rt names it, or nothing."""
     for at in range(line - 1, -1, -1):
         if lines[at].startswith("}"):
             return ""
         found = BLOCK.match(lines[at])
         if found:
             head = PARAMETERS.sub("", found[2]) if found[1] == "impl" else found[2]
-            return re.match(r"[&\s]*(?:mut\s+)?(\w*)", head.rpartition(" for ")[2])[1]
+            of, _, type_ = head.rpartition(" for ")
+            # rt calls a method of a trait by its type's and its trait's name in one.
+            return re.match(r"[&\s]*(?:mut\s+)?(\w*)", type_)[1] + re.match(r"\s*(?:\w+::)*(\w*)", of)[1]
     return ""
 
 
