@@ -36,7 +36,7 @@ use Rattle.proxy.specs.Served.{Fits}
 use Rattle.proxy.specs.Replies.{own, passed, PutsLast, PutsHead, broken_body, no_answer, passed_on, piece_on, end_on, cut_off, marks_of, may_keep, ReplyIsOver, IsDropped, IsBad, LacksAnswer, Follows, HasAnswer, HasBytes, HasEnd, LacksEnd, AwaitsAnswer, HasCause, HasPut, KeepsBody}
 use Rattle.proxy.proofs.BodyMarks.{same_sent}
 use Rattle.proxy.proofs.Times.{trace_of}
-use Rattle.proxy.proofs.Forwarding.{edge, theirs, ours, kept_in, FitsMark, Now, Holds, at_stage, at_client, idle_now, goes_on_now, puts_to, may_to, leaves_to, leaves_settings, hands_to, tells_to}
+use Rattle.proxy.proofs.ForwardState.{edge, theirs, ours, kept_in, FitsMark, Now, Holds, at_stage, at_client, idle_now, goes_on_now, puts_to, may_to, leaves_to, leaves_settings, hands_to, tells_to}
 use Rattle.proxy.proofs.ForwardSent.{AtSent, at_sent}
 
 -- ---- what a server's connection can be asked

@@ -50,7 +50,7 @@ use Rattle.proxy.specs.Replies.{own, PutsLast, ClientAdds, ServerAdds, AddsTo, P
 use Rattle.proxy.specs.Runs.{MayCome}
 use Rattle.proxy.proofs.EventMoves.{three_parts, some_unsent}
 use Rattle.proxy.proofs.EventReplies.{no_server_of}
-use Rattle.proxy.proofs.Forwarding.{edge, theirs, ours, kept_in, CanBeAsked, FitsStage, Now, Holds, serving, as_parts, from_parts, at_stage, idle_now, has_settings, puts_to, may_to, leaves_to, leaves_settings}
+use Rattle.proxy.proofs.ForwardState.{edge, theirs, ours, kept_in, CanBeAsked, FitsStage, Now, Holds, serving, as_parts, from_parts, at_stage, idle_now, has_settings, puts_to, may_to, leaves_to, leaves_settings}
 
 -- ---- what is kept
 

@@ -30,7 +30,7 @@ use Rattle.proxy.specs.declared.proxy.SentRequest.{SentRequest}
 use Rattle.proxy_heads.specs.declared.refusal.Refusal.TheVariants.{BadHead}
 use Rattle.proxy.specs.Kept.{under_way_of, IsUnsent, HoldsNoRequest}
 use Rattle.proxy.specs.Replies.{nothing_put, opened, told_to_go_on, refused_head, not_forwardable, own, refusal_part, AreBehindHead, IsOpened, IsHeadRefused, CannotBeSent, IsDropped, HasPut, KeepsUnsent, KeepsServer, KeepsIdle}
-use Rattle.proxy.proofs.Forwarding.{edge, theirs, ours, kept_in, FitsStage, Now, Holds, serving, as_parts, at_stage, idle_now, waits_now, puts_to, may_to, leaves_to, leaves_settings}
+use Rattle.proxy.proofs.ForwardState.{edge, theirs, ours, kept_in, FitsStage, Now, Holds, serving, as_parts, at_stage, idle_now, waits_now, puts_to, may_to, leaves_to, leaves_settings}
 
 -- ---- a request that can be sent on can be asked of a server
 

@@ -21,7 +21,7 @@ use Rattle.proxy.specs.declared.proxy.Unsent.{Unsent}
 use Rattle.proxy.specs.Sides.{ServerDid}
 use Rattle.proxy.specs.Kept.{under_way_of, Runs}
 use Rattle.proxy.specs.Replies.{nothing_put, body_on, body_whole, broken_late, marks_of, SendsOn, HasCause, HasPut, KeepsBody}
-use Rattle.proxy.proofs.Forwarding.{edge, theirs, ours, kept_in, FitsMark, FitsStage, Now, Holds, as_parts, sent_now, goes_on_now, has_settings, puts_to, hands_to}
+use Rattle.proxy.proofs.ForwardState.{edge, theirs, ours, kept_in, FitsMark, FitsStage, Now, Holds, as_parts, sent_now, goes_on_now, has_settings, puts_to, hands_to}
 
 -- ---- what is known of it
 

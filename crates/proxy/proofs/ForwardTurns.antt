@@ -7,7 +7,7 @@ use Rattle.proxy.specs.declared.proxy.ProxyConfig.{ProxyConfig}
 use Rattle.proxy.specs.declared.proxy.Unsent.{Unsent}
 use Rattle.proxy.specs.declared.proxy.SentRequest.{SentRequest}
 use Rattle.proxy.specs.Replies.{TurnPuts, nothing_put, opened, told_to_go_on, sent_on, body_on, body_whole, broken_body, broken_late, refused_head, not_forwardable, no_answer, passed_on, piece_on, end_on, cut_off, HasCause, HasPut, KeepsBody, KeepsUnsent, IsTurn, HasReplied, nothing, turned}
-use Rattle.proxy.proofs.Forwarding.{ours, Now, Holds, holds_then}
+use Rattle.proxy.proofs.ForwardState.{ours, Now, Holds, holds_then}
 use Rattle.proxy.proofs.ForwardWaiting.{waiting_sent, waiting_turn}
 use Rattle.proxy.proofs.ForwardIdle.{idle_still, idle_opens, idle_tells, idle_refuses, idle_declines}
 use Rattle.proxy.proofs.ForwardSent.{sent_still, sent_piece, sent_whole, sent_breaks}
@@ -53,4 +53,4 @@ same_config p _ (turned mid new before t) = t.goes.0 ∙ same_config p mid befor
 pub turns_hold : (s : ProxyStep) (history : List ProxyStep) (p q : Proxy) → 0 < (ours p.config).write_buffer → Holds (s ∷ history) p → HasReplied p q → Holds (s ∷ history) q
 turns_hold s history p _ room h nothing = h
 turns_hold s history p _ room h (turned mid new before t) =
-    turn_holds s history mid q (subst (λ (c : ProxyConfig). 0 < (ours c).write_buffer) (sym (same_config p mid before)) room) (turns_hold s history p mid room h before) t
+    turn_holds s history mid new (subst (λ (c : ProxyConfig). 0 < (ours c).write_buffer) (sym (same_config p mid before)) room) (turns_hold s history p mid room h before) t

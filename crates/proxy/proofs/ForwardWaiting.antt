@@ -29,7 +29,7 @@ use Rattle.proxy.specs.Rests.{may_turn}
 use Rattle.proxy.specs.Served.{Fits}
 use Rattle.proxy.proofs.Puts.{did_hands, hands_same}
 use Rattle.proxy.proofs.Replies.{noted_client, noted_server, noted_unsent, noted_sent}
-use Rattle.proxy.proofs.Forwarding.{edge, theirs, ours, kept_in, CanBeAsked, FitsStage, FitsMark, Now, Holds, as_parts, at_stage, at_client, waits_now, sent_now, has_settings, hands_to}
+use Rattle.proxy.proofs.ForwardState.{edge, theirs, ours, kept_in, CanBeAsked, FitsStage, FitsMark, Now, Holds, as_parts, at_stage, at_client, waits_now, sent_now, has_settings, hands_to}
 use Rattle.proxy.proofs.ForwardSent.{allowed_to, step_to}
 
 -- ---- the time is told

@@ -28,7 +28,7 @@ use Rattle.proxy.specs.Rests.{IsNoted}
 use Rattle.proxy.specs.Served.{IsServed}
 use Rattle.proxy.specs.Replies.{HasReplied, Replies}
 use Rattle.proxy.specs.Runs.{MayCome, RepliesBy, Ran, at_first, behind, noted, waiting_of, IsUsable, IsAForwarder}
-use Rattle.proxy.proofs.Forwarding.{edge, theirs, ours, kept_in, Holds, idle_now}
+use Rattle.proxy.proofs.ForwardState.{edge, theirs, ours, kept_in, Holds, idle_now}
 use Rattle.proxy.proofs.ForwardTurns.{same_config, turns_hold}
 use Rattle.proxy.proofs.ForwardEvents.{event_holds, refused_holds}
 

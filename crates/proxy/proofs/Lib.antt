@@ -16,7 +16,7 @@ pub mod AnswerUses
 pub mod Replies
 pub mod EventReplies
 pub mod Carried
-pub mod Forwarding
+pub mod ForwardState
 pub mod ForwardSent
 pub mod ForwardWaiting
 pub mod ForwardIdle
