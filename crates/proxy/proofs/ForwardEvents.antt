@@ -308,14 +308,14 @@ module _ (history : List ProxyStep) (p mid : Proxy) (h : Holds history p) (serve
           sym (cond-true {A = List ProxyStep} (client_takes p on.eof) (record { event = past.client_eof; outcome = past.done } ∷ history) history may)
 
       kept : client_takes p on.eof ≡ false → history ≡ history_by past.client_eof past.done p history
-      kept no = sym (cond-false {A = List ProxyStep} (client_takes p on.eof) (record { event = past.client_eof; outcome = past.done } ∷ history) history no)
+      kept untaken = sym (cond-false {A = List ProxyStep} (client_takes p on.eof) (record { event = past.client_eof; outcome = past.done } ∷ history) history untaken)
 
       by_case : ((mid.client ≡ p.client) × (client_takes p on.eof ≡ false)) ⊎ ((client_takes p on.eof ≡ true) × ClientAdds on.eof on.done p.client mid.client)
           → Holds (history_by past.client_eof past.done p history) mid
-      by_case (inl (same, no)) =
+      by_case (inl (same, untaken)) =
           let moved = goes.1 history h.all h.forwards in
-          subst (λ (steps : List ProxyStep). Holds steps mid) (kept no)
-          (holds_by history p mid history h serves goes.0 moved.0 (subst (λ (steps : List ProxyStep). Forwards mid steps moved.0) (sym (kept no)) moved.1)
+          subst (λ (steps : List ProxyStep). Holds steps mid) (kept untaken)
+          (holds_by history p mid history h serves goes.0 moved.0 (subst (λ (steps : List ProxyStep). Forwards mid steps moved.0) (sym (kept untaken)) moved.1)
           (client_now history p mid h history ev.server ev.unsent ev.sent (same_client history p mid h history same h.now.served)))
       by_case (inr (may, adds)) =
           let moved = goes.1 history h.all h.forwards in
@@ -467,13 +467,13 @@ module _ (history : List ProxyStep) (p mid : Proxy) (h : Holds history p) (serve
 pub event_holds : (by : ProxyEvent) (outcome : ProxyOutcome) (history : List ProxyStep) (p mid : Proxy) → past.is_refusal by ≡ false → Holds history p → MayCome by p
     → (history ≡ [] → client_takes p on.eof ≡ true) → GoesBy by outcome p mid → GoesOnServing p mid → PutsNothing by outcome p mid
     → Holds (history_by by outcome p history) mid
-event_holds (past.client bytes) (past.took n) history p mid no h may some goes serves ev = read_client history p mid h serves bytes n goes ev
-event_holds past.client_eof past.done history p mid no h may some goes serves ev = end_client history p mid h serves goes ev some
-event_holds (past.to_client n) (past.gave bytes) history p mid no h may some goes serves ev = write_client history p mid h serves n bytes goes ev
-event_holds (past.tick ms) past.done history p mid no h may some goes serves ev = tick_client history p mid h serves ms goes ev
-event_holds (past.server bytes) (past.took n) history p mid no h may some goes serves ev = read_server history p mid h serves bytes n goes ev
-event_holds past.server_eof past.done history p mid no h may some goes serves ev = end_server history p mid h serves goes ev
-event_holds (past.to_server n) (past.gave bytes) history p mid no h may some goes serves ev = write_server history p mid h serves n bytes goes ev
-event_holds past.connected past.done history p mid no h may some goes serves ev = connects history p mid h serves may goes ev
-event_holds past.refused outcome history p mid no h may some goes serves ev = absurd (false≢true (sym no))
-event_holds by outcome history p mid no h may some goes serves ev = absurd ev.client
+event_holds (past.client bytes) (past.took n) history p mid other h may some goes serves ev = read_client history p mid h serves bytes n goes ev
+event_holds past.client_eof past.done history p mid other h may some goes serves ev = end_client history p mid h serves goes ev some
+event_holds (past.to_client n) (past.gave bytes) history p mid other h may some goes serves ev = write_client history p mid h serves n bytes goes ev
+event_holds (past.tick ms) past.done history p mid other h may some goes serves ev = tick_client history p mid h serves ms goes ev
+event_holds (past.server bytes) (past.took n) history p mid other h may some goes serves ev = read_server history p mid h serves bytes n goes ev
+event_holds past.server_eof past.done history p mid other h may some goes serves ev = end_server history p mid h serves goes ev
+event_holds (past.to_server n) (past.gave bytes) history p mid other h may some goes serves ev = write_server history p mid h serves n bytes goes ev
+event_holds past.connected past.done history p mid other h may some goes serves ev = connects history p mid h serves may goes ev
+event_holds past.refused outcome history p mid other h may some goes serves ev = absurd (false≢true (sym other))
+event_holds by outcome history p mid other h may some goes serves ev = absurd ev.client

@@ -130,9 +130,10 @@ module _ (s : ProxyStep) (history : List ProxyStep) (p q : Proxy) (h : Holds (s 
 
   -- what happened so far on the client's connection
   trace : List Step
-  trace = h.all.client
+  trace = (serving (s ∷ history) p h.all h.forwards h.wanted).told.0
 
   stands : Stands p.client trace
+  unfolding trace
   stands = (serving (s ∷ history) p h.all h.forwards h.wanted).told.1
 
   -- its request waits

@@ -64,8 +64,8 @@ told_same (Some m) a b (inl did) = record {
 
 -- ---- it can't be asked
 
-used_by : (closes waits may : Bool) → (closes || waits || not may) ≡ true → waits ≡ false → may ≡ true → closes ≡ true
-used_by true waits may is none allowed = refl
+used_by : (closes behind may : Bool) → (closes || behind || not may) ≡ true → behind ≡ false → may ≡ true → closes ≡ true
+used_by true behind may is none allowed = refl
 used_by false true may is none allowed = absurd (false≢true (sym none))
 used_by false false true is none allowed = absurd (false≢true is)
 used_by false false false is none allowed = absurd (false≢true allowed)

@@ -87,7 +87,7 @@ fresh_takes : (p : Proxy) → p.client ≡ fresh_state p.config.connections → 
 fresh_takes p is = ap (λ (s : State). allowed_by (setting_of s.settings) s.kept on.eof) is ∙ takes_at_first p.config.connections
 
 not_empty : (s : ProxyStep) (history : List ProxyStep) → s ∷ history ≡ [] → ⊥
-not_empty s history e = let no : s ∷ history ≡ [] = e in cc no
+not_empty s history e = let none : s ∷ history ≡ [] = e in cc none
 
 -- turns that follow an event
 then_turns : (next : List ProxyStep) (p mid new : Proxy) → 0 < (ours p.config).write_buffer → (next ≡ [] → ⊥) → mid.config ≡ p.config → Holds next mid → HasReplied mid new
@@ -117,10 +117,10 @@ some_by by outcome p history takes e = not_empty (record { event = by; outcome =
 
 step_holds : (by : ProxyEvent) (outcome : ProxyOutcome) (history : List ProxyStep) (old new : Proxy) → 0 < (ours old.config).write_buffer → Went history old → MayCome by old
     → past.is_refusal by ≡ false → Replies by outcome old new → Went (history_by by outcome old history) new
-step_holds by outcome history old new room x may no replies =
+step_holds by outcome history old new room x may other replies =
     let takes : history ≡ [] → client_takes old on.eof ≡ true = λ e. fresh_takes old (x.first e) in
     then_turns (history_by by outcome old history) old replies.mid new room (some_by by outcome old history takes) replies.goes.0
-    (event_holds by outcome history old replies.mid no x.holds may takes replies.goes replies.serves replies.event) replies.turns
+    (event_holds by outcome history old replies.mid other x.holds may takes replies.goes replies.serves replies.event) replies.turns
 
 went_by : (by : ProxyEvent) (outcome : ProxyOutcome) (history : List ProxyStep) (old new : Proxy) → 0 < (ours old.config).write_buffer → Went history old → MayCome by old
     → RepliesBy by outcome old new → Went (history_by by outcome old history) new

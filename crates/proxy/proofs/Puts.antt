@@ -127,10 +127,10 @@ pulled_hands (pulled.Broken fault) a b settings one = one_puts a on.pull _ b (re
 pulled_hands pulled.Pending a b settings one = one_puts a on.pull _ b [] settings one (λ o says. ap (parts_by on.pull) says)
 
 -- a head that is handed out, and then these parts
-pub behind_head : (Is : Head → Type 0) (parts : List Part) (a b c : State) → HandsHead Is a b → Puts parts b c
+pub behind_a_head : (Is : Head → Type 0) (parts : List Part) (a b c : State) → HandsHead Is a b → Puts parts b c
     → PutsFor (λ (all : List Part). (h : Head) × Is h × (all ≡ parts ++ hands h ∷ [])) a c
 unfolding parts_of
-behind_head Is parts a b c head puts = (
+behind_a_head Is parts a b c head puts = (
   puts.0 ∙ head.0,
   λ trace stands.
       let x = head.1 trace stands in

@@ -22,7 +22,7 @@ use Rattle.model_proxy.specs.Answers.{says_close, reply_head, reply_size}
 use Rattle.proxy.specs.Leaves.{LeavesAnswer}
 use Rattle.model_proxy.specs.Parts.{Part, begins, continues, ends, breaks_off, goes_on, request_breaks, is_refused, Handed, body_bytes, body_fault}
 use Rattle.proxy.specs.Puts.{Puts, IsRefused, MayPut, MayLeave, HandsHead, HandsAnswer, HandsPiece, Hands, HandsNone, CannotPull, IsReadUp}
-use Rattle.proxy.proofs.Puts.{puts_none, then_none, behind_head, hands_same, hands_then, tells_none}
+use Rattle.proxy.proofs.Puts.{puts_none, then_none, behind_a_head, hands_same, hands_then, tells_none}
 use Rattle.proxy_heads.specs.Edges.{edge_of}
 use Rattle.proxy_heads.specs.declared.refusal.Refusal.TheVariants.{BadHead}
 use Rattle.proxy.specs.declared.proxy.Proxy.{Proxy}
@@ -56,7 +56,7 @@ noted_client p q (n, is) = ap (λ (p : Proxy). p.client) is
 -- behind a head that was handed out
 pub after_head : (Is : Head → Type 0) (part : Part) (a b c : State) → HandsHead Is a b → PutsLast [] part b c → PutsAfter (AreBehindHead Is []) part a c
 after_head Is part a b c hands x =
-    record { mid = x.mid; first = behind_head Is [] a b x.mid hands x.first; there = x.there; leaves = x.leaves; last = x.last }
+    record { mid = x.mid; first = behind_a_head Is [] a b x.mid hands x.first; there = x.there; leaves = x.leaves; last = x.last }
 
 -- ---- nothing waits for an answer
 
@@ -309,7 +309,7 @@ opened_replies : (p q : Proxy) (item : HeadItem) (c : State) → HoldsNoRequest 
 opened_replies p q item c idle hands same = (
   opened,
   idle,
-  behind_head (IsOpened (edge_of p.config.edge) q) [] p.client c q.client hands (same_puts c q.client same),
+  behind_a_head (IsOpened (edge_of p.config.edge) q) [] p.client c q.client hands (same_puts c q.client same),
   idle_body opened p q idle.sent,
   tt,
 )
@@ -327,7 +327,7 @@ head_replies p q item c idle hands (inl (may, inl (new, inl (none, same)), u, at
 head_replies p q item c idle hands (inl (may, inl (new, inr told), u, at, is)) = (
   told_to_go_on,
   (idle, c, hands_so _ item p.client c (λ h says. (may h says, new h says)) hands),
-  behind_head _ (goes_on ∷ []) p.client c q.client (hands_so _ item p.client c (λ h says. ((may h says, u, at, is h says), new h says)) hands) told,
+  behind_a_head _ (goes_on ∷ []) p.client c q.client (hands_so _ item p.client c (λ h says. ((may h says, u, at, is h says), new h says)) hands) told,
   idle_body told_to_go_on p q idle.sent,
   tt,
 )
