@@ -100,23 +100,23 @@ module _ (marks : Marks) (answered : marks.is_answered ≡ true) (s : servers.St
   not_unsent u at = let no : ◌≡◌ {A = Option Unsent} None (Some u) = sym x.goes.runs.unsent ∙ at in cc no
 
   by_turn : TurnReplies mid new → IsCarried marks s old new
-  by_turn (nothing_put, cause, puts, rest) = inl (by_nothing cause puts)
-  by_turn (broken_late fault, cause, puts, rest) = inl (by_late fault cause puts)
-  by_turn (piece_on bytes, cause, puts, rest) = inl (by_piece bytes cause puts)
-  by_turn (end_on, cause, puts, rest) = inr (mid, new, x, inl (cause, puts), nothing)
-  by_turn (cut_off, cause, puts, rest) = inr (mid, new, x, inr (cause, puts), nothing)
-  by_turn (passed_on is_head a, cause, puts, rest) = absurd (not_both cause.0 cause.1)
-  by_turn (no_answer, cause, puts, rest) = absurd (not_both cause.0 cause.1)
-  by_turn (broken_body fault, cause, puts, rest) = absurd (not_both cause.0 cause.1)
-  by_turn (not_forwardable, cause, puts, rest) = absurd (not_idle cause.0)
-  by_turn (told_to_go_on, cause, puts, rest) = absurd (not_idle cause.0)
-  by_turn (refused_head, cause, puts, rest) = absurd (not_idle cause.0)
-  by_turn (opened, cause, puts, rest) = absurd (not_idle cause)
-  by_turn (sent_on, cause, puts, rest) = absurd (not_unsent cause.0 cause.1)
-  by_turn (body_on bytes, (sent, t, runs, at, more), puts, rest) =
+  by_turn (nothing_put, cause, puts, body, rest) = inl (by_nothing cause puts)
+  by_turn (broken_late fault, cause, puts, body, rest) = inl (by_late fault cause puts)
+  by_turn (piece_on bytes, cause, puts, body, rest) = inl (by_piece bytes cause puts)
+  by_turn (end_on, cause, puts, body, rest) = inr (mid, new, x, inl (cause, puts), nothing)
+  by_turn (cut_off, cause, puts, body, rest) = inr (mid, new, x, inr (cause, puts), nothing)
+  by_turn (passed_on is_head a, cause, puts, body, rest) = absurd (not_both cause.0 cause.1)
+  by_turn (no_answer, cause, puts, body, rest) = absurd (not_both cause.0 cause.1)
+  by_turn (broken_body fault, cause, puts, body, rest) = absurd (not_both cause.0 cause.1)
+  by_turn (not_forwardable, cause, puts, body, rest) = absurd (not_idle cause.0)
+  by_turn (told_to_go_on, cause, puts, body, rest) = absurd (not_idle cause.0)
+  by_turn (refused_head, cause, puts, body, rest) = absurd (not_idle cause.0)
+  by_turn (opened, cause, puts, body, rest) = absurd (not_idle cause)
+  by_turn (sent_on, cause, puts, body, rest) = absurd (not_unsent cause.0 cause.1)
+  by_turn (body_on bytes, (sent, t, runs, at, more), puts, body, rest) =
       inl (by_more (asked.chunk bytes) (sends bytes) (takes bytes) sent sent t refl runs.sent refl at more puts
       (took_more bytes x.handed x.parts x.carried))
-  by_turn (body_whole, (sent, t, runs, at, more), puts, rest) =
+  by_turn (body_whole, (sent, t, runs, at, more), puts, body, rest) =
       inl (by_more asked.body_end sends_end takes_end sent (record sent { is_whole = true }) t refl runs.sent refl at more puts
       (took_end x.handed x.parts x.carried))
 

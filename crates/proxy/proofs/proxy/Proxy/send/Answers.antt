@@ -76,12 +76,12 @@ returns-clause-serves c = with_server (record c.args.self.now { unsent = Some c.
 pub returns-then-is_server_used-clause-replies : goal.returns-then-is_server_used-clause-replies
 returns-then-is_server_used-clause-replies c =
     no_part_put (record c.args.self.now { unsent = Some c.args.unsent }) _ (unsent_cause c.args.self.now _ c.args.unsent) (puts_none c.args.self.now.client)
-    (same_body (record c.args.self.now { unsent = Some c.args.unsent }) _ refl) refl
+    (same_body (record c.args.self.now { unsent = Some c.args.unsent }) (record c.args.self.now { server = None; unsent = Some c.args.unsent }) refl) refl
 
 pub returns-in_default-clause-replies : goal.returns-in_default-clause-replies
 returns-in_default-clause-replies c =
     no_part_put (record c.args.self.now { unsent = Some c.args.unsent }) _ (unsent_cause c.args.self.now _ c.args.unsent) (puts_none c.args.self.now.client)
-    (same_body (record c.args.self.now { unsent = Some c.args.unsent }) _ refl) refl
+    (same_body (record c.args.self.now { unsent = Some c.args.unsent }) (record c.args.self.now { server = c.take.new.self; unsent = Some c.args.unsent }) refl) refl
 
 pub returns-then-branch-clause-replies : goal.returns-then-branch-clause-replies
 returns-then-branch-clause-replies c =
@@ -114,7 +114,7 @@ returns-then-branch-clause-replies c =
 pub returns-clause-replies : goal.returns-clause-replies
 returns-clause-replies c =
     no_part_put (record c.args.self.now { unsent = Some c.args.unsent }) _ (unsent_cause c.args.self.now _ c.args.unsent) (puts_none c.args.self.now.client)
-    (same_body (record c.args.self.now { unsent = Some c.args.unsent }) _ refl) refl
+    (same_body (record c.args.self.now { unsent = Some c.args.unsent }) (record c.args.self.now { server = c.take.new.self; unsent = Some c.args.unsent }) refl) refl
 
 pub returns-then-is_server_used-clause-sends : goal.returns-then-is_server_used-clause-sends
 returns-then-is_server_used-clause-sends c =

@@ -72,7 +72,7 @@ returns-in_ok-note_fault-in-Fault-clause-replies c =
     no_part_put c.args.self.now _ (idle_cause c.args.self.now _ c.requires.idle)
     (subst (Puts [] c.args.self.now.client) (sym (noted_client (record c.args.self.now { client = c.next_head.new.client }) _ c.in_ok-note_fault-in-Fault.ensures.noted))
     (subst (λ (n : NextHead). HandsNext n c.args.self.now.client c.next_head.new.client) c.in-Fault.is c.in_ok-item.ensures.hands))
-    (idle_body nothing_put c.args.self.now _ c.requires.idle.sent)
+    (idle_body nothing_put c.args.self.now c.note_fault.new.self c.requires.idle.sent)
     (noted_unsent (record c.args.self.now { client = c.next_head.new.client }) _ c.in_ok-note_fault-in-Fault.ensures.noted)
 
 pub returns-in-Pending-clause-replies : goal.returns-in-Pending-clause-replies
