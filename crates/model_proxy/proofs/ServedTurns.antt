@@ -1,5 +1,5 @@
 -- A forwarder that served its client so far does so behind each turn on the request that was sent on, and on the one that waits for that.
-use Rattle.std.proofs.Common.{◌≡◌, ◌⊎◌, ℕ, Bool, true, false, List, [], ◌∷◌, ◌++◌, length, map, append_assoc, refl, sym, ap, ◌∙◌, subst, inl, inr, Option, Some, None, is_some}
+use Rattle.std.proofs.Common.{◌≡◌, ◌⊎◌, ℕ, Bool, true, false, List, [], ◌∷◌, ◌++◌, length, map, append_assoc, refl, sym, ap, ◌∙◌, subst, inl, inr, Option, Some, None}
 use Rattle.std.specs.Prelude.{IsTrue, ◌||◌, ◌==◌, ◌<◌}
 use Rattle.model_h1.specs.Setting.{Setting}
 use Rattle.model_h1.specs.Answer.{BodySize}
@@ -11,7 +11,7 @@ use Rattle.model_client.specs.AnswerReading.{Answer}
 use Rattle.model_client.specs.AnswerParse.{is_interim}
 use Rattle.model_client.specs.ClientEvent as asked
 use Rattle.model_client.specs.ClientEvent.{ClientRequest}
-use Rattle.model_client.specs.ClientKept.{ClientKept, is_free, can_be_sent, client_closing, client_allows}
+use Rattle.model_client.specs.ClientKept.{ClientKept, is_free, can_be_sent, client_allows}
 use Rattle.model_client.specs.ClientStep.{IsClientStep}
 use Rattle.model_client.specs.ClientTrace.{Happened, IsClientTrace, now_of}
 use Rattle.model_client.proofs.Written.{is_text}
