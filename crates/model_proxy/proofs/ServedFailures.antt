@@ -14,6 +14,7 @@ use Rattle.model_client.specs.ClientEvent.{ClientOutcome}
 use Rattle.model_client.specs.ClientKept.{ClientKept}
 use Rattle.model_client.specs.ClientStep.{IsClientStep}
 use Rattle.model_client.specs.ClientTrace.{Happened, IsClientTrace}
+use Rattle.model_client.specs.ReadOut.{ReadAnswer, read_out}
 use Rattle.model_proxy.specs.Edge.{Edge}
 use Rattle.model_proxy.specs.Forward.{is_forwardable}
 use Rattle.model_proxy.specs.Answers.{own_head}
@@ -32,7 +33,7 @@ use Rattle.model_proxy.proofs.PartsForward.{server_reply}
 use Rattle.model_proxy.proofs.FoundHanded.{is_out}
 use Rattle.model_proxy.proofs.BadAnswers.{FindsBad, finds_nothing, closed_bad, head_bad, body_fails}
 use Rattle.model_proxy.proofs.PutSteps.{put_brings}
-use Rattle.model_proxy.proofs.OnLinks.{Stage, before_head, answering}
+use Rattle.model_proxy.proofs.OnLinks.{Stage, before_head, answering, IsAt}
 use Rattle.model_proxy.proofs.LinkSteps.{one_trace, OnLink, quiet_link, newest_server}
 use Rattle.model_proxy.proofs.OwnSteps.{own_quiet}
 use Rattle.model_proxy.proofs.Serves.{IsIn, Serves}
@@ -138,6 +139,19 @@ module _ (edge : Edge) (theirs ours : Setting) (held : theirs.hold_size ≡ ours
             (record { taken = refl; written = refl; ended = refl; text = refl; sending = refl; asked = refl }) y.is;
         rightly = (so_far edge theirs (s ∷ history) (waiting_in (Some c)) all.client (y.here.newest ∷ y.here.others) y.is.tells.is).rightly.0 (length y.link.older) at;
       }
+
+  -- how far its answer is
+  pub served_at : (stage : Stage) (whole broken : Bool) (a : Kept) (c : ClientKept)
+      → IsServed edge theirs ours (record { client = a; server = Some c; under_way = is_sent whole broken }) stage (s ∷ history)
+      → (outs : List ReadAnswer) × (answers : List ReadAnswer) × (method : List ℕ) × (r : Reply) × IsAt stage outs answers method c r
+  served_at stage whole broken a c (all, xs, t) =
+      let k = known stage whole broken a c all xs t in (
+        (read_out k.link.asked.before).answers,
+        (read_out k.sent.link.newest.happened).answers,
+        k.sent.here.newest.pulled.head.method,
+        k.sent.here.exchange.reply,
+        k.link.at c k.sent.link.ran,
+      )
 
   -- so 502 is owed, and the server connection is closed
   pub owes_bad : (next : Stage) (whole broken : Bool) (a : Kept) (c d : ClientKept) (o : ClientOutcome) → IsBadOutcome o

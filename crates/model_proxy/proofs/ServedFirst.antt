@@ -1,5 +1,5 @@
 -- A forwarder that served its client at first, when nothing had happened; and what it owes where a server connection is refused.
-use Rattle.std.proofs.Common.{◌≡◌, ℕ, Bool, true, List, [], ◌∷◌, refl, ap, ◌∙◌, subst, None}
+use Rattle.std.proofs.Common.{◌≡◌, Bool, true, List, [], ◌∷◌, refl, ap, ◌∙◌, subst, None}
 use Rattle.model_h1.specs.Setting.{Setting}
 use Rattle.model_h1.specs.Answer.{BodySize, size_of}
 use Rattle.model_h1.specs.Sums.{Step}

@@ -39,7 +39,7 @@ use Rattle.model_proxy.proofs.Serves.{Serves}
 use Rattle.model_proxy.proofs.ServesTurns.{serves_silent}
 use Rattle.model_proxy.proofs.ServesReplies.{answer_link, read_up_link, here, serves_put}
 use Rattle.model_proxy.proofs.HandedSteps.{HandsOne, hands_one, one_quiet, bytes_behind, end_behind}
-use Rattle.model_proxy.proofs.Served.{IsServed, ClientPuts, ServerHands, PutsStep, puts_step}
+use Rattle.model_proxy.proofs.Served.{IsServed, ServedAs, ClientPuts, ServerHands, PutsStep, puts_step}
 use Rattle.model_proxy.proofs.ServedTurns.{sent_so}
 
 -- ---- the newest request is the last head
@@ -69,6 +69,14 @@ newest_request (s ∷ before) p ps e = by_head (head_of s.outcome) (pulled befor
 
 -- ---- a part is put
 
+-- its method is HEAD, or isn't
+abbrev pub IsHead : Bool → Exchange → Type 0
+IsHead is_head x = bytes_eq x.pulled.head.method (codes "HEAD") ≡ is_head
+
+-- this is so of the newest request
+abbrev pub AboutNewest : (Exchange → Type 0) → List Exchange → Type 0
+AboutNewest About xs = (x : Exchange) (older : List Exchange) → xs ≡ x ∷ older → About x
+
 module _ (edge : Edge) (theirs ours : Setting) (held : theirs.hold_size ≡ ours.hold_size) (s : ProxyStep) (history : List ProxyStep) where
   -- the newest request counts as one of HEAD, or doesn't
   about_head : (kept : ForwarderKept) (stage : Stage) (is_head : Bool) → IsAskedBy is_head kept.client → (all : Happenings) (xs : List Exchange)
@@ -83,6 +91,11 @@ module _ (edge : Edge) (theirs ours : Setting) (held : theirs.hold_size ≡ ours
       let same : h.0 ≡ x.pulled.head = cc both in
       ap (λ (g : Head). (asked_of g).is_head) (sym same) ∙ h.2
 
+  -- whether its method is HEAD, by what the client's connection keeps
+  pub about_as : (kept : ForwarderKept) (stage : Stage) (is_head : Bool) → IsAskedBy is_head kept.client → IsServed edge theirs ours kept stage (s ∷ history)
+      → ServedAs edge theirs ours (AboutNewest (IsHead is_head)) kept stage (s ∷ history)
+  about_as kept stage is_head asks (all, xs, t) = (all, xs, about_head kept stage is_head asks all xs t, t)
+
   -- what the server connection did, and what that and the part make of the answer and the reply
   record Moves (stage next : Stage) (About : Exchange → Type 0) (change : List Step → Reply → Reply) (trace : List Happened) (d : ClientKept) : Type 0 where
     new : List Happened
@@ -95,13 +108,11 @@ module _ (edge : Edge) (theirs ours : Setting) (held : theirs.hold_size ≡ ours
       → is_drain event ≡ false → is_body_error event ≡ false
       → ((trace : List Step) (f : replies.Exchange) → changed_by trace event on.done f ≡ record f { reply = change trace f.reply })
       → ((trace : List Step) → HasBrought on.done trace (record { event = event; outcome = on.done } ∷ trace))
-      → ((all : Happenings) (xs : List Exchange) → Serves edge theirs ours (record { client = a; server = Some c; under_way = is_sent whole broken }) stage (s ∷ history) all xs
-      → (x : Exchange) (older : List Exchange) → xs ≡ x ∷ older → About x)
       → ((trace : List Happened) → IsClientTrace ours trace c → Moves stage next About change trace d)
       → ((trace : List Step) → StandsFor theirs a trace → (more : List Step) × PutsStep theirs event b trace more)
-      → IsServed edge theirs ours (record { client = a; server = Some c; under_way = is_sent whole broken }) stage (s ∷ history)
+      → ServedAs edge theirs ours (AboutNewest About) (record { client = a; server = Some c; under_way = is_sent whole broken }) stage (s ∷ history)
       → IsServed edge theirs ours (record { client = b; server = Some d; under_way = is_sent whole broken }) next (s ∷ history)
-  served_part stage next whole broken a b c d event About change no_drain no_error is brings about hands puts (all, xs, t) =
+  served_part stage next whole broken a b c d event About change no_drain no_error is brings hands puts (all, xs, about, t) =
       let p = (puts all.client t.tells.carries.stands).1 in
       let first : Happenings = record all { client = p.first ++ all.client } in
       let t0 : Serves edge theirs ours (record { client = p.start; server = Some c; under_way = is_sent whole broken }) stage (s ∷ history) first xs =
@@ -116,7 +127,7 @@ module _ (edge : Edge) (theirs ours : Setting) (held : theirs.hold_size ≡ ours
       let t1 = serves_put edge theirs ours held s history stage next whole broken p.start c d first l y.link.older h.new y.here.newest y.here.others y.here.exchange
       y.here.exchanges_before y.link.are y.here.exchanges_are h.ran h.quiet y.is event p.put (change first.client y.here.exchange.reply) no_drain no_error
       (is first.client y.here.exchange)
-      (h.link l (length y.link.older) y.here.newest y.here.exchange.reply first.client refl (about all xs t y.here.newest y.here.others y.here.are) z) p.stands_put
+      (h.link l (length y.link.older) y.here.newest y.here.exchange.reply first.client refl (about y.here.newest y.here.others y.here.are) z) p.stands_put
       (brings first.client) in
       let put : Happenings = record first { client = record { event = event; outcome = on.done } ∷ first.client; links = m ∷ y.link.older } in (
         record put { client = p.after ++ put.client },
@@ -125,21 +136,19 @@ module _ (edge : Edge) (theirs ours : Setting) (held : theirs.hold_size ≡ ours
             (y.here.newest ∷ y.here.others) pending_brings_nothing p.afterwards.silent p.stands p.afterwards.brought t1,
       )
 
-  -- its head, as the answer's was handed out
-  pub served_head : (whole broken : Bool) (a b : Kept) (c d : ClientKept) (ans : Answer) (is_head : Bool) → is_interim ans.status ≡ false
-      → (ans.is_lax || (ans.status == 101)) ≡ false → IsAskedBy is_head a
+  -- its head, as the answer's was handed out, where the method of the newest request is HEAD, or isn't
+  pub served_head_as : (whole broken : Bool) (a b : Kept) (c d : ClientKept) (ans : Answer) (is_head : Bool) → is_interim ans.status ≡ false
+      → (ans.is_lax || (ans.status == 101)) ≡ false
       → ((trace : List Happened) → IsClientTrace ours trace c → IsClientTrace ours (record { event = asked.next; outcome = asked.answer ans } ∷ trace) d)
       → ClientPuts theirs (λ ps. ps ≡ begins (record { head = reply_head ans; size = reply_size is_head ans }) ∷ []) a b
-      → IsServed edge theirs ours (record { client = a; server = Some c; under_way = is_sent whole broken }) before_head (s ∷ history)
+      → ServedAs edge theirs ours (AboutNewest (IsHead is_head)) (record { client = a; server = Some c; under_way = is_sent whole broken }) before_head (s ∷ history)
       → IsServed edge theirs ours (record { client = b; server = Some d; under_way = is_sent whole broken }) (answering ans) (s ∷ history)
-  served_head whole broken a b c d ans is_head final good asks tells puts x =
+  served_head_as whole broken a b c d ans is_head final good tells puts x =
       let e : Happened = record { event = asked.next; outcome = asked.answer ans } in
       let put : List Step → Reply → Reply = λ trace r. newly_given (record { head = reply_head ans; size = reply_size is_head ans; drained = is_draining trace }) (now trace) in
-      served_part before_head (answering ans) whole broken a b c d (on.answer (reply_head ans) (reply_size is_head ans))
-      (λ x. bytes_eq x.pulled.head.method (codes "HEAD") ≡ is_head) put refl refl
+      served_part before_head (answering ans) whole broken a b c d (on.answer (reply_head ans) (reply_size is_head ans)) (IsHead is_head) put refl refl
       (λ trace f. head_put trace (reply_head ans) (reply_size is_head ans) f)
       (λ trace. put_brings (on.answer (reply_head ans) (reply_size is_head ans)) trace refl refl refl)
-      (about_head (record { client = a; server = Some c; under_way = is_sent whole broken }) before_head is_head asks)
       (λ trace ran. record {
         new = e ∷ trace;
         ran = tells trace ran;
@@ -162,6 +171,17 @@ module _ (edge : Edge) (theirs ours : Setting) (held : theirs.hold_size ≡ ours
           subst (λ (h : List Happened). OnLink ours (s ∷ history) (record { happened = record { event = asked.next; outcome = asked.answer ans } ∷ h; sent = l.sent }) n (answering ans) x q)
           same z
 
+  -- and where that is so of the client's connection
+  pub served_head : (whole broken : Bool) (a b : Kept) (c d : ClientKept) (ans : Answer) (is_head : Bool) → is_interim ans.status ≡ false
+      → (ans.is_lax || (ans.status == 101)) ≡ false → IsAskedBy is_head a
+      → ((trace : List Happened) → IsClientTrace ours trace c → IsClientTrace ours (record { event = asked.next; outcome = asked.answer ans } ∷ trace) d)
+      → ClientPuts theirs (λ ps. ps ≡ begins (record { head = reply_head ans; size = reply_size is_head ans }) ∷ []) a b
+      → IsServed edge theirs ours (record { client = a; server = Some c; under_way = is_sent whole broken }) before_head (s ∷ history)
+      → IsServed edge theirs ours (record { client = b; server = Some d; under_way = is_sent whole broken }) (answering ans) (s ∷ history)
+  served_head whole broken a b c d ans is_head final good asks tells puts x =
+      served_head_as whole broken a b c d ans is_head final good tells puts
+      (about_as (record { client = a; server = Some c; under_way = is_sent whole broken }) before_head is_head asks x)
+
   -- a piece of its body, as it was handed out
   pub served_bytes : (whole broken : Bool) (a b : Kept) (c d : ClientKept) (ans : Answer) (bytes : List ℕ) → ServerHands ours (body_bytes bytes ∷ []) c d
       → ClientPuts theirs (λ ps. ps ≡ continues bytes ∷ []) a b
@@ -169,7 +189,7 @@ module _ (edge : Edge) (theirs ours : Setting) (held : theirs.hold_size ≡ ours
       → IsServed edge theirs ours (record { client = b; server = Some d; under_way = is_sent whole broken }) (answering ans) (s ∷ history)
   served_bytes whole broken a b c d ans bytes hands puts x =
       served_part (answering ans) (answering ans) whole broken a b c d (on.chunk bytes) (λ x. ⊤) (λ trace r. with_piece bytes r) refl refl
-      (λ trace f. piece_put trace bytes f) (λ trace. put_brings (on.chunk bytes) trace refl refl refl) (λ all xs t x older are. tt)
+      (λ trace f. piece_put trace bytes f) (λ trace. put_brings (on.chunk bytes) trace refl refl refl)
       (λ trace ran.
       let did = hands trace ran in
       let one = hands_one ours (body_bytes bytes) did.0 trace d did.1 did.2 in
@@ -179,7 +199,7 @@ module _ (edge : Edge) (theirs ours : Setting) (held : theirs.hold_size ≡ ours
         quiet = one_quiet ours (body_bytes bytes) (asked.bytes bytes) did.0 trace d refl tt did.1 one;
         link = λ l n x r before same about z. behind did.0 l n x r trace d same one z;
       })
-      (λ trace stands. let did = puts trace stands in (did.0, puts_step theirs (continues bytes) (on.chunk bytes) b trace did.0 refl did.1 did.2)) x
+      (λ trace stands. let did = puts trace stands in (did.0, puts_step theirs (continues bytes) (on.chunk bytes) b trace did.0 refl did.1 did.2)) (x.0, x.1, (λ y older are. tt), x.2)
     where
       behind : (more : List Happened) (l : Link) (n : ℕ) (x : Exchange) (r : Reply) (trace : List Happened) (d : ClientKept) → l.happened ≡ trace
           → HandsOne (body_bytes bytes) more trace d ours → OnLink ours (s ∷ history) l n (answering ans) x r
@@ -196,7 +216,7 @@ module _ (edge : Edge) (theirs ours : Setting) (held : theirs.hold_size ≡ ours
       → IsServed edge theirs ours (record { client = b; server = Some d; under_way = is_sent whole broken }) (answering ans) (s ∷ history)
   served_end_put whole broken a b c d ans hands puts x =
       served_part (answering ans) (answering ans) whole broken a b c d on.body_end (λ x. ⊤) (λ trace r. with_end r) refl refl
-      (λ trace f. end_put trace f) (λ trace. put_brings on.body_end trace refl refl refl) (λ all xs t x older are. tt)
+      (λ trace f. end_put trace f) (λ trace. put_brings on.body_end trace refl refl refl)
       (λ trace ran.
       let did = hands trace ran in
       let one = hands_one ours body_end did.0 trace d did.1 did.2 in
@@ -206,7 +226,7 @@ module _ (edge : Edge) (theirs ours : Setting) (held : theirs.hold_size ≡ ours
         quiet = one_quiet ours body_end asked.body_ended did.0 trace d refl tt did.1 one;
         link = λ l n x r before same about z. behind did.0 l n x r trace d same one z;
       })
-      (λ trace stands. let did = puts trace stands in (did.0, puts_step theirs ends on.body_end b trace did.0 refl did.1 did.2)) x
+      (λ trace stands. let did = puts trace stands in (did.0, puts_step theirs ends on.body_end b trace did.0 refl did.1 did.2)) (x.0, x.1, (λ y older are. tt), x.2)
     where
       behind : (more : List Happened) (l : Link) (n : ℕ) (x : Exchange) (r : Reply) (trace : List Happened) (d : ClientKept) → l.happened ≡ trace
           → HandsOne body_end more trace d ours → OnLink ours (s ∷ history) l n (answering ans) x r
@@ -222,14 +242,14 @@ module _ (edge : Edge) (theirs ours : Setting) (held : theirs.hold_size ≡ ours
       → IsServed edge theirs ours (record { client = b; server = Some c; under_way = is_sent whole broken }) (answering ans) (s ∷ history)
   served_end_up whole broken a b c ans free puts x =
       served_part (answering ans) (answering ans) whole broken a b c c on.body_end (λ x. ⊤) (λ trace r. with_end r) refl refl
-      (λ trace f. end_put trace f) (λ trace. put_brings on.body_end trace refl refl refl) (λ all xs t x older are. tt)
+      (λ trace f. end_put trace f) (λ trace. put_brings on.body_end trace refl refl refl)
       (λ trace ran. record {
         new = trace;
         ran = ran;
         quiet = record { taken = refl; written = refl; ended = refl; text = refl; sending = refl; asked = refl };
         link = λ l n x r before same about z. read_up_to l n x r trace same ran z;
       })
-      (λ trace stands. let did = puts trace stands in (did.0, puts_step theirs ends on.body_end b trace did.0 refl did.1 did.2)) x
+      (λ trace stands. let did = puts trace stands in (did.0, puts_step theirs ends on.body_end b trace did.0 refl did.1 did.2)) (x.0, x.1, (λ y older are. tt), x.2)
     where
       read_up_to : (l : Link) (n : ℕ) (x : Exchange) (r : Reply) (trace : List Happened) → l.happened ≡ trace → IsClientTrace ours trace c
           → OnLink ours (s ∷ history) l n (answering ans) x r

@@ -1,5 +1,5 @@
 -- A forwarder that served its client so far does so behind each turn on the request that was sent on, and on the one that waits for that.
-use Rattle.std.proofs.Common.{◌≡◌, ◌⊎◌, ℕ, Bool, true, false, List, [], ◌∷◌, ◌++◌, length, map, append_assoc, refl, sym, ap, ◌∙◌, subst, inl, inr, Option, Some, None, is_some}
+use Rattle.std.proofs.Common.{◌≡◌, ◌⊎◌, ℕ, Bool, true, false, List, [], ◌∷◌, ◌++◌, length, map, append_assoc, refl, sym, ap, ◌∙◌, subst, inl, inr, Option, Some, None}
 use Rattle.std.specs.Prelude.{IsTrue, ◌||◌, ◌==◌, ◌<◌}
 use Rattle.model_h1.specs.Setting.{Setting}
 use Rattle.model_h1.specs.Answer.{BodySize}
@@ -11,7 +11,7 @@ use Rattle.model_client.specs.AnswerReading.{Answer}
 use Rattle.model_client.specs.AnswerParse.{is_interim}
 use Rattle.model_client.specs.ClientEvent as asked
 use Rattle.model_client.specs.ClientEvent.{ClientRequest}
-use Rattle.model_client.specs.ClientKept.{ClientKept, is_free, can_be_sent, client_closing, client_allows}
+use Rattle.model_client.specs.ClientKept.{ClientKept, is_free, can_be_sent, client_allows}
 use Rattle.model_client.specs.ClientStep.{IsClientStep}
 use Rattle.model_client.specs.ClientTrace.{Happened, IsClientTrace, now_of}
 use Rattle.model_client.proofs.Written.{is_text}
@@ -32,7 +32,8 @@ use Rattle.model_proxy.proofs.OnLinks.{Stage, before_head, over, answering}
 use Rattle.model_proxy.proofs.OwnSteps.{own_quiet}
 use Rattle.model_proxy.proofs.WholeBodies.{HasAll, ended_bytes}
 use Rattle.model_proxy.proofs.Serves.{Serves}
-use Rattle.model_proxy.proofs.ServesTurns.{serves_left, serves_sent}
+use Rattle.model_proxy.proofs.LinkSteps.{IsUnused}
+use Rattle.model_proxy.proofs.ServesTurns.{IsUnfit, serves_left, serves_sent}
 use Rattle.model_proxy.proofs.ServesBodies.{serves_piece, serves_end, serves_broken}
 use Rattle.model_proxy.proofs.ServesReplies.{answer_link, here, serves_moved, serves_over, serves_dropped}
 use Rattle.model_proxy.proofs.HandedSteps.{hands_one, one_quiet, end_behind}
@@ -82,7 +83,7 @@ module _ (edge : Edge) (theirs ours : Setting) (held : theirs.hold_size ≡ ours
 
   -- it can't be asked on the connection that is open, which is closed
   pub served_left_waiting : (stage : Stage) (q : ClientRequest) (size : BodySize) (whole broken : Bool) (client : Kept) (a : ClientKept) → can_be_sent q size ≡ true
-      → 0 < ours.write_buffer → (is_some (client_closing a) ≡ true) ⊎ (client_allows ours a (asked.ask q size) ≡ false)
+      → 0 < ours.write_buffer → (IsUnused a → a.waiting ≡ [] → IsUnfit ours a q size)
       → IsServed edge theirs ours (record { client = client; server = Some a; under_way = waits q size whole broken }) stage (s ∷ history)
       → IsServed edge theirs ours (record { client = client; server = None; under_way = waits q size whole broken }) stage (s ∷ history)
   served_left_waiting stage q size whole broken client a can room why (all, xs, t) =

@@ -141,6 +141,10 @@ fresh_link edge ours history l links xs a on asked driven fine free unread going
 
 -- ---- where an unused connection can't be asked
 
+-- it is to end, or doesn't allow the request
+abbrev pub IsUnfit : Setting → ClientKept → ClientRequest → BodySize → Type 0
+IsUnfit ours a q size = (is_some (client_closing a) ≡ true) ⊎ (client_allows ours a (asked.ask q size) ≡ false)
+
 stray_or_ended : (k : ClientKept) → IsUnused k → k.waiting ≡ [] → is_some (client_closing k) ≡ true → (has_bytes k.unread ≡ true) ⊎ (k.has_ended ≡ true)
 stray_or_ended k y none is = by_tests (has_bytes k.unread) k.has_ended k.is_coming (sym (ap (λ (o : Option ClientEnd). is_some o) same) ∙ is)
   where
@@ -220,8 +224,8 @@ never_sending (s ∷ before) none = by_event s.event none (never_sending before)
 -- it is to end, or may not be asked: then bytes came, or the end of its input
 unfit_link : (ours : Setting) (history : List ProxyStep) (l : Link) (n : ℕ) (a : ClientKept) (q : ClientRequest) (size : BodySize) → IsUnasked l → IsLink ours l
     → server_at n history ≡ server_of l → IsClientTrace ours l.happened a → IsUnused a → can_be_sent q size ≡ true → 0 < ours.write_buffer
-    → (is_some (client_closing a) ≡ true) ⊎ (client_allows ours a (asked.ask q size) ≡ false) → IsUsed [] (server_at n history)
-unfit_link ours history l n a q size none link there ran y can room why = by_which (stray_or_ended a y waiting (closing why))
+    → (IsUnused a → a.waiting ≡ [] → IsUnfit ours a q size) → IsUsed [] (server_at n history)
+unfit_link ours history l n a q size none link there ran y can room why = by_which (stray_or_ended a y waiting (closing (why y waiting)))
   where
     waiting : a.waiting ≡ []
     waiting =
@@ -234,7 +238,7 @@ unfit_link ours history l n a q size none link there ran y can room why = by_whi
         last_none [] back e = e
         last_none (b ∷ front) back e = let no : b ∷ (front ++ back) ≡ [] = e in absurd (cc no)
 
-    closing : (is_some (client_closing a) ≡ true) ⊎ (client_allows ours a (asked.ask q size) ≡ false) → is_some (client_closing a) ≡ true
+    closing : IsUnfit ours a q size → is_some (client_closing a) ≡ true
     closing (inl is) = is
     closing (inr refuses) =
         asked_else ours a q size y waiting ((is_text ours l.happened a ran).sending ∙ never_sending l.happened none.asked) empty can room refuses
@@ -338,7 +342,7 @@ module _ (edge : Edge) (theirs ours : Setting) (held : theirs.hold_size ≡ ours
   -- one waits, and it can't be asked there
   pub serves_left : (stage : Stage) (q : ClientRequest) (size : BodySize) (whole broken : Bool) (client : Kept) (a : ClientKept) (all : Happenings) (l : Link) (links : List Link)
       (xs : List Exchange) → all.links ≡ l ∷ links → IsClientTrace ours l.happened a → can_be_sent q size ≡ true → 0 < ours.write_buffer
-      → (is_some (client_closing a) ≡ true) ⊎ (client_allows ours a (asked.ask q size) ≡ false)
+      → (IsUnused a → a.waiting ≡ [] → IsUnfit ours a q size)
       → Serves edge theirs ours (record { client = client; server = Some a; under_way = waits q size whole broken }) stage (s ∷ history) all xs
       → Serves edge theirs ours (record { client = client; server = None; under_way = waits q size whole broken }) stage (s ∷ history) all xs
   serves_left stage q size whole broken client a all l links xs are driven can room why x =

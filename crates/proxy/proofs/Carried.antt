@@ -2,13 +2,16 @@
 use Rattle.std.proofs.Common.{◌≡◌, inl, inr, ℕ, true, List, [], ◌∷◌, ◌++◌, Option, Some, None, refl, sym, ap, ◌∙◌, subst}
 use Rattle.std.proofs.lemmas.Bool.{false≢true}
 use Rattle.h1_client.specs.State as servers
+use Rattle.model_client.specs.ClientEvent as asked
 use Rattle.model_h1.specs.Event as on
-use Rattle.proxy.specs.Puts.{continues, request_breaks, Puts, Handed, body_bytes}
-use Rattle.proxy.proofs.Puts.{puts_none, puts_then, then_none, hands_same, hands_both}
+use Rattle.model_proxy.specs.Parts.{Part, continues, takes, takes_end, request_breaks, Handed, sends, sends_end, body_bytes, handed_by}
+use Rattle.proxy.specs.Puts.{Puts, Hands}
+use Rattle.proxy.proofs.Puts.{puts_none, puts_then, then_none, did_hands, hands_same, hands_both, hands_then}
 use Rattle.proxy.specs.declared.proxy.Proxy.{Proxy}
+use Rattle.proxy.specs.declared.proxy.Unsent.{Unsent}
 use Rattle.proxy.specs.declared.proxy.SentRequest.{SentRequest}
 use Rattle.proxy.specs.Kept.{HoldsNoRequest}
-use Rattle.proxy.specs.Replies.{nothing_put, told_to_go_on, broken_body, broken_late, refused_head, not_forwardable, no_answer, passed_on, piece_on, end_on, cut_off, IsUnanswered, WasAnswered, Marks, marks_of, GoesOnBy, HasCause, HasBytes, TurnReplies, HasReplied, nothing, turned, none_yet, one_more, broke_late, CarriesOn, IsCarried}
+use Rattle.proxy.specs.Replies.{nothing_put, opened, told_to_go_on, sent_on, body_on, body_whole, broken_body, broken_late, refused_head, not_forwardable, no_answer, passed_on, piece_on, end_on, cut_off, IsUnanswered, WasAnswered, Marks, marks_of, GoesOnBy, HasCause, HasBytes, TurnReplies, HasReplied, nothing, turned, AreCarried, none_yet, one_more, took_more, took_end, broke_late, SendsOn, CarriesOn, IsCarried}
 use Rattle.proxy.proofs.Replies.{same_marks, goes_as}
 
 -- what goes on by a later state of the same connection
@@ -70,18 +73,52 @@ module _ (marks : Marks) (answered : marks.is_answered ≡ true) (s : servers.St
     puts = puts_then x.parts (continues bytes ∷ []) old.client mid.client new.client x.puts puts;
   }
 
+  -- more of the request's body went on
+  by_more : (event : asked.ClientEvent) (h : Handed) (part : Part) (sent next : SentRequest) (t : servers.State) → handed_by event asked.done ≡ h ∷ []
+      → mid.sent ≡ Some sent → marks_of next ≡ marks_of sent → mid.server ≡ Some t → SendsOn event t next new → Puts (part ∷ []) mid.client new.client
+      → AreCarried (h ∷ x.handed) (part ∷ x.parts) → CarriesOn marks s old new
+  by_more event h part sent next t is here same at more puts carried = record {
+    handed = h ∷ x.handed;
+    parts = part ∷ x.parts;
+    carried = carried;
+    goes = goes_both marks x.handed (h ∷ []) s mid new x.goes (record {
+      sent = next;
+      runs = more.runs;
+      marked = same ∙ sym (same_marks mid x.goes.sent sent x.goes.runs.sent here) ∙ x.goes.marked;
+      after = more.after;
+      is_there = more.is_there;
+      hands =
+          let both : Some t ≡ Some x.goes.after = sym at ∙ x.goes.is_there in
+          let there : t ≡ x.goes.after = cc in
+          subst (λ (u : servers.State). Hands (h ∷ []) u more.after) there
+          (hands_then (h ∷ []) t more.mid more.after more.quiet (did_hands event more.mid more.after (h ∷ []) more.did is));
+    });
+    puts = puts_then x.parts (part ∷ []) old.client mid.client new.client x.puts puts;
+  }
+
+  not_unsent : (u : Unsent) → mid.unsent ≡ Some u → ⊥
+  not_unsent u at = let no : ◌≡◌ {A = Option Unsent} None (Some u) = sym x.goes.runs.unsent ∙ at in cc no
+
   by_turn : TurnReplies mid new → IsCarried marks s old new
-  by_turn (nothing_put, cause, puts) = inl (by_nothing cause puts)
-  by_turn (broken_late fault, cause, puts) = inl (by_late fault cause puts)
-  by_turn (piece_on bytes, cause, puts) = inl (by_piece bytes cause puts)
-  by_turn (end_on, cause, puts) = inr (mid, new, x, inl (cause, puts), nothing)
-  by_turn (cut_off, cause, puts) = inr (mid, new, x, inr (cause, puts), nothing)
-  by_turn (passed_on is_head a, cause, puts) = absurd (not_both cause.0 cause.1)
-  by_turn (no_answer, cause, puts) = absurd (not_both cause.0 cause.1)
-  by_turn (broken_body fault, cause, puts) = absurd (not_both cause.0 cause.1)
-  by_turn (not_forwardable, cause, puts) = absurd (not_idle cause.0)
-  by_turn (told_to_go_on, cause, puts) = absurd (not_idle cause.0)
-  by_turn (refused_head, cause, puts) = absurd (not_idle cause.0)
+  by_turn (nothing_put, cause, puts, body, rest) = inl (by_nothing cause puts)
+  by_turn (broken_late fault, cause, puts, body, rest) = inl (by_late fault cause puts)
+  by_turn (piece_on bytes, cause, puts, body, rest) = inl (by_piece bytes cause puts)
+  by_turn (end_on, cause, puts, body, rest) = inr (mid, new, x, inl (cause, puts), nothing)
+  by_turn (cut_off, cause, puts, body, rest) = inr (mid, new, x, inr (cause, puts), nothing)
+  by_turn (passed_on is_head a, cause, puts, body, rest) = absurd (not_both cause.0 cause.1)
+  by_turn (no_answer, cause, puts, body, rest) = absurd (not_both cause.0 cause.1)
+  by_turn (broken_body fault, cause, puts, body, rest) = absurd (not_both cause.0 cause.1)
+  by_turn (not_forwardable, cause, puts, body, rest) = absurd (not_idle cause.0)
+  by_turn (told_to_go_on, cause, puts, body, rest) = absurd (not_idle cause.0)
+  by_turn (refused_head, cause, puts, body, rest) = absurd (not_idle cause.0)
+  by_turn (opened, cause, puts, body, rest) = absurd (not_idle cause)
+  by_turn (sent_on, cause, puts, body, rest) = absurd (not_unsent cause.0 cause.1)
+  by_turn (body_on bytes, (sent, t, runs, at, more), puts, body, rest) =
+      inl (by_more (asked.chunk bytes) (sends bytes) (takes bytes) sent sent t refl runs.sent refl at more puts
+      (took_more bytes x.handed x.parts x.carried))
+  by_turn (body_whole, (sent, t, runs, at, more), puts, body, rest) =
+      inl (by_more asked.body_end sends_end takes_end sent (record sent { is_whole = true }) t refl runs.sent refl at more puts
+      (took_end x.handed x.parts x.carried))
 
 -- after the events and turns before
 carried_then : (marks : Marks) → marks.is_answered ≡ true → (s : servers.State) (old mid new : Proxy) → CarriesOn marks s old mid → HasReplied mid new

@@ -1,10 +1,9 @@
 -- Why a forwarder puts each part of a reply.
-use Rattle.std.proofs.Common.{◌≡◌, ◌⊎◌, inl, inr, ℕ, Bool, true, false, not, ◌&&◌, List, [], ◌∷◌, Option, Some, None, refl, sym, ap, ◌∙◌, subst, subst₂}
-use Rattle.std.specs.Prelude.{IsTrue, is_some, is_none, if◌then◌else◌}
+use Rattle.std.proofs.Common.{◌≡◌, ◌⊎◌, inl, inr, ℕ, Bool, true, false, List, [], ◌∷◌, Option, Some, None, refl, sym, ap, ◌∙◌, subst, subst₂}
+use Rattle.std.specs.Prelude.{if◌then◌else◌}
 use Rattle.std.proofs.lemmas.Bool.{false≢true}
 use Rattle.model_h1.specs.Answer.{AnswerHead, BodySize, is_at_once}
 use Rattle.model_h1.specs.Event as on
-use Rattle.model_h1.specs.Parse.{Body, content, still_open}
 use Rattle.model_h1.specs.Request.{Head}
 use Rattle.model_h1.specs.Sums.{Step}
 use Rattle.model_proxy.specs.Forward.{is_forwardable}
@@ -12,29 +11,29 @@ use Rattle.h1_decoder.specs.HeadItem.{SaysHead}
 use Rattle.h1_decoder.specs.declared.decoder.HeadItem.{HeadItem}
 use Rattle.h1_decoder.specs.declared.response.ResponseItem.{ResponseItem}
 use Rattle.h1_payload.specs.declared.pulled.Pulled.TheVariants as pulled
-use Rattle.h1_connection.specs.State.{State, Stands, GoesOn}
-use Rattle.model_client.specs.AnswerParse.{Received, is_interim}
-use Rattle.model_client.specs.AnswerReading.{Answer, answer_is}
+use Rattle.h1_connection.specs.State.{State, Stands, Is}
+use Rattle.model_client.specs.AnswerParse.{is_interim}
+use Rattle.model_client.specs.AnswerReading.{Answer}
 use Rattle.model_client.specs.ClientEvent as asked
 use Rattle.h1_client.specs.State as servers
 use Rattle.h1_client.specs.declared.event.ClientEnd.{ClientEnd}
 use Rattle.h1_client.specs.declared.event.NextAnswer.TheVariants as answered
-use Rattle.model_proxy.specs.Answers.{Found, found_bad, found_body, found_by, reply_head, reply_size}
-use Rattle.model_proxy.specs.Past.{ProxyEvent, ProxyOutcome}
-use Rattle.model_proxy.specs.Past as past
+use Rattle.model_proxy.specs.Answers.{says_close, reply_head, reply_size}
 use Rattle.proxy.specs.Leaves.{LeavesAnswer}
-use Rattle.proxy.specs.Puts.{Part, begins, continues, ends, breaks_off, goes_on, request_breaks, Puts, IsRefused, MayPut, MayLeave, HandsHead, HandsAnswer, HandsPiece, is_refused, is_good, Handed, good_answer, refused_answer, body_bytes, body_fault, Hands, HandsNone, CannotPull, IsReadUp}
-use Rattle.proxy.proofs.Puts.{puts_none, then_none, none_then, head_puts, hands_same, hands_then, tells_none}
+use Rattle.model_proxy.specs.Parts.{Part, begins, continues, ends, breaks_off, goes_on, request_breaks, is_refused, Handed, body_bytes, body_fault}
+use Rattle.proxy.specs.Puts.{Puts, IsRefused, MayPut, MayLeave, HandsHead, HandsAnswer, HandsPiece, Hands, HandsNone, CannotPull, IsReadUp}
+use Rattle.proxy.proofs.Puts.{puts_none, then_none, behind_a_head, hands_same, hands_then, tells_none}
 use Rattle.proxy_heads.specs.Edges.{edge_of}
 use Rattle.proxy_heads.specs.declared.refusal.Refusal.TheVariants.{BadHead}
 use Rattle.proxy.specs.declared.proxy.Proxy.{Proxy}
 use Rattle.proxy.specs.declared.proxy.ProxyConfig.{ProxyConfig}
 use Rattle.proxy.specs.declared.proxy.SentRequest.{SentRequest}
 use Rattle.proxy.specs.declared.proxy.Unsent.{Unsent}
-use Rattle.proxy.specs.Kept.{HoldsNoRequest, Runs, GoesBy, wants_server, is_closing}
+use Rattle.proxy.specs.Kept.{HoldsNoRequest, Runs, is_closing}
 use Rattle.proxy.specs.Rests.{IsNoted}
-use Rattle.proxy.proofs.EventMoves.{three_parts}
-use Rattle.proxy.specs.Replies.{nothing_put, told_to_go_on, broken_body, broken_late, refused_head, not_forwardable, no_answer, passed_on, piece_on, end_on, cut_off, own, refusal_part, passed, PutsLast, PutsHead, IsUnanswered, WasAnswered, Marks, marks_of, GoesOnBy, GoesOnWaiting, IsDropped, ReplyIsOver, KeepsServer, KeepsIdle, KeepsFor, LacksAnswer, Follows, FollowsHead, LacksEnd, AwaitsAnswer, HasCause, TurnReplies, Fails, Breaks, PassesBody, UsesAnswer, TakesAnswer, Opens, ClientAdds, AddsTo, PutsNothing, HasReplied, Replies, RepliesRefused}
+use Rattle.proxy.specs.Replies.{TurnPuts, nothing_put, opened, told_to_go_on, body_on, body_whole, PutsAfter, AreBehindHead, IsOpened, IsHeadRefused, CannotBeSent, SendsOn, KeepsBody, broken_body, broken_late, refused_head, not_forwardable, no_answer, passed_on, piece_on, end_on, cut_off, own, refusal_part, passed, PutsLast, PutsHead, IsUnanswered, WasAnswered, Marks, marks_of, GoesOnBy, GoesOnWaiting, IsDropped, ReplyIsOver, KeepsServer, KeepsIdle, KeepsFor, LacksAnswer, Follows, FollowsHead, LacksEnd, AwaitsAnswer, HasCause, TurnReplies, Fails, Breaks, PassesBody, UsesAnswer, TakesAnswer, Opens}
+use Rattle.proxy.proofs.AnswerUses.{over_out}
+use Rattle.proxy.proofs.BodyMarks.{idle_body, gone_body, as_far, same_body, whole_far, broken_far}
 
 -- ---- one after another
 
@@ -54,65 +53,10 @@ last_as before part a b c is x = subst (PutsLast before part a) (sym is) x
 pub noted_client : (p q : Proxy) → IsNoted p q → q.client ≡ p.client
 noted_client p q (n, is) = ap (λ (p : Proxy). p.client) is
 
--- ---- what is done with an answer
-
-abbrev received : Received
-received = record { bytes = []; ended = false; hold_size = None }
-
-abbrev body : Body
-body = content [] still_open
-
-abbrev found : Answer → Found
-found a = found_body received a body
-
-abbrev choice : Bool → Bool → Found → Found → Found
-choice refused interim later here = if refused then found_bad else (if interim then later else here)
-
-not_bad : (a : Answer) → found a ≡ found_bad → ⊥
-not_bad a is = let no : ◌≡◌ {A = Option Answer} (Some a) None = ap (λ (f : Found). f.response) is in cc no
-
-refused_by : (a : Answer) (refused interim : Bool) → choice refused interim (found a) (found a) ≡ found_bad → refused ≡ true
-refused_by a true interim is = refl
-refused_by a false true is = absurd (not_bad a is)
-refused_by a false false is = absurd (not_bad a is)
-
-pub is_refused_so : (a : Answer) → ((r : Received) (b : Body) (later : Found) → found_by r (answer_is a) b later ≡ found_bad) → is_refused a ≡ true
-is_refused_so a x = refused_by a (is_refused a) (is_interim a.status) (x received body (found a))
-
-over_by : (a : Answer) (refused interim : Bool) → choice refused interim found_bad (found a) ≡ found_bad → (not refused && not interim) ≡ false
-over_by a true interim is = refl
-over_by a false true is = refl
-over_by a false false is = absurd (not_bad a is)
-
-later_by : (a : Answer) (refused interim : Bool) → choice refused interim (found a) (found a) ≡ found a → refused ≡ false
-later_by a true interim is = absurd (not_bad a (sym is))
-later_by a false interim is = refl
-
-interim_by : (refused interim : Bool) → refused ≡ false → (not refused && not interim) ≡ false → interim ≡ true
-interim_by true interim is over = absurd (false≢true (sym is))
-interim_by false true is over = refl
-interim_by false false is over = absurd (false≢true (sym over))
-
-pub is_passed_over : (a : Answer) → ((r : Received) (b : Body) (later : Found) → found_by r (answer_is a) b later ≡ later)
-    → (is_refused a ≡ false) × (is_interim a.status ≡ true)
-is_passed_over a x =
-    let good = later_by a (is_refused a) (is_interim a.status) (x received body (found a)) in
-    (good, interim_by (is_refused a) (is_interim a.status) good (over_by a (is_refused a) (is_interim a.status) (x received body found_bad)))
-
--- nothing of an answer that is passed over is handed out
-over_out : (a : Answer) (refused interim : Bool) → refused ≡ false → interim ≡ true
-    → (if refused then refused_answer a ∷ [] else (if interim then [] else good_answer a ∷ [])) ≡ []
-over_out a true interim is over = absurd (false≢true (sym is))
-over_out a false true is over = refl
-over_out a false false is over = absurd (false≢true over)
-
-good_by : (a : Answer) (refused interim : Bool) → choice refused interim found_bad (found a) ≡ found a → (not refused && not interim) ≡ true
-good_by a true interim is = absurd (not_bad a (sym is))
-good_by a false true is = absurd (not_bad a (sym is))
-good_by a false false is = refl
-
-pub is_passed_on : (a : Answer) → ((r : Received) (b : Body) (later : Found) → found_by r (answer_is a) b later ≡ found_body r a b) → is_good a ≡ true
-is_passed_on a x = good_by a (is_refused a) (is_interim a.status) (x received body found_bad)
+-- behind a head that was handed out
+pub after_head : (Is : Head → Type 0) (part : Part) (a b c : State) → HandsHead Is a b → PutsLast [] part b c → PutsAfter (AreBehindHead Is []) part a c
+after_head Is part a b c hands x =
+    record { mid = x.mid; first = behind_a_head Is [] a b x.mid hands x.first; there = x.there; leaves = x.leaves; last = x.last }
 
 -- ---- nothing waits for an answer
 
@@ -192,6 +136,7 @@ noted_unsent p q (n, is) = ap (λ (p : Proxy). p.unsent) is
 -- a reply of the forwarder's own was put, while no request was under way and no server connection was there
 pub dropped : (p q : Proxy) → p.unsent ≡ None → p.sent ≡ None → p.server ≡ None → (HoldsNoRequest p → HoldsNoRequest q) → q.server ≡ p.server → IsDropped q
 dropped p q unsent sent server idle same = record {
+  unsent = (idle (record { unsent = unsent; sent = sent })).unsent;
   sent = (idle (record { unsent = unsent; sent = sent })).sent;
   server = same ∙ server;
 }
@@ -212,8 +157,16 @@ pub closed_over : (t : Bool) (s : servers.State) → t ≡ false → None ≡ (i
 closed_over t s is = subst (λ (t : Bool). ◌≡◌ {A = Option servers.State} None (if t then Some s else None)) (sym is) refl
 
 noted_follows : (t : Bool) (sent : SentRequest) (a : Answer) (server : servers.State) (p q : Proxy) → IsNoted p q → Follows t sent a server p → Follows t sent a server q
-noted_follows true sent a server p q noted x = record { sent = noted_sent p q noted ∙ x.sent; server = noted_server p q noted ∙ x.server }
-noted_follows false sent a server p q noted x = noted_goes_on _ [] server p q noted x
+noted_follows true sent a server p q noted x =
+    record { unsent = noted_unsent p q noted ∙ x.unsent; sent = noted_sent p q noted ∙ x.sent; server = noted_server p q noted ∙ x.server }
+noted_follows false sent a server p q noted x = (noted_goes_on _ [] server p q noted x.0, noted_sent p q noted ∙ x.1)
+
+-- of a request whose answer's head is passed on
+follows_far : (is_head t : Bool) (sent : SentRequest) (a : Answer) (server : servers.State) (p q : Proxy) → p.sent ≡ Some sent → Follows t sent a server q
+    → KeepsBody (passed_on is_head a) p q
+follows_far is_head true sent a server p q old x = gone_body (passed_on is_head a) p q x.sent
+follows_far is_head false sent a server p q old x =
+    as_far p q sent (record sent { is_answered = true; closes = says_close a }) old x.1 refl refl
 
 pub noted_head : (sent : SentRequest) (a : Answer) (server : servers.State) (p q : Proxy) → IsNoted p q → FollowsHead sent a server p → FollowsHead sent a server q
 noted_head sent a server p q noted x = noted_follows (is_at_once (reply_size sent.is_head a)) sent a server p q noted x
@@ -229,17 +182,39 @@ still_replies p = (
   nothing_put,
   λ sent s x is. goes_as p sent s s (marks_of sent) [] x refl is (hands_same s),
   puts_none p.client,
+  same_body p p refl,
+  refl,
 )
 
 -- ---- a turn
 
-pub no_part_put : (p q : Proxy) → HasCause nothing_put p q → Puts [] p.client q.client → TurnReplies p q
-no_part_put p q cause puts = (nothing_put, cause, puts)
+pub no_part_put : (p q : Proxy) → HasCause nothing_put p q → Puts [] p.client q.client → KeepsBody nothing_put p q → q.unsent ≡ p.unsent → TurnReplies p q
+no_part_put p q cause puts far unsent = (nothing_put, cause, puts, far, unsent)
 
 pub body_replies : (p q : Proxy) (sent : SentRequest) (server : servers.State) → Runs sent p → (sent.is_answered ≡ false → AwaitsAnswer (Some server))
     → PassesBody sent server p.client q → TurnReplies (record p { server = Some server }) q
-body_replies p q sent server runs awaits (inl x) = (nothing_put, waits_cause p q sent server runs x.1, x.0)
-body_replies p q sent server runs awaits (inr x) = by_mark sent.is_answered refl x.3
+body_replies p q sent server runs awaits (inl x) = (
+  nothing_put,
+  waits_cause p q sent server runs x.1,
+  x.0,
+  as_far (record p { server = Some server }) q sent sent runs.sent x.2 refl refl,
+  x.1.runs.unsent ∙ sym runs.unsent,
+)
+body_replies p q sent server runs awaits (inr (inl (bytes, puts, more))) = (
+  body_on bytes,
+  (sent, server, record { unsent = runs.unsent; sent = runs.sent }, refl, more),
+  puts,
+  as_far (record p { server = Some server }) q sent sent runs.sent more.runs.sent refl refl,
+  tt,
+)
+body_replies p q sent server runs awaits (inr (inr (inl (puts, more)))) = (
+  body_whole,
+  (sent, server, record { unsent = runs.unsent; sent = runs.sent }, refl, more),
+  puts,
+  whole_far (record p { server = Some server }) q sent runs.sent more.runs.sent,
+  tt,
+)
+body_replies p q sent server runs awaits (inr (inr (inr x))) = by_mark sent.is_answered refl x.3
   where
     by_mark : (t : Bool) → sent.is_answered ≡ t → Breaks t sent server x.1 q → TurnReplies (record p { server = Some server }) q
     by_mark true is y = (
@@ -250,21 +225,40 @@ body_replies p q sent server runs awaits (inr x) = by_mark sent.is_answered refl
         λ s at. let same : server ≡ s = cc at in subst (λ (s : servers.State). GoesOnWaiting (marks_of sent) s q) same y.1,
       ),
       then_none (request_breaks x.0 ∷ []) p.client x.1 q.client x.2 y.0,
+      broken_far x.0 (record p { server = Some server }) q sent runs.sent y.2,
+      tt,
     )
     by_mark false is y = (
       broken_body x.0,
       (sent, unanswered_here p sent (Some server) runs is, awaits is, y.1),
       then_last (request_breaks x.0 ∷ []) (own 400) p.client x.1 q.client x.2 y.0,
+      gone_body (broken_body x.0) (record p { server = Some server }) q y.1.sent,
+      tt,
     )
 
 breaks_before : (answered : Bool) (sent : SentRequest) (s t : servers.State) (client : State) (q : Proxy) → HandsNone s t → Breaks answered sent t client q
     → Breaks answered sent s client q
-breaks_before true sent s t client q none x = (x.0, goes_on_before (marks_of sent) [] s t q none x.1)
+breaks_before true sent s t client q none x = (x.0, goes_on_before (marks_of sent) [] s t q none x.1, x.2)
 breaks_before false sent s t client q none x = x
 
+sends_before : (event : asked.ClientEvent) (s t : servers.State) (sent : SentRequest) (q : Proxy) → HandsNone s t → SendsOn event t sent q
+    → SendsOn event s sent q
+sends_before event s t sent q none x = record {
+  runs = x.runs;
+  mid = x.mid;
+  quiet = hands_then [] s t x.mid none x.quiet;
+  after = x.after;
+  is_there = x.is_there;
+  did = x.did;
+}
+
 pub body_before : (client : State) (q : Proxy) (sent : SentRequest) (s t : servers.State) → HandsNone s t → PassesBody sent t client q → PassesBody sent s client q
-body_before client q sent s t none (inl x) = inl (x.0, goes_on_before (marks_of sent) [] s t q none x.1)
-body_before client q sent s t none (inr x) = inr (x.0, x.1, x.2, breaks_before sent.is_answered sent s t x.1 q none x.3)
+body_before client q sent s t none (inl x) = inl (x.0, goes_on_before (marks_of sent) [] s t q none x.1, x.2)
+body_before client q sent s t none (inr (inl (bytes, puts, more))) = inr (inl (bytes, puts, sends_before (asked.chunk bytes) s t sent q none more))
+body_before client q sent s t none (inr (inr (inl (puts, more)))) =
+    inr (inr (inl (puts, sends_before asked.body_end s t (record sent { is_whole = true }) q none more)))
+body_before client q sent s t none (inr (inr (inr x))) =
+    inr (inr (inr (x.0, x.1, x.2, breaks_before sent.is_answered sent s t x.1 q none x.3)))
 
 -- the next answer was asked for, and isn't there
 pub awaits_by : (s t : servers.State) → HandsNone s t → LeavesAnswer answered.Pending s t → AwaitsAnswer (Some s)
@@ -275,8 +269,8 @@ pub fails_replies : (p q : Proxy) (sent : SentRequest) (o : Option servers.State
 fails_replies p q sent o runs no_answer_comes no_end_comes fails = by_mark sent.is_answered refl fails
   where
     by_mark : (t : Bool) → sent.is_answered ≡ t → Fails t p.client q → TurnReplies (record p { server = o }) q
-    by_mark true is x = (cut_off, (sent, answered_here p sent o runs is, no_end_comes is, x.1), x.0)
-    by_mark false is x = (no_answer, (sent, unanswered_here p sent o runs is, no_answer_comes is, x.1), x.0)
+    by_mark true is x = (cut_off, (sent, answered_here p sent o runs is, no_end_comes is, x.1), x.0, gone_body cut_off (record p { server = o }) q x.1.sent, tt)
+    by_mark false is x = (no_answer, (sent, unanswered_here p sent o runs is, no_answer_comes is, x.1), x.0, gone_body no_answer (record p { server = o }) q x.1.sent, tt)
 
 pub answer_replies : (p q : Proxy) (sent : SentRequest) (s t : servers.State) (item : ResponseItem) → Runs sent p → sent.is_answered ≡ false
     → HandsAnswer (answered.Answer item) s t → TakesAnswer sent t item p q → TurnReplies (record p { server = Some s }) q
@@ -286,48 +280,83 @@ answer_replies p q sent s t item runs unanswered (a, says, read, tells) takes = 
     waits = unanswered_here p sent (Some s) runs unanswered
 
     by_use : UsesAnswer sent t a p q → TurnReplies (record p { server = Some s }) q
-    by_use (inl x) = (no_answer, (sent, waits, inr (asked.answer a, x.0, t, tells), x.2), x.1)
+    by_use (inl x) = (
+      no_answer,
+      (sent, waits, inr (asked.answer a, x.0, t, tells), x.2),
+      x.1,
+      gone_body no_answer (record p { server = Some s }) q x.2.sent,
+      tt,
+    )
     by_use (inr (inl x)) = (
       nothing_put,
       waits_cause p q sent s runs
           (goes_on_before (marks_of sent) [] s t q (tells_none (asked.answer a) s t (over_out a (is_refused a) (is_interim a.status) x.0 x.1) tells) x.3),
       x.2,
+      as_far (record p { server = Some s }) q sent sent runs.sent x.4 refl refl,
+      x.3.runs.unsent ∙ sym runs.unsent,
     )
-    by_use (inr (inr x)) = (passed_on sent.is_head a, (sent, waits, refl, (x.0, read, t, tells, x.2)), x.1)
+    by_use (inr (inr x)) = (
+      passed_on sent.is_head a,
+      (sent, waits, refl, (x.0, read, t, tells, x.2)),
+      x.1,
+      follows_far sent.is_head (is_at_once (reply_size sent.is_head a)) sent a t (record p { server = Some s }) q runs.sent x.2,
+      tt,
+    )
 
--- nothing is put after it
-nothing_replies : (p q : Proxy) (item : HeadItem) (c : State) → HoldsNoRequest p → HandsHead (SaysHead item) p.client c → q.client ≡ c → TurnReplies p q
-nothing_replies p q item c idle hands same = (
-  nothing_put,
-  idle_cause p q idle,
-  then_none [] p.client c q.client (head_puts (SaysHead item) p.client c hands) (same_puts c q.client same),
+-- the request of a head waits to be sent on, and nothing is put after it
+opened_replies : (p q : Proxy) (item : HeadItem) (c : State) → HoldsNoRequest p → HandsHead (IsOpened (edge_of p.config.edge) q) p.client c → q.client ≡ c
+    → TurnReplies p q
+opened_replies p q item c idle hands same = (
+  opened,
+  idle,
+  behind_a_head (IsOpened (edge_of p.config.edge) q) [] p.client c q.client hands (same_puts c q.client same),
+  idle_body opened p q idle.sent,
+  tt,
 )
+
+-- a head that this item says is one that is so
+hands_so : (Is : Head → Type 0) (item : HeadItem) (a c : State) → ((h : Head) → SaysHead item h → Is h) → HandsHead (SaysHead item) a c → HandsHead Is a c
+hands_so Is item a c so hands = (hands.0, λ trace stands. let y = hands.1 trace stands in (y.0, so y.0 y.1, y.2))
 
 pub head_replies : (p q : Proxy) (item : HeadItem) (c : State) → HoldsNoRequest p → HandsHead (SaysHead item) p.client c
     → Opens (edge_of p.config.edge) item c q → TurnReplies p q
-head_replies p q item c idle hands (inl (may, inr (old, same))) = nothing_replies p q item c idle hands same
-head_replies p q item c idle hands (inl (may, inl (new, inl (none, same)))) = nothing_replies p q item c idle hands same
-head_replies p q item c idle hands (inl (may, inl (new, inr told))) = (
+head_replies p q item c idle hands (inl (may, inr (old, same), u, at, is)) =
+    opened_replies p q item c idle (hands_so _ item p.client c (λ h says. (may h says, u, at, is h says)) hands) same
+head_replies p q item c idle hands (inl (may, inl (new, inl (none, same)), u, at, is)) =
+    opened_replies p q item c idle (hands_so _ item p.client c (λ h says. (may h says, u, at, is h says)) hands) same
+head_replies p q item c idle hands (inl (may, inl (new, inr told), u, at, is)) = (
   told_to_go_on,
-  (idle, c, λ trace stands. let y = hands trace stands in (y.0, (may y.0 y.1, new y.0 y.1), y.2)),
-  none_then (goes_on ∷ []) p.client c q.client (head_puts (SaysHead item) p.client c hands) told,
+  (idle, c, hands_so _ item p.client c (λ h says. (may h says, new h says)) hands),
+  behind_a_head _ (goes_on ∷ []) p.client c q.client (hands_so _ item p.client c (λ h says. ((may h says, u, at, is h says), new h says)) hands) told,
+  idle_body told_to_go_on p q idle.sent,
+  tt,
 )
 head_replies p q item c idle hands (inr (cannot, (true, refused, puts, gone))) = (
   refused_head,
-  (idle, c, (λ trace stands. let y = hands trace stands in (y.0, refused y.0 y.1, y.2)), gone),
-  then_last [] (refusal_part BadHead) p.client c q.client (head_puts (SaysHead item) p.client c hands) puts,
+  (idle, c, hands_so _ item p.client c refused hands, gone),
+  after_head (IsHeadRefused (edge_of p.config.edge)) (refusal_part BadHead) p.client c q.client (hands_so _ item p.client c refused hands) puts,
+  idle_body refused_head p q idle.sent,
+  tt,
 )
 head_replies p q item c idle hands (inr (cannot, (false, right, puts, gone))) = (
   not_forwardable,
-  (idle, c, (λ trace stands. let y = hands trace stands in (y.0, (right y.0 y.1, cannot y.0 y.1), y.2)), gone),
-  then_last [] (own 501) p.client c q.client (head_puts (SaysHead item) p.client c hands) puts,
+  (idle, c, hands_so _ item p.client c (λ h says. (right h says, cannot h says)) hands, gone),
+  after_head (CannotBeSent (edge_of p.config.edge)) (own 501) p.client c q.client
+      (hands_so _ item p.client c (λ h says. (right h says, cannot h says)) hands) puts,
+  idle_body not_forwardable p q idle.sent,
+  tt,
 )
 
 -- the client's connection, which isn't to end, hasn't closed
-pub closed_replies : (p : Proxy) (c : State) → HoldsNoRequest p → is_closing p ≡ false
+pub closed_replies : (p : Proxy) (c : State) → HoldsNoRequest p → is_closing p ≡ false → c.settings ≡ p.client.settings
     → ((trace : List Step) → Stands p.client trace → is_closing p ≡ true) → TurnReplies p (record p { client = c })
-closed_replies p c idle going closing =
-    (nothing_put, idle_cause p (record p { client = c }) idle, λ trace stands. absurd (false≢true (sym going ∙ closing trace stands)))
+closed_replies p c idle going settings closing = (
+  nothing_put,
+  idle_cause p (record p { client = c }) idle,
+  (settings, λ trace stands. absurd (false≢true (sym going ∙ closing trace stands))),
+  idle_body nothing_put p (record p { client = c }) idle.sent,
+  refl,
+)
 
 -- ---- a server connection on which no request is under way
 
@@ -340,7 +369,11 @@ head_keeps p b q item config same hands (none, x) = λ idle. (none, by_case x)
     by_case (inr x) = inr (inr (
       x.0,
       b.client,
-      (λ trace stands. let y = hands trace stands in (y.0, ap (λ (c : ProxyConfig). is_forwardable (edge_of c.edge) y.0) (sym config) ∙ x.1 y.0 y.1, y.2)),
+      (
+        hands.0,
+        λ trace stands.
+            let y = hands.1 trace stands in (y.0, ap (λ (c : ProxyConfig). is_forwardable (edge_of c.edge) y.0) (sym config) ∙ x.1 y.0 y.1, y.2),
+      ),
     ))
 
 pub busy_keeps : (p q : Proxy) (sent : SentRequest) → p.sent ≡ Some sent → KeepsIdle p q
@@ -362,6 +395,8 @@ piece_replies p q sent s t bytes runs answered hands after there (inr x) may = (
   piece_on bytes,
   (sent, answered_here p sent (Some s) runs answered, goes_as q sent s t (marks_of sent) (body_bytes bytes ∷ []) after refl there hands),
   x,
+  as_far (record p { server = Some s }) q sent sent runs.sent after.sent refl refl,
+  tt,
 )
 
 -- trailers are left out
@@ -371,12 +406,14 @@ trailers_reply p q sent s t runs none after there same = (
   nothing_put,
   waits_cause p q sent s runs (goes_as q sent s t (marks_of sent) [] after refl there none),
   same_puts p.client q.client same,
+  as_far (record p { server = Some s }) q sent sent runs.sent after.sent refl refl,
+  after.unsent ∙ sym runs.unsent,
 )
 
 pub end_replies : (p q : Proxy) (sent : SentRequest) (s t : servers.State) → Runs sent p → sent.is_answered ≡ true → HandsPiece pulled.End s t
     → PutsLast [] ends p.client q.client → ReplyIsOver sent.is_whole sent.closes t q → TurnReplies (record p { server = Some s }) q
 end_replies p q sent s t runs answered hands puts over =
-    (end_on, (sent, answered_here p sent (Some s) runs answered, (t, hands, over)), puts)
+    (end_on, (sent, answered_here p sent (Some s) runs answered, (t, hands, over)), puts, gone_body end_on (record p { server = Some s }) q over.sent, tt)
 
 pub broken_lacks : (s t : servers.State) (fault : on.BodyFault) → Hands (body_fault fault ∷ []) s t ⊎ ((t ≡ s) × CannotPull s × (IsReadUp s → ⊥)) → LacksEnd (Some s)
 broken_lacks s t fault (inl x) = inl (fault, t, x)
@@ -397,9 +434,9 @@ own_fails true a q is x over = absurd (false≢true (sym is))
 own_fails false a q is x over = (x, over)
 
 pub kept_breaks : (t : Bool) (sent : SentRequest) (server : servers.State) (a : State) (q : Proxy) → t ≡ true → Puts [] a q.client
-    → GoesOnWaiting (marks_of sent) server q → Breaks t sent server a q
-kept_breaks true sent server a q is x y = (x, y)
-kept_breaks false sent server a q is x y = absurd (false≢true is)
+    → GoesOnWaiting (marks_of sent) server q → q.sent ≡ Some (record sent { is_broken = true }) → Breaks t sent server a q
+kept_breaks true sent server a q is x y broken = (x, y, broken)
+kept_breaks false sent server a q is x y broken = absurd (false≢true is)
 
 pub own_breaks : (t : Bool) (sent : SentRequest) (server : servers.State) (a : State) (q : Proxy) → t ≡ false → PutsLast [] (own 400) a q.client → IsDropped q
     → Breaks t sent server a q
@@ -409,7 +446,7 @@ own_breaks false sent server a q is x over = (x, over)
 -- its body breaks
 pub body_breaks : (q : Proxy) (sent : SentRequest) (server : servers.State) (client c : State) (fault : on.BodyFault) → Puts (request_breaks fault ∷ []) client c
     → Breaks sent.is_answered sent server c q → PassesBody sent server client q
-body_breaks q sent server client c fault puts breaks = inr (fault, c, puts, breaks)
+body_breaks q sent server client c fault puts breaks = inr (inr (inr (fault, c, puts, breaks)))
 
 -- the head of this answer is passed on
 pub head_passes : (is_head : Bool) (a : Answer) (head : AnswerHead) (size : BodySize) (b c : State) → head ≡ reply_head a → size ≡ reply_size is_head a
@@ -436,37 +473,3 @@ replies_of_unsent p q o is x = subst (λ (o : Option Unsent). TurnReplies (recor
 
 pub replies_of_server : (p q : Proxy) (o : Option servers.State) → p.server ≡ o → TurnReplies (record p { server = o }) q → TurnReplies p q
 replies_of_server p q o is x = subst (λ (o : Option servers.State). TurnReplies (record p { server = o }) q) (sym is) x
-
--- ---- events
-
--- the client's connection did this event
-pub client_adds : (event : on.Event) (Says : on.Outcome → Type 0) (a b : State) → GoesOn a event Says b → ClientAdds event a b
-client_adds event Says a b one = λ trace stands. let s = one trace stands in (s.0, s.3)
-
--- or one to a server did
-pub adds_to : (event : asked.ClientEvent) (Says : asked.ClientOutcome → Type 0) (o : Option servers.State) (a b : servers.State) → o ≡ Some a
-    → servers.GoesOn a event Says b → AddsTo event o (Some b)
-adds_to event Says o a b here one = (a, b, here, refl, λ trace stands. (one.outcome, one.stands trace stands))
-
-pub no_server_of : (p : Proxy) → IsTrue (wants_server p) → p.server ≡ None
-no_server_of p wants = none_of p.server (three_parts (is_some p.unsent) (is_none p.server) (not (is_closing p)) wants).1
-  where
-    none_of : (o : Option servers.State) → is_none o ≡ true → o ≡ None
-    none_of None is = refl
-    none_of (Some s) is = absurd (false≢true is)
-
-pub replies_by : (by : ProxyEvent) (outcome : ProxyOutcome) (p mid q : Proxy) → GoesBy by outcome p mid → PutsNothing by p mid → HasReplied mid q
-    → Replies by outcome p q
-replies_by by outcome p mid q goes event turns = record { mid = mid; goes = goes; event = event; turns = turns }
-
--- no server connection is to be had
-pub refuses_by : (p a b mid q : Proxy) → GoesBy past.refused past.done p mid → HoldsNoRequest mid → mid.server ≡ p.server → a.client ≡ p.client → b.client ≡ a.client
-    → PutsLast [] (own 502) b.client mid.client → HasReplied mid q → RepliesRefused p q
-refuses_by p a b mid q goes idle server first second puts turns = record {
-  mid = mid;
-  goes = goes;
-  idle = idle;
-  server = server;
-  puts = subst (λ (s : State). PutsLast [] (own 502) s mid.client) (second ∙ first) puts;
-  turns = turns;
-}

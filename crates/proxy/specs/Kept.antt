@@ -135,6 +135,7 @@ pub record Runs (this : SentRequest) (p : Proxy) : Type 0 where
 -- a request that waits is what is to be sent on for this head, at this edge
 pub record IsUnsent (e : Edge) (u : Unsent) (h : Head) : Type 0 where
   pub method : (request_of u.head).head.method ≡ h.method
+  pub minor : (request_of u.head).head.minor ≡ 1
   pub whole : u.sent.is_whole ≡ not (has_body h.body)
   pub unbroken : u.sent.is_broken ≡ false
   pub sized : size_of u.size ≡ forwarded_size h

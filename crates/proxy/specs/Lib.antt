@@ -7,3 +7,4 @@ pub mod Rests
 pub mod Served
 pub mod Fresh
 pub mod Replies
+pub mod Runs

@@ -7,7 +7,8 @@ ghost use Rattle.proxy.specs.Sides.{ClientBrings, BringsNext, BringsPulled};
 ghost use Rattle.h1_encoder.specs.Meaning.{answer_of, size_of};
 ghost use Rattle.proxy.specs.Leaves.{LeavesNext, LeavesPulled};
 ghost use Rattle.proxy.specs.Wants.{Wants, WantsTheSame, WantsNext, HasHead, HasEnd, TellsToContinue};
-ghost use Rattle.proxy.specs.Puts.{MayLeave, begins, continues, ends, breaks_off, goes_on, MayPut, HandsNext, HandsPulled};
+ghost use Rattle.model_proxy.specs.Parts.{begins, continues, ends, breaks_off, goes_on};
+ghost use Rattle.proxy.specs.Puts.{MayLeave, MayPut, HandsNext, HandsPulled};
 
 use h1_connection::{BodySize, Bytes, Connection, NextHead, NoMemory, Pulled, ResponseHead};
 

@@ -37,7 +37,7 @@ impl Proxy {
         ensures goes { IfOk result (λ count. GoesBy (event.client bytes.now) (took count) self.old self.new) }
         ensures took { IfOk result (λ count. TakesAll count bytes.now (client_room self.old) self.old) }
         ensures serves { OnOk result (GoesOnServing self.old self.new) }
-        ensures replies { OnOk result (PutsNothing (event.client bytes.now) self.old self.new) }
+        ensures replies { IfOk result (λ count. PutsNothing (event.client bytes.now) (took count) self.old self.new) }
         ensures nothing { client_room self.old ≡ 0 → IsOk result × (self.new ≡ self.old) }
     {
         if self.client_room() == 0 {
@@ -68,7 +68,7 @@ impl Proxy {
         ensures goes { IfOk result (λ count. GoesBy (event.server bytes.now) (took count) self.old self.new) }
         ensures took { IfOk result (λ count. TakesAll count bytes.now (server_room self.old) self.old) }
         ensures serves { OnOk result (GoesOnServing self.old self.new) }
-        ensures replies { OnOk result (PutsNothing (event.server bytes.now) self.old self.new) }
+        ensures replies { IfOk result (λ count. PutsNothing (event.server bytes.now) (took count) self.old self.new) }
         ensures nothing { server_room self.old ≡ 0 → IsOk result × (self.new ≡ self.old) }
     {
         if self.server_room() == 0 {
@@ -101,7 +101,7 @@ impl Proxy {
     fn end_client(&mut self)
         ensures goes { GoesBy event.client_eof done self.old self.new }
         ensures serves { GoesOnServing self.old self.new }
-        ensures replies { PutsNothing event.client_eof self.old self.new }
+        ensures replies { PutsNothing event.client_eof done self.old self.new }
         ensures nothing { client_takes self.old on.eof ≡ false → self.new ≡ self.old }
     {
         if !self.client.can_read() {
@@ -128,7 +128,7 @@ impl Proxy {
         requires can_read_server { IsTrue (server_allows (server_of self.old) asked.eof) }
         ensures goes { GoesBy event.server_eof done self.old self.new }
         ensures serves { GoesOnServing self.old self.new }
-        ensures replies { PutsNothing event.server_eof self.old self.new }
+        ensures replies { PutsNothing event.server_eof done self.old self.new }
     {
         let Some(mut server) = self.server.take() else {
             return;
@@ -201,7 +201,7 @@ impl Proxy {
         requires fits { count ≤ length (server_text (server_of self.old)) }
         ensures goes { GoesBy (event.to_server count) (gave (take count (server_text (server_of self.old)))) self.old self.new }
         ensures serves { GoesOnServing self.old self.new }
-        ensures replies { PutsNothing (event.to_server count) self.old self.new }
+        ensures replies { PutsNothing (event.to_server count) (gave (take count (server_text (server_of self.old)))) self.old self.new }
     {
         let Some(mut server) = self.server.take() else {
             return;

@@ -21,6 +21,7 @@ ghost use Rattle.proxy.specs.Rests.{may_turn, IsHeldUp, RestsWhereItMay};
 ghost use Rattle.proxy.specs.Served.{IsServed, IsRequestUnderWay, IsNewestBy};
 ghost use Rattle.proxy.specs.declared.proxy.SentRequest.{SentRequest};
 ghost use Rattle.proxy.specs.Replies.{WasAnswered, marks_of, HasReplied, IsCarried};
+ghost use Rattle.proxy.specs.Runs.{Ran, IsUsable, IsAForwarder};
 
 /// Of what came from either side, and wasn't passed on yet, no more is held than may be: the hold size of the config. So no peer
 /// makes a forwarder hold more unread bytes.
@@ -89,4 +90,12 @@ pub fn no_answer_comes_before_its_request()
 pub fn a_reply_is_its_answer()
     ensures { (old new : Proxy) (sent : SentRequest) (s : servers.State) → HasReplied old new → WasAnswered sent old → server_of old ≡ Some s
         → IsCarried (marks_of sent) s old new }
+{}
+
+/// A forwarder, whatever events it was told. Each request that its client's connection handed out was sent on once at most, to one server
+/// connection, whole or as far as it came. Its client got one reply to each at most, in order: the server's answer, made anew, or one of the
+/// forwarder's own, each for its cause; and a reply is cut only where that answer was bad. This holds behind each event, so nothing comes before
+/// its cause. It says nothing of when a reply comes: the clauses `rests` and `serves` do.
+pub fn is_a_forwarder()
+    ensures { (history : List ProxyStep) (p : Proxy) → Ran history p → IsUsable p → IsAForwarder history p }
 {}

@@ -7,7 +7,7 @@ ghost use Rattle.proxy.specs.Wants.{IsTold};
 ghost use Rattle.model_proxy.specs.Rests.{MAX_WAITING};
 ghost use Rattle.proxy.specs.Kept.{Goes, GoesWith, HoldsNoRequest, Runs, GoesBroken};
 ghost use Rattle.proxy.specs.Served.{Serving, GoesOnServing, HasNoReply, HasNoReplyTo};
-ghost use Rattle.proxy.specs.Puts.{ends};
+ghost use Rattle.model_proxy.specs.Parts.{ends};
 ghost use Rattle.proxy.specs.Fresh.{AddsBelow};
 ghost use Rattle.proxy.specs.Replies.{refusal_part, may_keep, ReplyIsOver, marks_of, PutsLast, TurnReplies, Fails, Breaks, PassesBody, PassesHead, TakesAnswer};
 ghost use Rattle.proxy.specs.Rests.{LeavesLess, Works, WorksBody};
@@ -343,6 +343,7 @@ fn status_of(item: &ResponseItem) -> StatusCode {
 
 // The head of its answer was passed on.
 fn answered(sent: SentRequest, closes: bool) -> SentRequest
+    ensures same { result ≡ record sent { is_answered = true; closes = closes } }
     ensures whole { result.is_whole ≡ sent.is_whole }
     ensures broken { result.is_broken ≡ sent.is_broken }
     ensures marks { marks_of result ≡ record { is_head = sent.is_head; is_answered = true; closes = closes } }
@@ -356,6 +357,7 @@ fn answered(sent: SentRequest, closes: bool) -> SentRequest
 
 // The end of its body was sent on.
 fn whole(sent: SentRequest) -> SentRequest
+    ensures same { result ≡ record sent { is_whole = true } }
     ensures whole { result.is_whole ≡ true }
     ensures broken { result.is_broken ≡ sent.is_broken }
     ensures marks { marks_of result ≡ marks_of sent }
@@ -368,6 +370,7 @@ fn whole(sent: SentRequest) -> SentRequest
 
 // Its body broke.
 fn broken(sent: SentRequest) -> SentRequest
+    ensures same { result ≡ record sent { is_broken = true } }
     ensures whole { result.is_whole ≡ sent.is_whole }
     ensures broken { result.is_broken ≡ true }
     ensures marks { marks_of result ≡ marks_of sent }

@@ -112,6 +112,7 @@ impl Unsent {
 impl Proxy {
     /// A forwarder to which nothing has happened yet, without a server connection. It takes no memory.
     pub fn new(alloc: Global, config: ProxyConfig) -> Proxy
+        ensures config { result.config ≡ config }
         ensures client { client_of result ≡ fresh_state config.connections }
         ensures server { server_of result ≡ None }
         ensures forwards { Forwards result [] nothing_happened }

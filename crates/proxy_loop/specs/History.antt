@@ -9,19 +9,16 @@ use Rattle.proxy.specs.declared.proxy.Proxy.{Proxy}
 use Rattle.proxy.specs.Kept.{Forwards, GoesBy, server_of, server_allows, client_takes, wants_server}
 use Rattle.proxy.specs.Rests.{RestsWhereItMay}
 use Rattle.proxy.specs.Served.{IsServed}
-use Rattle.proxy.specs.Replies.{Replies, RepliesRefused}
+use Rattle.proxy.specs.Runs.{Ran, RepliesBy}
 
--- It stands for what happened after some events; and what its client's connection wants is what the request under way is to get.
+-- It stands for what happened after some events, each with what its call requires and promises; and what its client's connection wants is what
+-- the request under way is to get.
 pub record HasHistory (p : Proxy) : Type 0 where
   pub history : List ProxyStep
   pub all : Happenings
   pub stands : Forwards p history all
   pub served : IsServed p
-
--- The event's own step on its own connection, and then turns, each with its cause; where a server connection is refused, first the 502.
-abbrev pub RepliesBy : ProxyEvent → ProxyOutcome → Proxy → Proxy → Type 0
-RepliesBy told.refused outcome old new = RepliesRefused old new
-RepliesBy event outcome old new = Replies event outcome old new
+  pub ran : Ran history p
 
 -- By this event a forwarder went on: that was added to all that happened before; nothing is left to do where turns may be made; what the client's
 -- connection wants is what the request under way is to get; and what was done on each connection, and which parts of a reply were put, has its

@@ -23,6 +23,7 @@
 
 mod flow;
 mod forwarder;
+pub mod laws;
 
 pub use flow::{TakenIn, take_in_client, take_in_server, write_client, write_server};
 pub use forwarder::Forwarder;

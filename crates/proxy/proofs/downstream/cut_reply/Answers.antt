@@ -3,7 +3,7 @@ use Rattle.model_h1.specs.Event as on
 use Rattle.proxy.proofs.Sides.{client_plain}
 use Rattle.proxy.proofs.Wants.{was_cut, end_not_wanted}
 use Rattle.proxy.proofs.Puts.{one_puts}
-use Rattle.proxy.specs.Puts.{breaks_off}
+use Rattle.model_proxy.specs.Parts.{breaks_off}
 use Rattle.proxy.proofs.downstream.cut_reply.Goals as goal
 
 pub returns-then-not-can_end_answer-clause-wants : goal.returns-then-not-can_end_answer-clause-wants
@@ -20,4 +20,4 @@ pub returns-then-not-can_end_answer-clause-puts : goal.returns-then-not-can_end_
 returns-then-not-can_end_answer-clause-puts c = inl (sym c.can_end_answer.ensures.fails ∙ c.if-not-can_end_answer.true, refl)
 
 pub returns-clause-puts : goal.returns-clause-puts
-returns-clause-puts c = inr (one_puts c.args.client.now on.body_error _ c.fail_answer.new.self (breaks_off ∷ []) c.fail_answer.ensures.stands (λ o says. refl))
+returns-clause-puts c = inr (one_puts c.args.client.now on.body_error _ c.fail_answer.new.self (breaks_off ∷ []) c.fail_answer.ensures.settings c.fail_answer.ensures.stands (λ o says. refl))

@@ -2,7 +2,7 @@ use Rattle.std.proofs.Common.{inl, inr, refl, sym, ◌∙◌, [], ◌∷◌}
 use Rattle.model_h1.specs.Event as on
 use Rattle.proxy.proofs.Sides.{client_plain}
 use Rattle.proxy.proofs.Wants.{wants_same, client_wants}
-use Rattle.proxy.specs.Puts.{leaves_rest}
+use Rattle.model_proxy.specs.Parts.{leaves_rest}
 use Rattle.proxy.proofs.Puts.{one_puts}
 use Rattle.proxy.proofs.downstream.leave_body.Goals as goal
 
@@ -21,4 +21,4 @@ pub returns-then-not-can_pull-clause-puts : goal.returns-then-not-can_pull-claus
 returns-then-not-can_pull-clause-puts c = inl (refl, sym c.can_pull.ensures.value ∙ c.if-not-can_pull.true)
 
 pub returns-clause-puts : goal.returns-clause-puts
-returns-clause-puts c = inr (one_puts c.args.client.now on.drop_body _ c.drop_body.new.self (leaves_rest ∷ []) c.drop_body.ensures.stands (λ o says. refl))
+returns-clause-puts c = inr (one_puts c.args.client.now on.drop_body _ c.drop_body.new.self (leaves_rest ∷ []) c.drop_body.ensures.settings c.drop_body.ensures.stands (λ o says. refl))

@@ -25,7 +25,7 @@ pub returns-then-not-can_pull-clause-wants : goal.returns-then-not-can_pull-clau
 returns-then-not-can_pull-clause-wants c = λ trace stands. wants_same c.args.client.now
 
 pub returns-clause-hands : goal.returns-clause-hands
-returns-clause-hands c = pulled_hands c.in_ok-pulled.pulled c.args.client.now c.pull.new.self c.in_ok-pulled.ensures.stands
+returns-clause-hands c = pulled_hands c.in_ok-pulled.pulled c.args.client.now c.pull.new.self c.pull.ensures.settings c.in_ok-pulled.ensures.stands
 
 pub returns-then-not-can_pull-clause-hands : goal.returns-then-not-can_pull-clause-hands
 returns-then-not-can_pull-clause-hands c = puts_none c.args.client.now

@@ -3,7 +3,7 @@ use Rattle.model_h1.specs.Event as on
 use Rattle.proxy.proofs.Sides.{client_plain}
 use Rattle.proxy.proofs.Wants.{has_end, end_not_wanted}
 use Rattle.proxy.proofs.Puts.{one_puts}
-use Rattle.proxy.specs.Puts.{ends}
+use Rattle.model_proxy.specs.Parts.{ends}
 use Rattle.proxy.proofs.downstream.put_end.Goals as goal
 
 pub returns-then-not-can_end_answer-clause-wants : goal.returns-then-not-can_end_answer-clause-wants
@@ -22,4 +22,4 @@ pub returns-then-not-can_end_answer-clause-puts : goal.returns-then-not-can_end_
 returns-then-not-can_end_answer-clause-puts c = inl (sym c.can_end_answer.ensures.ends ∙ c.if-not-can_end_answer.true, refl)
 
 pub returns-clause-puts : goal.returns-clause-puts
-returns-clause-puts c = inr (one_puts c.args.client.now on.body_end _ c.end_answer.new.self (ends ∷ []) c.in_ok-end_answer.ensures.stands (λ o says. refl))
+returns-clause-puts c = inr (one_puts c.args.client.now on.body_end _ c.end_answer.new.self (ends ∷ []) c.end_answer.ensures.settings c.in_ok-end_answer.ensures.stands (λ o says. refl))

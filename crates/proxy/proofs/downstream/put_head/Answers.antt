@@ -3,7 +3,7 @@ use Rattle.model_h1.specs.Event as on
 use Rattle.h1_encoder.specs.Meaning.{answer_of, size_of}
 use Rattle.proxy.proofs.Sides.{client_plain}
 use Rattle.proxy.proofs.Wants.{has_head, head_not_wanted}
-use Rattle.proxy.specs.Puts.{begins}
+use Rattle.model_proxy.specs.Parts.{begins}
 use Rattle.proxy.proofs.Puts.{one_puts}
 use Rattle.proxy.proofs.downstream.put_head.Goals as goal
 
@@ -27,4 +27,4 @@ returns-then-not-can_answer-clause-puts c =
 pub returns-clause-puts : goal.returns-clause-puts
 returns-clause-puts c =
     inr (one_puts c.args.client.now (on.answer (answer_of c.args.head.now) (size_of c.args.size)) _ c.answer.new.self
-    (begins (record { head = answer_of c.args.head.now; size = size_of c.args.size }) ∷ []) c.in_ok-answer.ensures.stands (λ o says. refl))
+    (begins (record { head = answer_of c.args.head.now; size = size_of c.args.size }) ∷ []) c.answer.ensures.settings c.in_ok-answer.ensures.stands (λ o says. refl))

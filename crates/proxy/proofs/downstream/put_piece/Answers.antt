@@ -3,7 +3,7 @@ use Rattle.model_h1.specs.Event as on
 use Rattle.proxy.proofs.Sides.{client_plain}
 use Rattle.proxy.proofs.Wants.{wants_same, client_wants}
 use Rattle.proxy.proofs.Puts.{one_puts}
-use Rattle.proxy.specs.Puts.{continues}
+use Rattle.model_proxy.specs.Parts.{continues}
 use Rattle.proxy.proofs.downstream.put_piece.Goals as goal
 
 pub returns-then-not-can_chunk-clause-wants : goal.returns-then-not-can_chunk-clause-wants
@@ -21,4 +21,4 @@ pub returns-then-not-can_chunk-clause-puts : goal.returns-then-not-can_chunk-cla
 returns-then-not-can_chunk-clause-puts c = inl (sym (c.can_chunk.ensures c.args.bytes) ∙ c.if-not-can_chunk.true, refl)
 
 pub returns-clause-puts : goal.returns-clause-puts
-returns-clause-puts c = inr (one_puts c.args.client.now (on.chunk c.args.bytes) _ c.chunk_bytes.new.self (continues c.args.bytes ∷ []) c.in_ok-chunk_bytes.ensures.stands (λ o says. refl))
+returns-clause-puts c = inr (one_puts c.args.client.now (on.chunk c.args.bytes) _ c.chunk_bytes.new.self (continues c.args.bytes ∷ []) c.chunk_bytes.ensures.settings c.in_ok-chunk_bytes.ensures.stands (λ o says. refl))

@@ -2,7 +2,7 @@ use Rattle.std.proofs.Common.{refl, sym, ◌∙◌, [], ◌∷◌, inl, inr}
 use Rattle.model_h1.specs.Event as on
 use Rattle.proxy.proofs.Sides.{client_plain}
 use Rattle.proxy.proofs.Wants.{wants_same, client_wants, continue_told, continue_not_wanted}
-use Rattle.proxy.specs.Puts.{goes_on}
+use Rattle.model_proxy.specs.Parts.{goes_on}
 use Rattle.proxy.proofs.Puts.{one_puts}
 use Rattle.proxy.proofs.downstream.tell_to_continue.Goals as goal
 
@@ -27,4 +27,4 @@ pub returns-then-not-can_continue-clause-puts : goal.returns-then-not-can_contin
 returns-then-not-can_continue-clause-puts c = inl (sym c.can_continue.ensures ∙ c.if-not-can_continue.true, refl)
 
 pub returns-clause-puts : goal.returns-clause-puts
-returns-clause-puts c = inr (one_puts c.args.client.now on.send_continue _ c.send_continue.new.self (goes_on ∷ []) c.in_ok-send_continue.ensures.stands (λ o says. refl))
+returns-clause-puts c = inr (one_puts c.args.client.now on.send_continue _ c.send_continue.new.self (goes_on ∷ []) c.send_continue.ensures.settings c.in_ok-send_continue.ensures.stands (λ o says. refl))

@@ -18,7 +18,7 @@ pub returns-clause-leaves : goal.returns-clause-leaves
 returns-clause-leaves c = answer_less c.in_ok-next.next c.args.server.now c.next.new.self c.next.ensures.settings (sym c.can_next.ensures ∙ c.if-not-can_next.false) c.in_ok-next.ensures.stands
 
 pub returns-clause-hands : goal.returns-clause-hands
-returns-clause-hands c = answer_hands c.in_ok-next.next c.args.server.now c.next.new.self c.in_ok-next.ensures.stands
+returns-clause-hands c = answer_hands c.in_ok-next.next c.args.server.now c.next.new.self c.next.ensures.settings c.in_ok-next.ensures.stands
 
 pub returns-then-not-can_next-clause-hands : goal.returns-then-not-can_next-clause-hands
 returns-then-not-can_next-clause-hands c = inl (sym c.can_next.ensures ∙ c.if-not-can_next.true)

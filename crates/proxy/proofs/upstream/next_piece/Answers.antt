@@ -20,7 +20,7 @@ returns-clause-leaves c =
     piece_less c.in_ok-pulled.pulled c.args.server.now c.pull.new.self c.pull.ensures.settings (sym c.can_pull.ensures ∙ c.if-not-can_pull.false) c.in_ok-pulled.ensures.stands
 
 pub returns-clause-hands : goal.returns-clause-hands
-returns-clause-hands c = piece_hands c.in_ok-pulled.pulled c.args.server.now c.pull.new.self c.in_ok-pulled.ensures.stands
+returns-clause-hands c = piece_hands c.in_ok-pulled.pulled c.args.server.now c.pull.new.self c.pull.ensures.settings c.in_ok-pulled.ensures.stands
 
 pub returns-then-not-can_pull-clause-hands : goal.returns-then-not-can_pull-clause-hands
 returns-then-not-can_pull-clause-hands c = c.last_piece.ensures.hands (sym c.can_pull.ensures ∙ c.if-not-can_pull.true)

@@ -6,7 +6,7 @@ use Rattle.proxy.proofs.Work.{rests_by}
 use Rattle.proxy.proofs.EventMoves.{client_writes}
 use Rattle.proxy.specs.declared.proxy.Proxy.{Proxy}
 use Rattle.proxy.proofs.Served.{serves_by, event_serves}
-use Rattle.proxy.proofs.Replies.{replies_by, client_adds}
+use Rattle.proxy.proofs.EventReplies.{replies_by, client_adds}
 use Rattle.std.proofs.Common.{refl}
 use Rattle.proxy.proofs.proxy.Proxy.advance_client.Goals as goal
 
@@ -42,4 +42,5 @@ returns-clause-replies c =
     let mid : Proxy = record p { client = c.advance.new.self } in
     replies_by (to_client c.args.count) (gave bytes) p mid c.settle.new.self
     (client_writes c.args.count p c.advance.new.self c.advance.ensures.settings c.advance.ensures.stands)
+    (event_serves (on.write c.args.count) (on.gave bytes) p c.advance.new.self c.advance.ensures.settings c.advance.ensures.stands tt c.requires.can_write_client)
     (record { client = client_adds (on.write c.args.count) _ p.client c.advance.new.self c.advance.ensures.stands; server = refl; unsent = refl; sent = refl }) c.in_ok-settle.ensures.replies

@@ -4,7 +4,7 @@ use Rattle.proxy.proofs.Moves.{by_then}
 use Rattle.proxy.proofs.Work.{rests_by}
 use Rattle.proxy.specs.Kept.{server_text}
 use Rattle.proxy.proofs.Served.{serves_by}
-use Rattle.proxy.proofs.Replies.{replies_by}
+use Rattle.proxy.proofs.EventReplies.{replies_by}
 use Rattle.std.proofs.lemmas.Bool.{false≢true}
 use Rattle.proxy.proofs.Still.{held_still, held_as}
 use Rattle.proxy.proofs.proxy.Proxy.advance_server.Goals as goal
@@ -24,7 +24,7 @@ returns-clause-serves c = serves_by c.args.self.now c.write_server.new.self c.se
 
 pub returns-clause-replies : goal.returns-clause-replies
 returns-clause-replies c = replies_by (to_server c.args.count) (gave (take c.args.count (server_text c.args.self.now.server))) c.args.self.now c.write_server.new.self c.settle.new.self
-    c.write_server.ensures.goes c.write_server.ensures.replies c.in_ok-settle.ensures.replies
+    c.write_server.ensures.goes c.write_server.ensures.serves c.write_server.ensures.replies c.in_ok-settle.ensures.replies
 
 pub returns-in_err-settle-clause-no_memory_needed : goal.returns-in_err-settle-clause-no_memory_needed
 returns-in_err-settle-clause-no_memory_needed c = λ held.

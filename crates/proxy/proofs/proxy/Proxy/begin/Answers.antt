@@ -4,6 +4,8 @@ use Rattle.proxy.proofs.Moves.{closes}
 use Rattle.std.proofs.Common.{arith, inl, inr, refl}
 use Rattle.proxy.proofs.Work.{works, over_less}
 use Rattle.proxy.proofs.Served.{with_server}
+use Rattle.proxy.specs.Replies.{nothing_put}
+use Rattle.proxy.proofs.BodyMarks.{idle_body}
 use Rattle.proxy.proofs.Replies.{no_part_put, idle_cause}
 use Rattle.proxy.proofs.Puts.{puts_none}
 use Rattle.proxy.proofs.Below.{below_none}
@@ -24,6 +26,7 @@ returns-then-is_server_over-clause-serves c = with_server c.args.self.now None
 pub returns-then-is_server_over-clause-replies : goal.returns-then-is_server_over-clause-replies
 returns-then-is_server_over-clause-replies c =
     no_part_put c.args.self.now (record c.args.self.now { server = None }) (idle_cause c.args.self.now _ c.requires.idle) (puts_none c.args.self.now.client)
+    (idle_body nothing_put c.args.self.now (record c.args.self.now { server = None }) c.requires.idle.sent) refl
 
 pub returns-then-is_server_over-clause-keeps : goal.returns-then-is_server_over-clause-keeps
 returns-then-is_server_over-clause-keeps c = λ idle. let x = c.is_server_over.ensures.over c.if-is_server_over.true in (idle.sent, inr (inl (refl, x.0, x.1, x.2)))

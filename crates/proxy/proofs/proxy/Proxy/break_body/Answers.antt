@@ -1,3 +1,4 @@
+use Rattle.std.proofs.Common.{ap}
 use Rattle.std.proofs.Common.{refl}
 use Rattle.std.proofs.Common.{Some, None}
 use Rattle.proxy.specs.declared.proxy.SentRequest.{SentRequest}
@@ -48,6 +49,7 @@ returns-then-sent-clause-replies c =
     kept_breaks c.args.sent.is_answered c.args.sent c.args.server c.args.self.now.client q c.if-sent.true (puts_none c.args.self.now.client)
     (goes_as q c.broken.result c.args.server c.args.server (marks_of c.args.sent) [] (record { unsent = c.requires.runs.unsent; sent = refl })
     c.broken.ensures.marks refl (hands_same c.args.server))
+    (ap Some c.broken.ensures.same)
 
 pub returns-clause-replies : goal.returns-clause-replies
 returns-clause-replies c =

@@ -6,7 +6,7 @@ use Rattle.proxy.proofs.Work.{rests_by}
 use Rattle.proxy.proofs.EventMoves.{connects}
 use Rattle.proxy.specs.declared.proxy.Proxy.{Proxy}
 use Rattle.proxy.proofs.Served.{serves_by, with_server}
-use Rattle.proxy.proofs.Replies.{replies_by}
+use Rattle.proxy.proofs.EventReplies.{replies_by}
 use Rattle.std.proofs.Common.{refl, ap}
 use Rattle.h1_client.specs.State.{State}
 use Rattle.std.proofs.lemmas.Bool.{false≢true}
@@ -36,7 +36,7 @@ returns-clause-replies c =
     let p = c.args.self.now in
     let mid : Proxy = record p { server = Some c.new.result } in
     replies_by event.connected done p mid c.settle.new.self (connects p c.new.result c.requires.wants_server c.new.ensures.value)
-    (record { client = refl; server = ap (λ (s : State). Some s) c.new.ensures.value; unsent = refl; sent = refl }) c.in_ok-settle.ensures.replies
+    (with_server p (Some c.new.result)) (record { client = refl; server = ap (λ (s : State). Some s) c.new.ensures.value; unsent = refl; sent = refl }) c.in_ok-settle.ensures.replies
 
 pub returns-in_err-settle-clause-no_memory_needed : goal.returns-in_err-settle-clause-no_memory_needed
 returns-in_err-settle-clause-no_memory_needed c = λ held.

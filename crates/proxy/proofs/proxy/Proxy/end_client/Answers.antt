@@ -2,7 +2,7 @@ use Rattle.std.proofs.Common.{sym, ◌∙◌}
 use Rattle.model_h1.specs.Event as on
 use Rattle.proxy.proofs.EventMoves.{client_end_nothing, client_ends}
 use Rattle.proxy.proofs.Served.{event_serves}
-use Rattle.proxy.proofs.Replies.{client_adds}
+use Rattle.proxy.proofs.EventReplies.{client_adds}
 use Rattle.std.proofs.Common.{refl, inl, inr}
 use Rattle.std.proofs.lemmas.Bool.{false≢true}
 use Rattle.proxy.proofs.proxy.Proxy.end_client.Goals as goal
@@ -24,7 +24,7 @@ pub returns-then-not-can_read-clause-replies : goal.returns-then-not-can_read-cl
 returns-then-not-can_read-clause-replies c = record { client = inl (refl, sym c.can_read.ensures.eof ∙ c.if-not-can_read.true); server = refl; unsent = refl; sent = refl }
 
 pub returns-clause-replies : goal.returns-clause-replies
-returns-clause-replies c = record { client = inr (client_adds on.eof _ c.args.self.now.client c.eof.new.self c.eof.ensures.stands); server = refl; unsent = refl; sent = refl }
+returns-clause-replies c = record { client = inr (sym c.can_read.ensures.eof ∙ c.if-not-can_read.false, client_adds on.eof _ c.args.self.now.client c.eof.new.self c.eof.ensures.stands); server = refl; unsent = refl; sent = refl }
 
 pub returns-then-not-can_read-clause-nothing : goal.returns-then-not-can_read-clause-nothing
 returns-then-not-can_read-clause-nothing c = λ no. refl

@@ -4,7 +4,7 @@ use Rattle.model_h1.specs.Event as on
 use Rattle.proxy.proofs.Work.{less_then, client_less}
 use Rattle.proxy.proofs.Served.{told_by, answered_of, end_put, idle_serves}
 use Rattle.std.proofs.Common.{[]}
-use Rattle.proxy.specs.Puts.{ends}
+use Rattle.model_proxy.specs.Parts.{ends}
 use Rattle.proxy.proofs.Replies.{last_as, left_put}
 use Rattle.proxy.proofs.proxy.Proxy.end_reply.Goals as goal
 

@@ -2,7 +2,7 @@ use Rattle.std.proofs.Common.{Some, sym}
 use Rattle.model_client.specs.ClientEvent as asked
 use Rattle.proxy.proofs.EventMoves.{allows_of, server_ends}
 use Rattle.proxy.proofs.Served.{with_server}
-use Rattle.proxy.proofs.Replies.{adds_to}
+use Rattle.proxy.proofs.EventReplies.{adds_to}
 use Rattle.std.proofs.Common.{refl}
 use Rattle.proxy.proofs.proxy.Proxy.end_server.Goals as goal
 

@@ -38,7 +38,7 @@ returns-clause-serves c = λ s.
 pub returns-then-sent-clause-replies : goal.returns-then-sent-clause-replies
 returns-then-sent-clause-replies c =
     cut_fails c.args.sent.is_answered c.args.self.now.client (record c.args.self.now { server = None; sent = None; client = c.cut_reply.new.client }) c.if-sent.true
-    c.cut_reply.ensures.puts (record { sent = refl; server = refl })
+    c.cut_reply.ensures.puts (record { unsent = c.requires.unsent; sent = refl; server = refl })
 
 pub returns-clause-replies : goal.returns-clause-replies
 returns-clause-replies c =

@@ -51,13 +51,22 @@ returns-then-not-is_forwardable-clause-replies c =
 
 pub returns-then-is_old-clause-replies : goal.returns-then-is_old-clause-replies
 returns-then-is_old-clause-replies c =
-    inl (λ h says. sym (c.is_forwardable.ensures h says) ∙ c.if-not-is_forwardable.false, inr (λ h says. sym (c.is_old-is_old.ensures h says) ∙ c.if-is_old.true, refl))
+    inl (
+      λ h says. sym (c.is_forwardable.ensures h says) ∙ c.if-not-is_forwardable.false,
+      inr (λ h says. sym (c.is_old-is_old.ensures h says) ∙ c.if-is_old.true, refl),
+      c.in_ok-unsent.unsent,
+      refl,
+      λ h says. c.in_ok-unsent.ensures.unsent h says (sym (c.is_forwardable.ensures h says) ∙ c.if-not-is_forwardable.false),
+    )
 
 pub returns-clause-replies : goal.returns-clause-replies
 returns-clause-replies c =
     inl (
       λ h says. sym (c.is_forwardable.ensures h says) ∙ c.if-not-is_forwardable.false,
       inl (λ h says. sym (c.is_old-is_old.ensures h says) ∙ c.if-is_old.false, c.in_ok-tell_to_continue.ensures.puts),
+      c.in_ok-unsent.unsent,
+      refl,
+      λ h says. c.in_ok-unsent.ensures.unsent h says (sym (c.is_forwardable.ensures h says) ∙ c.if-not-is_forwardable.false),
     )
 
 pub returns-then-not-is_forwardable-clause-keeps : goal.returns-then-not-is_forwardable-clause-keeps

@@ -27,10 +27,10 @@ pub returns-clause-serves : goal.returns-clause-serves
 returns-clause-serves c = with_server (record c.args.self.now { sent = None }) None
 
 pub returns-then-may_keep-clause-over : goal.returns-then-may_keep-clause-over
-returns-then-may_keep-clause-over c = record { sent = refl; server = kept_over _ c.args.server (sym c.may_keep.ensures.keeps ∙ c.if-may_keep.true) }
+returns-then-may_keep-clause-over c = record { unsent = c.requires.runs.unsent; sent = refl; server = kept_over _ c.args.server (sym c.may_keep.ensures.keeps ∙ c.if-may_keep.true) }
 
 pub returns-clause-over : goal.returns-clause-over
-returns-clause-over c = record { sent = refl; server = closed_over _ c.args.server (sym c.may_keep.ensures.keeps ∙ c.if-may_keep.false) }
+returns-clause-over c = record { unsent = c.requires.runs.unsent; sent = refl; server = closed_over _ c.args.server (sym c.may_keep.ensures.keeps ∙ c.if-may_keep.false) }
 
 pub returns-then-may_keep-clause-below : goal.returns-then-may_keep-clause-below
 returns-then-may_keep-clause-below c = below_same (Some c.args.server)

@@ -10,10 +10,10 @@ use Rattle.h1_payload.specs.declared.pulled.Pulled.{Pulled}
 use Rattle.proxy.specs.Sides.{BringsPulled}
 use Rattle.proxy.specs.Leaves.{LeavesPulled}
 use Rattle.proxy.proofs.Served.{with_server, client_serves, resent_serves}
-use Rattle.std.proofs.Common.{inl, refl, []}
+use Rattle.std.proofs.Common.{ap, inl, inr, refl, []}
 use Rattle.proxy.proofs.Replies.{goes_as, body_breaks}
 use Rattle.proxy.specs.Replies.{marks_of}
-use Rattle.proxy.proofs.Puts.{puts_none, hands_same, one_hands}
+use Rattle.proxy.proofs.Puts.{puts_none, hands_same}
 use Rattle.proxy.specs.Puts.{HandsPulled}
 use Rattle.proxy.proofs.Below.{below_same, below_room, no_room}
 use Rattle.proxy.proofs.proxy.Proxy.pass_body.Goals as goal
@@ -129,16 +129,26 @@ returns-then-not-may_send-clause-replies c =
       puts_none c.args.self.now.client,
       goes_as (record c.args.self.now { server = Some c.args.server }) c.args.sent c.args.server c.args.server (marks_of c.args.sent) []
           (record { unsent = c.requires.runs.unsent; sent = c.requires.runs.sent }) refl refl (hands_same c.args.server),
+      c.requires.runs.sent,
     )
 
 pub returns-in-Bytes-clause-replies : goal.returns-in-Bytes-clause-replies
 returns-in-Bytes-clause-replies c =
-    inl (
+    inr (inl (
+      c.in-Bytes.bytes,
       subst (λ (n : Pulled). HandsPulled n c.args.self.now.client c.next_bytes.new.client) c.in-Bytes.is c.in_ok-bytes.ensures.hands,
-      goes_as (record c.args.self.now { client = c.next_bytes.new.client; server = Some c.chunk.new.self }) c.args.sent c.args.server c.chunk.new.self (marks_of c.args.sent) []
-          (record { unsent = c.requires.runs.unsent; sent = c.requires.runs.sent }) refl refl
-          (one_hands c.args.server (asked.chunk c.as_slice.result.now) _ c.chunk.new.self c.in_ok-chunk-in-Bytes.ensures.stands refl),
-    )
+      record {
+        runs = record { unsent = c.requires.runs.unsent; sent = c.requires.runs.sent };
+        mid = c.args.server;
+        quiet = hands_same c.args.server;
+        after = c.chunk.new.self;
+        is_there = refl;
+        did =
+            did_chunk c.in-Bytes.bytes c.as_slice.result.now c.args.server c.chunk.new.self c.as_slice.ensures
+            (server_did (asked.chunk c.as_slice.result.now) c.args.server c.chunk.new.self c.chunk.ensures.settings
+            ((c.may_send.ensures.sends c.if-not-may_send.false).chunk c.as_slice.result.now) c.in_ok-chunk-in-Bytes.ensures.stands);
+      },
+    ))
 
 pub returns-in-Trailers-clause-replies : goal.returns-in-Trailers-clause-replies
 returns-in-Trailers-clause-replies c =
@@ -146,16 +156,24 @@ returns-in-Trailers-clause-replies c =
       subst (λ (n : Pulled). HandsPulled n c.args.self.now.client c.next_bytes.new.client) c.in-Trailers.is c.in_ok-bytes.ensures.hands,
       goes_as (record c.args.self.now { client = c.next_bytes.new.client; server = Some c.args.server }) c.args.sent c.args.server c.args.server (marks_of c.args.sent) []
           (record { unsent = c.requires.runs.unsent; sent = c.requires.runs.sent }) refl refl (hands_same c.args.server),
+      c.requires.runs.sent,
     )
 
 pub returns-in-End-clause-replies : goal.returns-in-End-clause-replies
 returns-in-End-clause-replies c =
-    inl (
+    inr (inr (inl (
       subst (λ (n : Pulled). HandsPulled n c.args.self.now.client c.next_bytes.new.client) c.in-End.is c.in_ok-bytes.ensures.hands,
-      goes_as (record c.args.self.now { client = c.next_bytes.new.client; server = Some c.end_body.new.self; sent = Some c.whole.result }) c.whole.result c.args.server c.end_body.new.self (marks_of c.args.sent) []
-          (record { unsent = c.requires.runs.unsent; sent = refl }) c.whole.ensures.marks refl
-          (one_hands c.args.server asked.body_end _ c.end_body.new.self c.in_ok-end_body-in-End.ensures.stands refl),
-    )
+      record {
+        runs = record { unsent = c.requires.runs.unsent; sent = ap Some c.whole.ensures.same };
+        mid = c.args.server;
+        quiet = hands_same c.args.server;
+        after = c.end_body.new.self;
+        is_there = refl;
+        did =
+            server_did asked.body_end c.args.server c.end_body.new.self c.end_body.ensures.settings
+            (c.may_send.ensures.sends c.if-not-may_send.false).ends c.in_ok-end_body-in-End.ensures.stands;
+      },
+    )))
 
 pub returns-in-Broken-clause-replies : goal.returns-in-Broken-clause-replies
 returns-in-Broken-clause-replies c =
@@ -169,6 +187,7 @@ returns-clause-replies c =
       subst (λ (n : Pulled). HandsPulled n c.args.self.now.client c.next_bytes.new.client) c.in-Pending.is c.in_ok-bytes.ensures.hands,
       goes_as (record c.args.self.now { client = c.next_bytes.new.client; server = Some c.args.server }) c.args.sent c.args.server c.args.server (marks_of c.args.sent) []
           (record { unsent = c.requires.runs.unsent; sent = c.requires.runs.sent }) refl refl (hands_same c.args.server),
+      c.requires.runs.sent,
     )
 
 pub returns-then-not-may_send-clause-below : goal.returns-then-not-may_send-clause-below

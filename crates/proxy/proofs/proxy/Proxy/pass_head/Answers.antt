@@ -6,7 +6,7 @@ use Rattle.proxy.proofs.Work.{less_then, client_less, drop_sent, remarked, same_
 use Rattle.proxy.proofs.Served.{told_by, passed_serves, idle_serves, head_put, at_once_of, not_at_once}
 use Rattle.proxy.proofs.Replies.{head_passes, head_on, head_as, left_put, follows_on, goes_as, closing_marks, over_as}
 use Rattle.proxy.specs.Replies.{Marks}
-use Rattle.std.proofs.Common.{true, false, [], ap}
+use Rattle.std.proofs.Common.{Bool, true, false, [], ap}
 use Rattle.model_proxy.specs.Answers.{says_close}
 use Rattle.proxy.proofs.Puts.{hands_same}
 use Rattle.proxy.proofs.Below.{below_same}
@@ -70,9 +70,12 @@ returns-then-not-is_eof-clause-replies c = λ a read says.
           (head_passes c.args.sent.is_head a _ _ c.args.self.now.client c.put_head.new.client (c.in_ok-head.ensures read.0 a read.1 says)
           (c.reply_size-size.ensures a says) c.in_ok-put_head.ensures.puts),
       follows_on _ false c.args.sent a c.args.server q (c.reply_size-size.ensures a says)
-          (not_at_once c.reply_size-size.result (λ e. false≢true (sym c.if-not-is_eof.true ∙ c.is_eof.ensures.1 e)))
-          (goes_as q c.answered-sent.result c.args.server c.args.server _ [] (record { unsent = c.requires.runs.unsent; sent = refl })
-          (c.answered-sent.ensures.marks ∙ closing_marks c.args.sent.is_head _ (says_close a) (c.says_close.ensures read.0 a read.1 says)) refl (hands_same c.args.server)),
+          (not_at_once c.reply_size-size.result (λ e. false≢true (sym c.if-not-is_eof.true ∙ c.is_eof.ensures.1 e))) (
+            goes_as q c.answered-sent.result c.args.server c.args.server _ [] (record { unsent = c.requires.runs.unsent; sent = refl })
+                (c.answered-sent.ensures.marks ∙ closing_marks c.args.sent.is_head _ (says_close a) (c.says_close.ensures read.0 a read.1 says)) refl (hands_same c.args.server),
+            ap Some (c.answered-sent.ensures.same
+                ∙ ap (λ (b : Bool). record c.args.sent { is_answered = true; closes = b }) (c.says_close.ensures read.0 a read.1 says)),
+          ),
     )
 
 pub returns-clause-replies : goal.returns-clause-replies

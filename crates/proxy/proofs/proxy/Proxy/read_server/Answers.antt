@@ -2,7 +2,7 @@ use Rattle.model_proxy.specs.Past.{server, took}
 use Rattle.proxy.proofs.Moves.{by_then}
 use Rattle.proxy.proofs.Work.{rests_by}
 use Rattle.proxy.proofs.Served.{serves_by}
-use Rattle.proxy.proofs.Replies.{replies_by}
+use Rattle.proxy.proofs.EventReplies.{replies_by}
 use Rattle.std.proofs.Common.{ap, ◌∙◌}
 use Rattle.std.proofs.lemmas.Bool.{false≢true}
 use Rattle.proxy.specs.Rests.{may_turn}
@@ -23,7 +23,7 @@ pub returns-clause-took : goal.returns-clause-took
 returns-clause-took c = c.in_ok-taken.ensures.took
 
 pub returns-clause-replies : goal.returns-clause-replies
-returns-clause-replies c = replies_by (server c.args.bytes.now) (took c.in_ok-taken.taken) c.args.self.now c.take_from_server.new.self c.settle.new.self c.in_ok-taken.ensures.goes c.in_ok-taken.ensures.replies c.in_ok-settle.ensures.replies
+returns-clause-replies c = replies_by (server c.args.bytes.now) (took c.in_ok-taken.taken) c.args.self.now c.take_from_server.new.self c.settle.new.self c.in_ok-taken.ensures.goes c.in_ok-taken.ensures.serves c.in_ok-taken.ensures.replies c.in_ok-settle.ensures.replies
 
 pub returns-in_err-taken-clause-no_memory_needed : goal.returns-in_err-taken-clause-no_memory_needed
 returns-in_err-taken-clause-no_memory_needed c = λ none still. absurd (false≢true (c.in_err-taken.ensures.nothing none).0)

@@ -10,7 +10,8 @@ use Rattle.proxy.specs.Kept.{Goes}
 use Rattle.proxy.specs.declared.proxy.Proxy.{Proxy}
 use Rattle.proxy.specs.declared.proxy.Unsent.{Unsent}
 use Rattle.proxy.proofs.Served.{serves_by, noted_idle, noted_no_reply, refused_no_reply}
-use Rattle.proxy.proofs.Replies.{refuses_by, noted_client, noted_server}
+use Rattle.proxy.proofs.EventReplies.{refuses_by}
+use Rattle.proxy.proofs.Replies.{noted_client, noted_server}
 use Rattle.proxy.proofs.proxy.Proxy.refused.Goals as goal
 
 pub returns-clause-goes : goal.returns-clause-goes
@@ -54,5 +55,10 @@ returns-clause-replies c =
     refuses_by p a c.note_unsent.new.self c.reply.new.self c.settle.new.self
     (by_then event.refused done p c.note_unsent.new.self c.reply.new.self
     (by_then event.refused done p mid c.note_unsent.new.self (refuses p c.requires.wants_server) noted) c.in_ok-reply.ensures.goes)
+    (λ s.
+    let x = refused_no_reply p c.requires.wants_server s in
+    c.in_ok-reply.ensures.serves
+    (noted_idle a _ c.note_unsent.ensures.noted (record { unsent = c.take-unsent.ensures.after; sent = refl }))
+    (noted_no_reply a _ c.note_unsent.ensures.noted (record { told = x.told; complete = x.complete; waited = x.waited })))
     (c.in_ok-reply.ensures.idle (noted_idle a _ c.note_unsent.ensures.noted (record { unsent = c.take-unsent.ensures.after; sent = refl })))
     (c.in_ok-reply.ensures.server ∙ noted_server a _ c.note_unsent.ensures.noted) refl (noted_client a c.note_unsent.new.self c.note_unsent.ensures.noted) c.in_ok-reply.ensures.replies c.in_ok-settle.ensures.replies

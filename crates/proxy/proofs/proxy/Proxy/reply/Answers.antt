@@ -7,7 +7,8 @@ use Rattle.std.proofs.Common.{subst}
 use Rattle.proxy.proofs.Replies.{left_put, last_as, noted_client, noted_server}
 use Rattle.proxy.specs.Replies.{refusal_part}
 use Rattle.model_h1.specs.Answer.{AnswerHead, size_of}
-use Rattle.proxy.specs.Puts.{begins, MayPut}
+use Rattle.model_proxy.specs.Parts.{begins}
+use Rattle.proxy.specs.Puts.{MayPut}
 use Rattle.proxy.proofs.proxy.Proxy.reply.Goals as goal
 
 pub returns-clause-goes : goal.returns-clause-goes

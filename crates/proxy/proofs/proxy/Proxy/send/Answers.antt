@@ -6,6 +6,8 @@ use Rattle.proxy.proofs.Work.{over_less, waits_rests, works, works_of_server, th
 use Rattle.h1_encoder.specs.Meaning.{size_of}
 use Rattle.h1_client.specs.ClientMeaning.{request_of}
 use Rattle.proxy.proofs.Served.{with_server, noted_serves, sent_serves}
+use Rattle.proxy.specs.Replies.{sent_on}
+use Rattle.proxy.proofs.BodyMarks.{same_body}
 use Rattle.proxy.proofs.Replies.{no_part_put, unsent_cause, same_puts, noted_client}
 use Rattle.proxy.proofs.Puts.{puts_none}
 use Rattle.proxy.proofs.Fresh.{read_all, waits_as, cannot_used, cannot_none, cannot_refused, used_some, unused_closes}
@@ -74,20 +76,45 @@ returns-clause-serves c = with_server (record c.args.self.now { unsent = Some c.
 pub returns-then-is_server_used-clause-replies : goal.returns-then-is_server_used-clause-replies
 returns-then-is_server_used-clause-replies c =
     no_part_put (record c.args.self.now { unsent = Some c.args.unsent }) _ (unsent_cause c.args.self.now _ c.args.unsent) (puts_none c.args.self.now.client)
+    (same_body (record c.args.self.now { unsent = Some c.args.unsent }) (record c.args.self.now { server = None; unsent = Some c.args.unsent }) refl) refl
 
 pub returns-in_default-clause-replies : goal.returns-in_default-clause-replies
 returns-in_default-clause-replies c =
     no_part_put (record c.args.self.now { unsent = Some c.args.unsent }) _ (unsent_cause c.args.self.now _ c.args.unsent) (puts_none c.args.self.now.client)
+    (same_body (record c.args.self.now { unsent = Some c.args.unsent }) (record c.args.self.now { server = c.take.new.self; unsent = Some c.args.unsent }) refl) refl
 
 pub returns-then-branch-clause-replies : goal.returns-then-branch-clause-replies
 returns-then-branch-clause-replies c =
-    no_part_put (record c.args.self.now { unsent = Some c.args.unsent }) _ (unsent_cause c.args.self.now _ c.args.unsent)
-    (same_puts c.args.self.now.client _
-    (noted_client (record c.args.self.now { unsent = None; sent = Some c.args.unsent.sent; server = Some c.ask.new.server }) _ c.note_unsent.ensures.noted))
+    let t = c.tell_time.new.server in
+    let is = sym c.in-Some.ensures.value in (
+      sent_on,
+      (
+        c.args.unsent,
+        refl,
+        record {
+          server = c.in-Some.server;
+          is_there = is;
+          read = read_all c.in-Some.server (sym (ap is_server_used is) ∙ sym c.is_server_used.ensures ∙ c.if-is_server_used.false);
+          told = t;
+          tells = c.tell_time.ensures.told;
+          dated =
+              dated (record c.args.self.now { unsent = Some c.args.unsent }) c.in-Some.server t is
+              (sym (ap is_server_used is) ∙ sym c.is_server_used.ensures ∙ c.if-is_server_used.false) c.tell_time.ensures.told;
+          after = c.ask.new.server;
+          asks = did_ask _ (request_of c.args.unsent.head) (size_of c.args.unsent.size) t c.ask.new.server c.if-branch.true c.in_ok-ask.ensures;
+          noted = c.note_unsent.ensures.noted;
+        },
+      ),
+      same_puts c.args.self.now.client _
+          (noted_client (record c.args.self.now { unsent = None; sent = Some c.args.unsent.sent; server = Some c.ask.new.server }) _ c.note_unsent.ensures.noted),
+      λ a b here there. tt,
+      tt,
+    )
 
 pub returns-clause-replies : goal.returns-clause-replies
 returns-clause-replies c =
     no_part_put (record c.args.self.now { unsent = Some c.args.unsent }) _ (unsent_cause c.args.self.now _ c.args.unsent) (puts_none c.args.self.now.client)
+    (same_body (record c.args.self.now { unsent = Some c.args.unsent }) (record c.args.self.now { server = c.take.new.self; unsent = Some c.args.unsent }) refl) refl
 
 pub returns-then-is_server_used-clause-sends : goal.returns-then-is_server_used-clause-sends
 returns-then-is_server_used-clause-sends c =

@@ -16,7 +16,7 @@ loop-turn-preserved c = record {
   goes = goes_then _ _ _ c.loop-turn.invariant.goes c.in_ok-more.ensures.goes;
   leaves = λ history all f. let x = c.loop-turn.invariant.leaves history all f in more_turns c.in_ok-more.more c.loop-turn.turn c.args.self.now c.loop-turn.self c.turn.new.self c.if-not-more.false x.0 x.1 c.in_ok-more.ensures.works;
   serves = λ s. c.in_ok-more.ensures.serves (c.loop-turn.invariant.serves s);
-  replies = turned _ _ c.loop-turn.invariant.replies (record { goes = c.in_ok-more.ensures.goes; begins = c.in_ok-more.ensures.begins; replies = c.in_ok-more.ensures.replies; keeps = c.in_ok-more.ensures.keeps; sends = c.in_ok-more.ensures.sends; below = c.in_ok-more.ensures.below });
+  replies = turned _ _ c.loop-turn.invariant.replies (record { goes = c.in_ok-more.ensures.goes; serves = c.in_ok-more.ensures.serves; begins = c.in_ok-more.ensures.begins; replies = c.in_ok-more.ensures.replies; keeps = c.in_ok-more.ensures.keeps; sends = c.in_ok-more.ensures.sends; below = c.in_ok-more.ensures.below });
 }
 
 pub returns-then-not-more-clause-goes : goal.returns-then-not-more-clause-goes
@@ -38,7 +38,7 @@ pub returns-clause-serves : goal.returns-clause-serves
 returns-clause-serves c = c.loop-turn.invariant.serves
 
 pub returns-then-not-more-clause-replies : goal.returns-then-not-more-clause-replies
-returns-then-not-more-clause-replies c = turned _ _ c.loop-turn.invariant.replies (record { goes = c.in_ok-more.ensures.goes; begins = c.in_ok-more.ensures.begins; replies = c.in_ok-more.ensures.replies; keeps = c.in_ok-more.ensures.keeps; sends = c.in_ok-more.ensures.sends; below = c.in_ok-more.ensures.below })
+returns-then-not-more-clause-replies c = turned _ _ c.loop-turn.invariant.replies (record { goes = c.in_ok-more.ensures.goes; serves = c.in_ok-more.ensures.serves; begins = c.in_ok-more.ensures.begins; replies = c.in_ok-more.ensures.replies; keeps = c.in_ok-more.ensures.keeps; sends = c.in_ok-more.ensures.sends; below = c.in_ok-more.ensures.below })
 
 pub returns-clause-replies : goal.returns-clause-replies
 returns-clause-replies c = c.loop-turn.invariant.replies

@@ -3,7 +3,8 @@ use Rattle.proxy.proofs.Moves.{goes_same, goes_then, closes}
 use Rattle.proxy.proofs.Work.{less_same, less_then, weaker, closed_less, drop_sent}
 use Rattle.proxy.proofs.Served.{serves_of_sent, with_server, no_reply_to, told_to_continue}
 use Rattle.std.proofs.Common.{subst, inl, inr, ◌≡◌, []}
-use Rattle.proxy.proofs.Replies.{is_refused_so, is_passed_over, is_passed_on, goes_as}
+use Rattle.proxy.proofs.AnswerUses.{is_refused_so, is_passed_over, is_passed_on}
+use Rattle.proxy.proofs.Replies.{goes_as}
 use Rattle.proxy.proofs.Puts.{puts_none, hands_same}
 use Rattle.proxy.proofs.Replies.{fails_last}
 use Rattle.proxy.specs.Replies.{marks_of}
@@ -61,6 +62,7 @@ returns-in-PassOver-clause-replies c = λ unanswered a read says.
       puts_none c.args.self.now.client,
       goes_as (record c.args.self.now { server = Some c.args.server }) c.args.sent c.args.server c.args.server (marks_of c.args.sent) []
           (record { unsent = c.requires.runs.unsent; sent = c.requires.runs.sent }) refl refl (hands_same c.args.server),
+      c.requires.runs.sent,
     ))
 
 pub returns-in_ok-pass_noted-in-PassOn-clause-replies : goal.returns-in_ok-pass_noted-in-PassOn-clause-replies

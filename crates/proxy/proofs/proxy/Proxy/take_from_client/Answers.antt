@@ -3,7 +3,7 @@ use Rattle.model_h1.specs.Event as on
 use Rattle.proxy.proofs.EventMoves.{client_nothing, client_reads}
 use Rattle.proxy.proofs.Rooms.{client_count, client_has}
 use Rattle.proxy.proofs.Served.{event_serves}
-use Rattle.proxy.proofs.Replies.{client_adds}
+use Rattle.proxy.proofs.EventReplies.{client_adds}
 use Rattle.std.proofs.Common.{refl, inl, inr}
 use Rattle.proxy.proofs.proxy.Proxy.take_from_client.Goals as goal
 
@@ -35,10 +35,10 @@ returns-clause-took c = λ history all f.
     (sym (client_has c.args.self.now (λ none. c.if-client_room-eq0.false (c.client_room.ensures ∙ none))))
 
 pub returns-then-client_room-eq0-clause-replies : goal.returns-then-client_room-eq0-clause-replies
-returns-then-client_room-eq0-clause-replies c = record { client = inl refl; server = refl; unsent = refl; sent = refl }
+returns-then-client_room-eq0-clause-replies c = record { client = inl (refl, refl); server = refl; unsent = refl; sent = refl }
 
 pub returns-then-not-can_read-clause-replies : goal.returns-then-not-can_read-clause-replies
-returns-then-not-can_read-clause-replies c = record { client = inl refl; server = refl; unsent = refl; sent = refl }
+returns-then-not-can_read-clause-replies c = record { client = inl (refl, refl); server = refl; unsent = refl; sent = refl }
 
 pub returns-clause-replies : goal.returns-clause-replies
 returns-clause-replies c = record { client = inr (client_adds (on.read c.args.bytes.now) _ c.args.self.now.client c.read.new.self c.in_ok-count.ensures.stands); server = refl; unsent = refl; sent = refl }

@@ -2,7 +2,7 @@ use Rattle.std.proofs.Common.{Some, sym, ◌∙◌}
 use Rattle.model_client.specs.ClientEvent as asked
 use Rattle.proxy.proofs.EventMoves.{server_nothing, server_reads, allows_of}
 use Rattle.proxy.proofs.Served.{with_server}
-use Rattle.proxy.proofs.Replies.{adds_to}
+use Rattle.proxy.proofs.EventReplies.{adds_to}
 use Rattle.std.proofs.Common.{refl, inl, inr}
 use Rattle.proxy.proofs.proxy.Proxy.take_from_server.Goals as goal
 
@@ -33,10 +33,10 @@ pub returns-clause-serves : goal.returns-clause-serves
 returns-clause-serves c = with_server c.args.self.now (Some c.read.new.self)
 
 pub returns-then-server_room-eq0-clause-replies : goal.returns-then-server_room-eq0-clause-replies
-returns-then-server_room-eq0-clause-replies c = record { client = refl; server = inl refl; unsent = refl; sent = refl }
+returns-then-server_room-eq0-clause-replies c = record { client = refl; server = inl (refl, refl); unsent = refl; sent = refl }
 
 pub returns-then-not-can_read_server-clause-replies : goal.returns-then-not-can_read_server-clause-replies
-returns-then-not-can_read_server-clause-replies c = record { client = refl; server = inl refl; unsent = refl; sent = refl }
+returns-then-not-can_read_server-clause-replies c = record { client = refl; server = inl (refl, refl); unsent = refl; sent = refl }
 
 pub returns-clause-replies : goal.returns-clause-replies
 returns-clause-replies c =

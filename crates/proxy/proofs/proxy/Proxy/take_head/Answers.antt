@@ -8,7 +8,9 @@ use Rattle.proxy.specs.Sides.{BringsNext}
 use Rattle.proxy.specs.Leaves.{LeavesNext}
 use Rattle.proxy.proofs.Served.{client_serves, head_opens, noted_serves}
 use Rattle.std.proofs.Common.{sym, [], refl, inl, ◌∙◌}
-use Rattle.proxy.proofs.Replies.{head_replies, head_keeps, no_part_put, idle_cause, noted_client, noted_sent, noted_server, closed_replies}
+use Rattle.proxy.specs.Replies.{nothing_put}
+use Rattle.proxy.proofs.BodyMarks.{idle_body}
+use Rattle.proxy.proofs.Replies.{head_replies, head_keeps, no_part_put, idle_cause, noted_unsent, noted_client, noted_sent, noted_server, closed_replies}
 use Rattle.proxy.specs.Puts.{Puts, HandsNext}
 use Rattle.proxy.proofs.Below.{below_same, below_as, keeps_below}
 use Rattle.proxy.proofs.proxy.Proxy.take_head.Goals as goal
@@ -70,16 +72,19 @@ returns-in_ok-note_fault-in-Fault-clause-replies c =
     no_part_put c.args.self.now _ (idle_cause c.args.self.now _ c.requires.idle)
     (subst (Puts [] c.args.self.now.client) (sym (noted_client (record c.args.self.now { client = c.next_head.new.client }) _ c.in_ok-note_fault-in-Fault.ensures.noted))
     (subst (λ (n : NextHead). HandsNext n c.args.self.now.client c.next_head.new.client) c.in-Fault.is c.in_ok-item.ensures.hands))
+    (idle_body nothing_put c.args.self.now c.note_fault.new.self c.requires.idle.sent)
+    (noted_unsent (record c.args.self.now { client = c.next_head.new.client }) _ c.in_ok-note_fault-in-Fault.ensures.noted)
 
 pub returns-in-Pending-clause-replies : goal.returns-in-Pending-clause-replies
 returns-in-Pending-clause-replies c =
     no_part_put c.args.self.now (record c.args.self.now { client = c.next_head.new.client }) (idle_cause c.args.self.now _ c.requires.idle)
     (subst (λ (n : NextHead). HandsNext n c.args.self.now.client c.next_head.new.client) c.in-Pending.is c.in_ok-item.ensures.hands)
+    (idle_body nothing_put c.args.self.now (record c.args.self.now { client = c.next_head.new.client }) c.requires.idle.sent) refl
 
 pub returns-in-Closed-clause-replies : goal.returns-in-Closed-clause-replies
 returns-in-Closed-clause-replies c =
     let x = subst (λ (n : NextHead). HandsNext n c.args.self.now.client c.next_head.new.client) c.in-Closed.is c.in_ok-item.ensures.hands in
-    closed_replies c.args.self.now c.next_head.new.client c.requires.idle c.requires.going x.1
+    closed_replies c.args.self.now c.next_head.new.client c.requires.idle c.requires.going x.0.0 x.1
 
 pub returns-in_ok-open-in-Head-clause-keeps : goal.returns-in_ok-open-in-Head-clause-keeps
 returns-in_ok-open-in-Head-clause-keeps c =

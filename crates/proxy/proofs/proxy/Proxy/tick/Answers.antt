@@ -7,7 +7,7 @@ use Rattle.proxy.proofs.Work.{rests_by}
 use Rattle.proxy.proofs.EventMoves.{ticks}
 use Rattle.proxy.specs.declared.proxy.Proxy.{Proxy}
 use Rattle.proxy.proofs.Served.{serves_by, with_moment, event_serves}
-use Rattle.proxy.proofs.Replies.{replies_by, client_adds}
+use Rattle.proxy.proofs.EventReplies.{replies_by, client_adds}
 use Rattle.std.proofs.Common.{refl}
 use Rattle.proxy.proofs.proxy.Proxy.tick.Goals as goal
 
@@ -40,7 +40,9 @@ returns-clause-replies c =
     let q : Proxy = record c.args.self.now { client = c.tick.new.self } in
     replies_by (tick c.args.moment) done c.args.self.now (record q { moment = Some c.args.moment }) c.settle.new.self
     (ticks c.args.moment c.in_ok-expiry.expiry c.args.self.now c.tick.new.self c.requires.can_tick c.tick.ensures.settings c.in_ok-expiry.ensures.stands)
-    (record { client = client_adds (on.tick c.args.moment) _ c.args.self.now.client c.tick.new.self c.in_ok-expiry.ensures.stands; server = refl; unsent = refl; sent = refl })
+    (λ s. with_moment q (Some c.args.moment)
+    (event_serves (on.tick c.args.moment) (expiry_of c.in_ok-expiry.expiry) c.args.self.now c.tick.new.self c.tick.ensures.settings c.in_ok-expiry.ensures.stands tt c.requires.can_tick s))
+    (record { client = (c.in_ok-expiry.expiry, client_adds (on.tick c.args.moment) _ c.args.self.now.client c.tick.new.self c.in_ok-expiry.ensures.stands); server = refl; unsent = refl; sent = refl })
     c.in_ok-settle.ensures.replies
 
 pub returns-clause-expiry : goal.returns-clause-expiry

@@ -2,7 +2,7 @@ use Rattle.std.proofs.Common.{Some, sym}
 use Rattle.model_client.specs.ClientEvent as asked
 use Rattle.proxy.proofs.EventMoves.{allows_of, text_of, server_writes}
 use Rattle.proxy.proofs.Served.{with_server}
-use Rattle.proxy.proofs.Replies.{adds_to}
+use Rattle.proxy.proofs.EventReplies.{write_adds_to}
 use Rattle.std.proofs.Common.{refl}
 use Rattle.proxy.proofs.proxy.Proxy.write_server.Goals as goal
 
@@ -21,4 +21,4 @@ returns-clause-serves c = with_server c.args.self.now (Some c.advance.new.self)
 
 pub returns-clause-replies : goal.returns-clause-replies
 returns-clause-replies c =
-    record { client = refl; server = adds_to (asked.write c.args.count) _ c.args.self.now.server c.in-Some.server c.advance.new.self (sym c.in-Some.ensures.value) c.advance.ensures.stands; unsent = refl; sent = refl }
+    record { client = refl; server = write_adds_to c.args.count c.args.self.now.server c.in-Some.server c.advance.new.self (sym c.in-Some.ensures.value) c.advance.ensures.stands; unsent = refl; sent = refl }

@@ -14,6 +14,7 @@ returns-clause-unsent c = λ h says can.
     let e = edge_of c.args.edge.now in
     let sized = c.forwarded_size-size.ensures h says in record {
       method = ap (λ (r : AskedHead). r.method) (c.in_ok-head.ensures.says h says can);
+      minor = ap (λ (r : AskedHead). r.minor) (c.in_ok-head.ensures.says h says can);
       whole = ap not (c.has_body.ensures h says);
       unbroken = refl;
       sized = sized;

@@ -7,7 +7,8 @@ use Rattle.proxy_loop.proofs.Histories.{goes_by, does, seen_by, told, untold}
 use Rattle.proxy_loop.proofs.forwarder.Forwarder.connected.Goals as goal
 
 pub invariant_of-self : goal.invariant_of-self
-invariant_of-self c = goes_by event.connected done c.self.inside.proxy c.connected.new.self c.self.invariant c.in-Ok.ensures.goes c.in-Ok.ensures.serves
+invariant_of-self c = goes_by event.connected done c.self.inside.proxy c.connected.new.self c.self.invariant
+    (sym c.wants_server.ensures ∙ c.if-not-wants_server.false) c.in-Ok.ensures.goes c.in-Ok.ensures.serves c.in-Ok.ensures.replies
 
 pub returns-then-not-wants_server-clause-goes : goal.returns-then-not-wants_server-clause-goes
 returns-then-not-wants_server-clause-goes c =

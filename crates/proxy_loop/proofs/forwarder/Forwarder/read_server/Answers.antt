@@ -5,7 +5,8 @@ use Rattle.proxy_loop.proofs.Histories.{goes_by, does, seen_by, takes}
 use Rattle.proxy_loop.proofs.forwarder.Forwarder.read_server.Goals as goal
 
 pub invariant_of-self : goal.invariant_of-self
-invariant_of-self c = goes_by (event.server c.args.bytes.now) (took c.in-Ok.count) c.self.inside.proxy c.read_server.new.self c.self.invariant c.in-Ok.ensures.goes c.in-Ok.ensures.serves
+invariant_of-self c = goes_by (event.server c.args.bytes.now) (took c.in-Ok.count) c.self.inside.proxy c.read_server.new.self c.self.invariant
+    tt c.in-Ok.ensures.goes c.in-Ok.ensures.serves c.in-Ok.ensures.replies
 
 pub returns-in-Ok : goal.returns-in-Ok
 returns-in-Ok c = record {

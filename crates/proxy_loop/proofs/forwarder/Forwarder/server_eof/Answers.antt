@@ -8,7 +8,8 @@ use Rattle.proxy_loop.proofs.Histories.{goes_by, does, seen_by, told, untold}
 use Rattle.proxy_loop.proofs.forwarder.Forwarder.server_eof.Goals as goal
 
 pub invariant_of-self : goal.invariant_of-self
-invariant_of-self c = goes_by event.server_eof done c.self.inside.proxy c.server_eof.new.self c.self.invariant c.in-Ok.ensures.goes c.in-Ok.ensures.serves
+invariant_of-self c = goes_by event.server_eof done c.self.inside.proxy c.server_eof.new.self c.self.invariant
+    (sym c.can_read_server.ensures.eof ∙ c.if-not-can_read_server.false) c.in-Ok.ensures.goes c.in-Ok.ensures.serves c.in-Ok.ensures.replies
 
 pub returns-then-not-can_read_server-clause-goes : goal.returns-then-not-can_read_server-clause-goes
 returns-then-not-can_read_server-clause-goes c =

@@ -8,7 +8,8 @@ use Rattle.proxy_loop.proofs.Histories.{goes_by, does, seen_by, told, untold}
 use Rattle.proxy_loop.proofs.forwarder.Forwarder.tick.Goals as goal
 
 pub invariant_of-self : goal.invariant_of-self
-invariant_of-self c = goes_by (event.tick c.args.moment) done c.self.inside.proxy c.tick.new.self c.self.invariant c.in-Ok.ensures.goes c.in-Ok.ensures.serves
+invariant_of-self c = goes_by (event.tick c.args.moment) done c.self.inside.proxy c.tick.new.self c.self.invariant
+    (sym c.can_tick.ensures ∙ c.if-not-can_tick.false) c.in-Ok.ensures.goes c.in-Ok.ensures.serves c.in-Ok.ensures.replies
 
 pub returns-then-not-can_tick-clause-goes : goal.returns-then-not-can_tick-clause-goes
 returns-then-not-can_tick-clause-goes c =
