@@ -3,13 +3,13 @@ use Rattle.std.proofs.Common.{◌≡◌, ◌⊎◌, ℕ, ◌<◌, ◌≤◌, Boo
 use Rattle.std.specs.Prelude.{nat_lt, ◌==◌, if◌then◌else◌}
 use Rattle.std.proofs.lemmas.Bool.{false≢true}
 use Rattle.model_h1.specs.Setting.{Setting}
-use Rattle.model_client.specs.AnswerReading.{AnswerReading, Answer, answer_is, refused}
+use Rattle.model_client.specs.AnswerReading.{AnswerReading, answer_is, refused}
 use Rattle.model_client.specs.AnswerParse.{is_interim}
 use Rattle.model_client.specs.ClientEvent as asked
 use Rattle.model_client.specs.ClientEvent.{ClientOutcome, ClientEnd}
 use Rattle.model_client.specs.ClientKept.{ClientKept, ReadingBody, Waiting, client_closing}
 use Rattle.model_client.proofs.Answered.{told_without}
-use Rattle.model_client.specs.ClientStep.{ClientChange, IsPulling, IsUpcoming, IsNext, IsClientStep, without_head, behind_head, behind_final}
+use Rattle.model_client.specs.ClientStep.{ClientChange, IsPulling, IsUpcoming, IsNext, without_head, behind_head, behind_final}
 use Rattle.h1_connection.specs.State.{State}
 use Rattle.h1_client.specs.ClientMeaning.{setting_of}
 use Rattle.h1_client.specs.State as servers

@@ -11,7 +11,6 @@ use Rattle.model_client.specs.ClientEvent.{ClientRequest}
 use Rattle.model_client.specs.ClientKept.{ClientKept, can_be_sent, can_be_framed, states_length, lacks_length}
 use Rattle.model_client.specs.RequestText.{asked_shape}
 use Rattle.h1_client.specs.ClientMeaning.{request_of}
-use Rattle.h1_client.specs.State as servers
 use Rattle.h1_connection.specs.State.{Stands}
 use Rattle.model_proxy.specs.Edge.{Edge}
 use Rattle.model_proxy.specs.Judged.{is_refused}

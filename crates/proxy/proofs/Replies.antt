@@ -31,7 +31,7 @@ use Rattle.proxy.specs.declared.proxy.SentRequest.{SentRequest}
 use Rattle.proxy.specs.declared.proxy.Unsent.{Unsent}
 use Rattle.proxy.specs.Kept.{HoldsNoRequest, Runs, is_closing}
 use Rattle.proxy.specs.Rests.{IsNoted}
-use Rattle.proxy.specs.Replies.{TurnPuts, nothing_put, opened, told_to_go_on, body_on, body_whole, PutsAfter, AreBehindHead, IsOpened, IsHeadRefused, CannotBeSent, SendsOn, KeepsBody, broken_body, broken_late, refused_head, not_forwardable, no_answer, passed_on, piece_on, end_on, cut_off, own, refusal_part, passed, PutsLast, PutsHead, IsUnanswered, WasAnswered, Marks, marks_of, GoesOnBy, GoesOnWaiting, IsDropped, ReplyIsOver, KeepsServer, KeepsIdle, KeepsFor, LacksAnswer, Follows, FollowsHead, LacksEnd, AwaitsAnswer, HasCause, TurnReplies, Fails, Breaks, PassesBody, UsesAnswer, TakesAnswer, Opens}
+use Rattle.proxy.specs.Replies.{nothing_put, opened, told_to_go_on, body_on, body_whole, PutsAfter, AreBehindHead, IsOpened, IsHeadRefused, CannotBeSent, SendsOn, KeepsBody, broken_body, broken_late, refused_head, not_forwardable, no_answer, passed_on, piece_on, end_on, cut_off, own, refusal_part, passed, PutsLast, PutsHead, IsUnanswered, WasAnswered, Marks, marks_of, GoesOnBy, GoesOnWaiting, IsDropped, ReplyIsOver, KeepsServer, KeepsIdle, KeepsFor, LacksAnswer, Follows, FollowsHead, LacksEnd, AwaitsAnswer, HasCause, TurnReplies, Fails, Breaks, PassesBody, UsesAnswer, TakesAnswer, Opens}
 use Rattle.proxy.proofs.AnswerUses.{over_out}
 use Rattle.proxy.proofs.BodyMarks.{idle_body, gone_body, as_far, same_body, whole_far, broken_far}
 

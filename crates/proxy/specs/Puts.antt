@@ -18,7 +18,7 @@ use Rattle.model_client.specs.AnswerReading.{Answer, answer_is, IsAnswerReading}
 use Rattle.model_client.specs.ClientEvent as asked
 use Rattle.model_client.specs.ClientKept.{client_allows, client_closing}
 use Rattle.model_client.specs.ClientTrace.{Happened}
-use Rattle.model_proxy.specs.Parts.{Part, begins, continues, ends, goes_on, hands, takes, takes_end, request_breaks, leaves_rest, has_closed, parts_of, Handed, body_bytes, body_end, body_fault, handed_of}
+use Rattle.model_proxy.specs.Parts.{Part, begins, continues, ends, goes_on, takes, takes_end, request_breaks, leaves_rest, has_closed, parts_of, Handed, body_bytes, body_end, body_fault, handed_of}
 use Rattle.h1_client.specs.ClientMeaning as asking
 use Rattle.h1_client.specs.State as servers
 use Rattle.h1_client.specs.declared.event.NextAnswer.{NextAnswer}

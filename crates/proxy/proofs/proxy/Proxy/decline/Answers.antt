@@ -1,11 +1,11 @@
-use Rattle.std.proofs.Common.{◌≡◌, None, ◌∙◌, sym, subst, ap, []}
+use Rattle.std.proofs.Common.{None, ◌∙◌, subst, []}
 use Rattle.h1_connection.specs.State.{State}
 use Rattle.proxy_heads.specs.declared.refusal.Refusal.{Refusal}
 use Rattle.proxy.proofs.Moves.{goes_then, closes}
 use Rattle.proxy.proofs.Work.{less_then, closes_less, noted_less}
 use Rattle.proxy.proofs.Served.{noted_idle, noted_no_reply}
 use Rattle.proxy.proofs.Replies.{noted_client, noted_unsent, noted_sent, noted_server, dropped}
-use Rattle.proxy.specs.Replies.{refusal_part, declined, PutsLast}
+use Rattle.proxy.specs.Replies.{refusal_part, PutsLast}
 use Rattle.proxy.proofs.proxy.Proxy.decline.Goals as goal
 
 pub returns-clause-goes : goal.returns-clause-goes
