@@ -293,10 +293,9 @@ HEAD = """# Edits
 An edit is a wrong body that the prover has to refuse (`crates/NAME/must-fail`). `bin/edits` tries those of the named crates, or
 all, and writes this table. The gate tries {gate} of the {all} (`*.edit`), and not the others (`*.edit.md`).
 
-An edit is refused at a goal where the first thing that the prover names of the changed function is a goal. Other outcomes stand
-before the edits: `name`, only a proof names what the edit took away; `elsewhere`, first a goal of another function; `limit`, the
-prover came to a limit of its own. A row is written once all edits of a crate were tried. The last column is a sum of its code,
-contracts, definitions and edits; `bin/edits --look` names old rows.
+An edit is refused at a goal where the first thing that the prover names of the changed function is a goal; `bin/edits --help` has
+the other outcomes. A row is written once all edits of a crate were tried. The last column is a sum of its code, contracts,
+definitions and edits; `bin/edits --look` names old rows.
 
 | crate | edits | tried | refused at a goal | sum |
 |---|---|---|---|---|
