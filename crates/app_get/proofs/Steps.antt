@@ -12,7 +12,7 @@ use Rattle.model_client.specs.ClientEvent as on
 use Rattle.model_client.specs.ClientEvent.{ClientEvent, ClientOutcome}
 use Rattle.model_client.specs.AnswerParse.{is_interim}
 use Rattle.model_client.specs.ClientTrace.{Happened, taken_by, given as gave}
-use Rattle.app_get.specs.Exchange.{Ends, Goes, Acts, handed_by, given_by, noted_by, ends_input, ends_body, drops_rest, Empties}
+use Rattle.app_get.specs.Exchange.{Ends, Goes, Acts, handed_by, given_by, noted_by, ends_input, ends_body, drops_rest, Empties, is_unread}
 
 -- ---- an event
 
@@ -43,22 +43,33 @@ pub emptied_all : (a : Option (List ℕ)) → Empties a (Some [])
 emptied_all None = tt
 emptied_all (Some xs) = refl
 
--- what isn't known to have come isn't taken, and without a status nothing is written out
-pub record IsQuiet (old new : Ends) (came : List ℕ) : Type 0 where
+-- what isn't known to have come isn't taken, without a status nothing is written out, and of what isn't wanted nothing is handed
+-- out
+pub record IsQuiet (old new : Ends) (came out : List ℕ) : Type 0 where
   pub heard : new.begun ≡ false → (old.begun ≡ false) × (came ≡ [])
   pub silent : new.status ≡ None → Keeps old.out new.out
+  pub unread : is_unread new ≡ true → (is_unread old ≡ true) × (out ≡ [])
 
 -- nothing is taken, and nothing is written out
-pub quiet_still : (old new : Ends) → new.begun ≡ old.begun → Keeps old.out new.out → IsQuiet old new []
-quiet_still old new begun out = record { heard = λ unheard. (sym begun ∙ unheard, refl); silent = λ _. out }
+pub quiet_still : (old new : Ends) → new.begun ≡ old.begun → Keeps old.out new.out → (is_unread new ≡ true → is_unread old ≡ true) → IsQuiet old new [] []
+quiet_still old new begun out unread = record { heard = λ unheard. (sym begun ∙ unheard, refl); silent = λ _. out; unread = λ is. (unread is, refl) }
 
 -- nothing is taken, and there is a status
-pub quiet_known : (old new : Ends) → new.begun ≡ old.begun → is_some new.status ≡ true → IsQuiet old new []
-quiet_known old new begun known = record { heard = λ unheard. (sym begun ∙ unheard, refl); silent = λ none. absurd (cc (sym known ∙ ap (λ (s : Option ℕ). is_some s) none)) }
+pub quiet_known : (old new : Ends) (out : List ℕ) → new.begun ≡ old.begun → is_some new.status ≡ true
+    → (is_unread new ≡ true → (is_unread old ≡ true) × (out ≡ [])) → IsQuiet old new [] out
+quiet_known old new out begun known unread = record {
+  heard = λ unheard. (sym begun ∙ unheard, refl);
+  silent = λ none. absurd (cc (sym known ∙ ap (λ (s : Option ℕ). is_some s) none));
+  unread = unread;
+}
+
+-- a piece of a body that is wanted
+pub quiet_wanted : (old new : Ends) (out : List ℕ) → new.begun ≡ old.begun → is_some new.status ≡ true → is_unread new ≡ false → IsQuiet old new [] out
+quiet_wanted old new out begun known wanted = quiet_known old new out begun known (λ is. absurd (cc (wanted, is)))
 
 -- it is known that something came
-pub quiet_heard : (old new : Ends) (came : List ℕ) → new.begun ≡ true → Keeps old.out new.out → IsQuiet old new came
-quiet_heard old new came begun out = record { heard = λ unheard. absurd (cc (begun, unheard)); silent = λ _. out }
+pub quiet_heard : (old new : Ends) (came : List ℕ) → new.begun ≡ true → Keeps old.out new.out → (is_unread new ≡ true → is_unread old ≡ true) → IsQuiet old new came []
+quiet_heard old new came begun out unread = record { heard = λ unheard. absurd (cc (begun, unheard)); silent = λ _. out; unread = λ is. (unread is, refl) }
 
 if_none : (test : Bool) (before : Option ℕ) (status : ℕ) → (if test then before else Some status) ≡ None → before ≡ None
 if_none true before status is = is
@@ -73,9 +84,9 @@ none_noted _ before is = is
 pub one_with : (was old new : Ends) (e : ClientEvent) (Says : ClientOutcome → Type 0) (came sent file out : List ℕ) (P : List Happened → Type 0) → old ≡ was
     → (goes : GoesOn old.state e Says new.state) → ((o : ClientOutcome) → Says o → Moves e o came sent file out old.status new.status)
     → Consumes old.came new.came came → Appends old.sent new.sent sent → Consumes old.file new.file file
-    → (old.shows ≡ false → Appends old.out new.out out) → EndsWhole e old new → IsQuiet old new came → new.shows ≡ old.shows
+    → (old.wanted.head ≡ false → Appends old.out new.out out) → EndsWhole e old new → IsQuiet old new came out → new.wanted ≡ old.wanted
     → P (record { event = e; outcome = goes.outcome } ∷ []) → (all : Goes was new) × P all.more
-one_with was old new e Says came sent file out P seen goes moves lost got handed told ends quiet shows holds =
+one_with was old new e Says came sent file out P seen goes moves lost got handed told ends quiet wanted holds =
     subst (λ (l : Ends). (all : Goes l new) × P all.more) seen
     (let m = moves goes.outcome goes.says in (
       record {
@@ -90,8 +101,9 @@ one_with was old new e Says came sent file out P seen goes moves lost got handed
         none_dropped = ends.keeps_rest;
         heard = λ unheard. ((quiet.heard unheard).0, m.takes ∙ (quiet.heard unheard).1);
         silent = λ none. (none_noted goes.outcome old.status (sym m.notes ∙ none), quiet.silent none);
+        unread = λ is. ((quiet.unread is).0, m.shows ∙ (quiet.unread is).1);
         status = m.notes;
-        shows = shows;
+        wanted = wanted;
       },
       holds,
     ))
@@ -100,17 +112,17 @@ one_with was old new e Says came sent file out P seen goes moves lost got handed
 pub one_act : (was old new : Ends) (e : ClientEvent) (Says : ClientOutcome → Type 0) (came sent file out : List ℕ) → old ≡ was
     → GoesOn old.state e Says new.state → ((o : ClientOutcome) → Says o → Moves e o came sent file out old.status new.status)
     → Consumes old.came new.came came → Appends old.sent new.sent sent → Consumes old.file new.file file
-    → (old.shows ≡ false → Appends old.out new.out out) → EndsWhole e old new → IsQuiet old new came → new.shows ≡ old.shows → Acts was new
-one_act was old new e Says came sent file out seen goes moves lost got handed told ends quiet shows =
-    let all = one_with was old new e Says came sent file out (λ more. 0 < length more) seen goes moves lost got handed told ends quiet shows (lit< tt) in
+    → (old.wanted.head ≡ false → Appends old.out new.out out) → EndsWhole e old new → IsQuiet old new came out → new.wanted ≡ old.wanted → Acts was new
+one_act was old new e Says came sent file out seen goes moves lost got handed told ends quiet wanted =
+    let all = one_with was old new e Says came sent file out (λ more. 0 < length more) seen goes moves lost got handed told ends quiet wanted (lit< tt) in
     record { goes = all.0; some = all.1 }
 
 pub one_step : (was old new : Ends) (e : ClientEvent) (Says : ClientOutcome → Type 0) (came sent file out : List ℕ) → old ≡ was
     → GoesOn old.state e Says new.state → ((o : ClientOutcome) → Says o → Moves e o came sent file out old.status new.status)
     → Consumes old.came new.came came → Appends old.sent new.sent sent → Consumes old.file new.file file
-    → (old.shows ≡ false → Appends old.out new.out out) → EndsWhole e old new → IsQuiet old new came → new.shows ≡ old.shows → Goes was new
-one_step was old new e Says came sent file out seen goes moves lost got handed told ends quiet shows =
-    (one_act was old new e Says came sent file out seen goes moves lost got handed told ends quiet shows).goes
+    → (old.wanted.head ≡ false → Appends old.out new.out out) → EndsWhole e old new → IsQuiet old new came out → new.wanted ≡ old.wanted → Goes was new
+one_step was old new e Says came sent file out seen goes moves lost got handed told ends quiet wanted =
+    (one_act was old new e Says came sent file out seen goes moves lost got handed told ends quiet wanted).goes
 
 kept_consumes : (a b : Option (List ℕ)) → Keeps a b → Consumes a b []
 kept_consumes None b keeps = tt
@@ -124,8 +136,8 @@ kept_appends (Some ps) (Some qs) keeps = keeps ∙ sym (append-nil ps)
 
 -- no event
 pub no_step : (was old new : Ends) → old ≡ was → new.state ≡ old.state → Keeps old.came new.came → Keeps old.sent new.sent → Consumes old.file new.file []
-    → (old.shows ≡ false → Appends old.out new.out []) → IsQuiet old new [] → new.status ≡ old.status → new.shows ≡ old.shows → Goes was new
-no_step was old new seen state came sent file out quiet status shows =
+    → (old.wanted.head ≡ false → Appends old.out new.out []) → IsQuiet old new [] [] → new.status ≡ old.status → new.wanted ≡ old.wanted → Goes was new
+no_step was old new seen state came sent file out quiet status wanted =
     subst (λ (l : Ends). Goes l new) seen
     (record {
       more = [];
@@ -139,8 +151,9 @@ no_step was old new seen state came sent file out quiet status shows =
       none_dropped = refl;
       heard = quiet.heard;
       silent = λ none. (sym status ∙ none, quiet.silent none);
+      unread = quiet.unread;
       status = status;
-      shows = shows;
+      wanted = wanted;
     })
 
 -- ---- what each event moves

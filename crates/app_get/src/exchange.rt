@@ -1,14 +1,14 @@
 //! One request and its answer over a connection: a client's whole loop.
 ghost use Rattle.std.specs.Prelude.{◌≡◌, ◌≢◌, ◌⊎◌, false, None, Some, OnOk, IfOk, IfErr};
-ghost use Rattle.app_get.specs.Exchange.{Ends, file_left, faults_of_file, Goes, IsWhole, IsPending, IsWaiting};
+ghost use Rattle.app_get.specs.Exchange.{Ends, file_left, faults_of_file, is_unwanted, Goes, IsWhole, IsPending, IsWaiting};
 ghost use Rattle.app_get.specs.Failure.{Stops, IsEndless};
 
-use crate::answer::Taken;
+use crate::answer::{Taken, Wanted};
 use crate::error::GetError;
 use crate::patience::Patience;
 use crate::transport::Sent;
 use h1_client::ClientConnection;
-use http_types::{Sink, Source};
+use http_types::{HeaderValue, Sink, Source};
 use net_sockets::{TimedSink, TimedSource};
 use std::alloc::Global;
 use std::marker::Model;
@@ -30,14 +30,16 @@ pub struct Exchange<S: TimedSource, K: TimedSink, B: Source, O: Sink> {
     pub(crate) body: Option<B>,
     pub(crate) out: O,
 
-    // The answer's head is written too.
-    pub(crate) shows_head: bool,
+    pub(crate) wanted: Wanted,
 
     // The answer's status, once its head came.
     pub(crate) status: Option<u16>,
 
     // A byte of the answer came.
     pub(crate) has_begun: bool,
+
+    // Where the answer leads, where its head names that.
+    pub(crate) location: Option<HeaderValue>,
 }
 
 impl<S: TimedSource, K: TimedSink, B: Source, O: Sink> Model for Exchange<S, K, B, O> {
@@ -51,7 +53,7 @@ impl<S: TimedSource, K: TimedSink, B: Source, O: Sink> Model for Exchange<S, K, 
       sent = K.given e.output;
       file = file_left B.left e.body;
       out = O.given e.out;
-      shows = e.shows_head;
+      wanted = e.wanted;
       status = e.status;
       begun = e.has_begun;
       came_faults = S.faults e.input;
@@ -67,8 +69,7 @@ impl<S: TimedSource + Drop, K: TimedSink + Drop, B: Source + Drop, O: Sink + Dro
     B,
     O,
 > {
-    /// The exchange of the request that was asked last over this connection. The answer's body is written out, and its head
-    /// too where that is wanted.
+    /// The exchange of the request that was asked last over this connection. What is wanted of the answer is written out.
     pub fn new(
         alloc: Global,
         connection: ClientConnection,
@@ -76,7 +77,7 @@ impl<S: TimedSource + Drop, K: TimedSink + Drop, B: Source + Drop, O: Sink + Dro
         output: K,
         body: Option<B>,
         out: O,
-        shows_head: bool,
+        wanted: Wanted,
     ) -> Exchange<S, K, B, O>
         ensures { result ≡ record {
           state = connection;
@@ -84,7 +85,7 @@ impl<S: TimedSource + Drop, K: TimedSink + Drop, B: Source + Drop, O: Sink + Dro
           sent = K.given output;
           file = file_left B.left body;
           out = O.given out;
-          shows = shows_head;
+          wanted = wanted;
           status = None;
           begun = false;
           came_faults = S.faults input;
@@ -100,15 +101,17 @@ impl<S: TimedSource + Drop, K: TimedSink + Drop, B: Source + Drop, O: Sink + Dro
             output,
             body,
             out,
-            shows_head,
+            wanted,
             status: None,
             has_begun: false,
+            location: None,
         }
     }
 
-    /// The connection, which may be used again where it says so.
-    pub fn into_connection(self) -> ClientConnection
-        ensures { result ≡ self.state }
+    /// The connection, which may be used again where it says so, the sink of the answer's body, and where the answer leads.
+    pub fn into_parts(self) -> (ClientConnection, O, Option<HeaderValue>)
+        ensures connection { result.0 ≡ self.state }
+        ensures out { O.given result.1 ≡ self.out }
     {
         let Exchange {
             alloc: _,
@@ -116,12 +119,13 @@ impl<S: TimedSource + Drop, K: TimedSink + Drop, B: Source + Drop, O: Sink + Dro
             input: _,
             output: _,
             body: _,
-            out: _,
-            shows_head: _,
+            out,
+            wanted: _,
             status: _,
             has_begun: _,
+            location,
         } = self;
-        connection
+        (connection, out, location)
     }
 
     /// Sends the request and takes its answer, until the answer is whole, and gives its status. Nothing may move for at most
@@ -134,6 +138,7 @@ impl<S: TimedSource + Drop, K: TimedSink + Drop, B: Source + Drop, O: Sink + Dro
         ensures whole { OnOk result (IsWhole self.new.state) }
         ensures status { IfOk result (λ status. self.new.status ≡ Some status) }
         ensures protocol { IfOk result (λ status. status ≢ 101) }
+        ensures wanted { IfOk result (λ status. is_unwanted self.new.wanted status ≡ false) }
         ensures stops { IfErr result (λ error. Stops self.old self.new error ⊎ IsEndless self.old self.new error) }
     {
         let mut patience = Patience::begin(&self.input, wait);

@@ -1,19 +1,27 @@
 //! How a URL is fetched.
 ghost use Rattle.std.specs.Prelude.{None};
 
+use crate::answer::Wanted;
 use crate::each::{Fetches, fetch_each};
 use crate::error::GetError;
 use crate::exchange::Exchange;
+use crate::follow::{Asks, Reply, Stage, follow};
 use crate::link::Link;
 use crate::options::Options;
-use crate::request::{ask, head_for};
+use crate::output::OutputFile;
+use crate::redirect::Hop;
+use crate::request::{ask, head_for, is_repeatable, method_for};
 use crate::target::Target;
 use crate::tries::{Tries, try_twice};
+use bytes::Bytes;
 use http_framing::BodySize;
-use http_types::{ReadSource, StdSink};
+use http_types::{HeaderValue, ReadSource, Sink, Source, StdSink, SureSource};
 use net_sockets::{SocketSink, SocketSource, moment};
 use std::fs::File;
 use std::io::ErrorKind;
+
+/// The status of the program where an answer says that it isn't what was asked for.
+const NO_SUCCESS: u8 = 8;
 
 /// Fetches all, and gives the status of the program.
 pub fn fetch_all(rt: HostRuntime, options: &Options<'_>) -> u8 {
@@ -21,8 +29,16 @@ pub fn fetch_all(rt: HostRuntime, options: &Options<'_>) -> u8 {
         rt,
         options,
         kept: None,
+        has_written: false,
+        hop: Hop::first(),
+        location: None,
     };
-    fetch_each(&mut fetcher, &options.urls)
+    let refused = if options.is_failing {
+        GetError::Unwanted.status()
+    } else {
+        NO_SUCCESS
+    };
+    fetch_each(&mut fetcher, &options.urls, refused)
 }
 
 // What fetches URLs as the options say, over a connection that is kept where that may be.
@@ -31,15 +47,79 @@ struct Fetcher<'a, 'w> {
     rt: HostRuntime,
     options: &'a Options<'w>,
     kept: Option<Link>,
+
+    // Something was written to the file for bodies.
+    has_written: bool,
+
+    // What redirects have changed, and where the last answer leads.
+    hop: Hop,
+    location: Option<HeaderValue>,
 }
 
 impl<'a, 'w> Fetcher<'a, 'w> {
     // Over this connection, or over a new one, which is kept.
     fn over(&mut self, target: &Target, kept: Option<Link>) -> Result<u16, GetError> {
-        let (status, link) = fetch_over(self.rt, self.options, target, kept)?;
-        self.kept = Some(link);
-        Ok(status)
+        if self.hop.by_get {
+            return self.send::<SureSource>(target, kept, None, BodySize::None);
+        }
+        if let Some(text) = self.options.text {
+            let Ok(bytes) = Bytes::copy_from_slice(self.rt.alloc(), text.as_bytes()) else {
+                return Err(GetError::NoMemory);
+            };
+            let size = if self.options.is_chunked {
+                BodySize::Stream
+            } else {
+                BodySize::Sized(text.len() as u64)
+            };
+            return self.send(target, kept, Some(SureSource::new(bytes)), size);
+        }
+        let (file, size) = open(self.rt, self.options)?;
+        self.send(target, kept, file, size)
     }
+
+    // The same, where this is what is sent.
+    fn send<B: Source + Drop>(
+        &mut self,
+        target: &Target,
+        kept: Option<Link>,
+        body: Option<B>,
+        size: BodySize,
+    ) -> Result<u16, GetError> {
+        let link = ask_over(self.rt, self.options, self.hop, target, kept, size)?;
+        match self.options.output {
+            Some(path) => {
+                let out = OutputFile::new(self.rt, path, self.has_written);
+                let (answer, out) = exchange_over(self.rt, self.options, link, body, out)?;
+                self.has_written = out.end(answer.link.is_some())?;
+                Ok(self.note(answer))
+            }
+            None => {
+                let out = StdSink::new(self.rt.stdout());
+                let (answer, _) = exchange_over(self.rt, self.options, link, body, out)?;
+                Ok(self.note(answer))
+            }
+        }
+    }
+
+    // Keeps the connection, and where the answer leads.
+    fn note(&mut self, answer: Answer) -> u16 {
+        let Answer {
+            status,
+            location,
+            link,
+        } = answer;
+        self.location = location;
+        self.kept = link;
+        status
+    }
+}
+
+// What came of an exchange: the status, where the answer leads, and the connection, if the answer was taken to its end.
+#[derive(Drop)]
+struct Answer {
+    status: u16,
+    location: Option<HeaderValue>,
+    link: Option<Link>,
 }
 
 impl<'a, 'w> Fetches for Fetcher<'a, 'w> {
@@ -47,9 +127,10 @@ impl<'a, 'w> Fetches for Fetcher<'a, 'w> {
     ghost done = { λ _. None };
 
     fn fetch(&mut self, url: &str) -> Result<u16, GetError> {
-        let target = Target::read(self.rt.alloc(), url)?;
-        let has_file = self.options.file.is_some();
-        try_twice(self, &target, has_file)
+        let method = method_for(self.options, Hop::first())?;
+        let alloc = self.rt.alloc();
+        let follows = self.options.follows;
+        follow(alloc, self, url, method.as_str().as_bytes(), follows)
     }
 
     fn tell_status(&mut self, url: &str, status: u16) {
@@ -59,11 +140,32 @@ impl<'a, 'w> Fetches for Fetcher<'a, 'w> {
 
     fn tell_error(&mut self, url: &str, error: GetError) {
         let rt = self.rt;
-        let about = match self.options.file {
-            Some(file) if error.is_of_file() => file,
-            _ => url,
-        };
+        let about = about_of(self.options, error).unwrap_or(url);
         let _ = eprintln!(rt; "app_get: {about}: {error}");
+    }
+}
+
+impl<'a, 'w> Asks for Fetcher<'a, 'w> {
+    // Nor is what is asked.
+    ghost asked = { λ _. None };
+
+    fn ask_at(&mut self, stage: &Stage) -> Result<Reply, GetError> {
+        self.hop = stage.hop;
+        let is_once = !is_repeatable(self.options);
+        let status = try_twice(self, &stage.target, is_once)?;
+        let location = self.location.take();
+        Ok(Reply { status, location })
+    }
+}
+
+// The file that an error is about.
+fn about_of<'w>(options: &Options<'w>, error: GetError) -> Option<&'w str> {
+    if error.is_of_file() {
+        return options.file;
+    }
+    match error {
+        GetError::Output => options.output,
+        _ => None,
     }
 }
 
@@ -85,44 +187,76 @@ impl<'a, 'w> Tries for Fetcher<'a, 'w> {
     }
 }
 
-// Fetches one over this connection, or over a new one.
-fn fetch_over(
+// Takes the answer. What is left of one that isn't wanted isn't read.
+fn exchange_over<B: Source + Drop, O: Sink + Drop>(
     rt: HostRuntime,
     options: &Options<'_>,
-    target: &Target,
-    kept: Option<Link>,
-) -> Result<(u16, Link), GetError> {
-    let alloc = rt.alloc();
-    let (file, size) = open(rt, options)?;
-    let head = head_for(alloc, options, target)?;
+    link: Link,
+    body: Option<B>,
+    out: O,
+) -> Result<(Answer, O), GetError> {
     let Link {
         stream,
-        mut connection,
+        connection,
         place,
-    } = match kept {
-        Some(link) => link,
-        None => Link::open(&rt, alloc, target, options.wait)?,
-    };
-    ask(&mut connection, moment(&rt).unwrap_or(0), &head, size)?;
+    } = link;
     let mut exchange = Exchange::new(
-        alloc,
+        rt.alloc(),
         connection,
         SocketSource::new(&rt, &stream),
         SocketSink::new(&stream),
-        file,
-        StdSink::new(rt.stdout()),
-        options.is_head,
+        body,
+        out,
+        wanted_of(options),
     );
-    let status = exchange.run(options.wait)?;
-    let connection = exchange.into_connection();
-    Ok((
-        status,
-        Link {
+    let (status, is_whole) = match exchange.run(options.wait) {
+        Ok(status) => (status, true),
+        Err(GetError::Unwanted) => (exchange.status.unwrap_or(0), false),
+        Err(error) => return Err(error),
+    };
+    let (connection, out, location) = exchange.into_parts();
+    let link = if is_whole {
+        Some(Link {
             stream,
             connection,
             place,
-        },
-    ))
+        })
+    } else {
+        None
+    };
+    let answer = Answer {
+        status,
+        location,
+        link,
+    };
+    Ok((answer, out))
+}
+
+// Asks over this connection, or over a new one.
+fn ask_over(
+    rt: HostRuntime,
+    options: &Options<'_>,
+    hop: Hop,
+    target: &Target,
+    kept: Option<Link>,
+    size: BodySize,
+) -> Result<Link, GetError> {
+    let alloc = rt.alloc();
+    let head = head_for(alloc, options, hop, target)?;
+    let mut link = match kept {
+        Some(link) => link,
+        None => Link::open(&rt, alloc, target, options.wait)?,
+    };
+    ask(&mut link.connection, moment(&rt).unwrap_or(0), &head, size)?;
+    Ok(link)
+}
+
+fn wanted_of(options: &Options<'_>) -> Wanted {
+    Wanted {
+        head: options.is_head,
+        no_refusal: options.is_failing,
+        no_redirect: options.follows,
+    }
 }
 
 // What is sent, where something is, and how long it is, where that is to be said.

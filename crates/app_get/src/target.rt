@@ -1,5 +1,7 @@
 //! Where a URL leads.
-ghost use Rattle.std.specs.Prelude.{◌≡◌};
+ghost use Rattle.std.specs.Prelude.{◌≡◌, true, IfOk, IfErr};
+ghost use Rattle.http_uri.specs.Uri.{Spells};
+ghost use Rattle.app_get.specs.Following.{is_of_url};
 ghost use Rattle.app_get.specs.Heads.{target_authority};
 ghost use Rattle.app_get.specs.Places.{target_host};
 
@@ -20,7 +22,10 @@ pub struct Target {
 
 impl Target {
     /// Reads a URL of the scheme http that names a host and no user.
-    pub fn read(alloc: Global, text: &str) -> Result<Target, GetError> {
+    pub fn read(alloc: Global, text: &str) -> Result<Target, GetError>
+        ensures ok { IfOk result (λ target. Spells text.now target.uri) }
+        ensures err { IfErr result (λ error. is_of_url error ≡ true) }
+    {
         let uri = match Uri::from_str(alloc, text) {
             Ok(uri) => uri,
             Err(UriError::OutOfMemory) => return Err(GetError::NoMemory),
@@ -60,7 +65,9 @@ impl Target {
 }
 
 // The port of a URL that names a host and no user.
-fn port_of(uri: &Uri) -> Result<u16, GetError> {
+fn port_of(uri: &Uri) -> Result<u16, GetError>
+    ensures { IfErr result (λ error. is_of_url error ≡ true) }
+{
     let authority = uri.authority().ok_or(GetError::Url)?;
     if authority.as_str().contains('@') {
         return Err(GetError::User);

@@ -23,13 +23,13 @@ pub trait Tries {
 ///
 /// A server may close such a connection at any time. What does nothing when it is asked twice is asked once more (RFC 9112,
 /// section 9.3.1).
-pub fn try_twice<T: Tries>(tries: &mut T, target: &Target, has_file: bool) -> Result<u16, GetError>
-    ensures { IsTried (T.tried tries.old) has_file (T.tried tries.new) result }
+pub fn try_twice<T: Tries>(tries: &mut T, target: &Target, is_once: bool) -> Result<u16, GetError>
+    ensures { IsTried (T.tried tries.old) is_once (T.tried tries.new) result }
 {
     match tries.over_kept(target) {
         None => tries.over_new(target),
         Some(done) => {
-            if !may_be_repeated(&done, has_file) {
+            if !may_be_repeated(&done, is_once) {
                 return done;
             }
             tries.over_new(target)
@@ -37,12 +37,12 @@ pub fn try_twice<T: Tries>(tries: &mut T, target: &Target, has_file: bool) -> Re
     }
 }
 
-// Whether what came to this may be asked once more: the server didn't answer, and no file was sent.
-fn may_be_repeated(done: &Result<u16, GetError>, has_file: bool) -> bool
-    ensures { IsTrue result → (done.now ≡ Err GetError.Unanswered) × (has_file ≡ false) }
+// Whether what came to this may be asked once more: the server didn't answer, and nothing is done twice.
+fn may_be_repeated(done: &Result<u16, GetError>, is_once: bool) -> bool
+    ensures { IsTrue result → (done.now ≡ Err GetError.Unanswered) × (is_once ≡ false) }
 {
     match done {
-        Err(GetError::Unanswered) => !has_file,
+        Err(GetError::Unanswered) => !is_once,
         _ => false,
     }
 }

@@ -22,6 +22,9 @@ returns-in-Whole-clause-status g c = (whole_is _ _ _ _ c.in_ok-status.ensures.ta
 pub returns-in-Whole-clause-protocol : goal.returns-in-Whole-clause-protocol
 returns-in-Whole-clause-protocol g c = (whole_is _ _ _ _ c.in_ok-status.ensures.taken c.in-Whole.is).2
 
+pub returns-in-Whole-clause-wanted : goal.returns-in-Whole-clause-wanted
+returns-in-Whole-clause-wanted g c = (whole_is _ _ _ _ c.in_ok-status.ensures.taken c.in-Whole.is).3
+
 pub listen-requires : goal.listen-requires
 listen-requires g c = nothing_pending _ _ _ c.in_ok-status.ensures.taken c.in-Nothing.is
 
