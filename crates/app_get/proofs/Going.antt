@@ -3,10 +3,11 @@ use Rattle.std.specs.Prelude.{◌≡◌, ℕ, ◌<◌, ◌≤◌, ◌+◌, Bool,
 use Rattle.std.proofs.Common.{refl, sym, ap, subst, ◌∙◌, append_assoc, append-nil, length-append, arith}
 use Rattle.std.specs.Io.KnownBytes.{Consumes, Appends, Keeps}
 use Rattle.std.proofs.KnownBytes.{Consumes-nil, Appends-nil, Consumes-trans, Appends-trans, Keeps-refl, Keeps-trans}
+use Rattle.http_header.specs.FieldValue.{FieldValue}
 use Rattle.h1_client.specs.State.{Stands}
 use Rattle.model_client.specs.ClientTrace.{Happened, taken, taken_by, written, given as gave}
 use Rattle.model_client.specs.ClientEvent.{ClientEvent}
-use Rattle.app_get.specs.Exchange.{Ends, Goes, Acts, handed, handed_by, given, given_by, noted, noted_by, has_event, ends_input, ends_body, drops_rest, Empties, is_unread, IsTaken}
+use Rattle.app_get.specs.Exchange.{Ends, Goes, Acts, handed, handed_by, given, given_by, noted, noted_by, led, led_by, has_event, ends_input, ends_body, drops_rest, Empties, is_unread, IsTaken}
 use Rattle.app_get.specs.declared.answer.Wanted.{Wanted}
 use Rattle.app_get.specs.declared.answer.Taken.{Taken}
 use Rattle.app_get.specs.declared.answer.Taken.TheVariants as taking
@@ -32,6 +33,10 @@ given_then (y ∷ ys) xs = ap (λ (l : List ℕ). l ++ given_by y.outcome) (give
 noted_then : (ys xs : List Happened) (status : Option ℕ) → noted (ys ++ xs) status ≡ noted ys (noted xs status)
 noted_then [] xs status = refl
 noted_then (y ∷ ys) xs status = ap (noted_by y.outcome) (noted_then ys xs status)
+
+led_then : (ys xs : List Happened) (location : Option FieldValue) → led (ys ++ xs) location ≡ led ys (led xs location)
+led_then [] xs location = refl
+led_then (y ∷ ys) xs location = ap (led_by y.outcome) (led_then ys xs location)
 
 -- ---- ends that are told first or then
 
@@ -103,6 +108,7 @@ goes_none a = record {
   silent = λ none. (none, Keeps-refl a.out);
   unread = λ unread. (unread, refl);
   status = refl;
+  location = refl;
   wanted = refl;
 }
 
@@ -141,6 +147,7 @@ goes_then a b c first second = record {
       let before : (is_unread a ≡ true) × (given first.more ≡ []) = first.unread then_.0 in
       (before.0, given_then second.more first.more ∙ none_both (given first.more) (given second.more) before.1 then_.1);
   status = second.status ∙ ap (noted second.more) first.status ∙ sym (noted_then second.more first.more a.status);
+  location = second.location ∙ ap (led second.more) first.location ∙ sym (led_then second.more first.more a.location);
   wanted = second.wanted ∙ first.wanted;
 }
 

@@ -4,6 +4,7 @@ use Rattle.std.proofs.Common.{refl, sym, ap, subst, ◌∙◌, append_assoc, inl
 use Rattle.std.proofs.lemmas.Bool.{le-leb, lt-leb}
 use Rattle.app_get.specs.declared.error.GetError.{GetError}
 use Rattle.app_get.specs.declared.error.GetError.TheVariants as get_error
+use Rattle.app_get.specs.declared.follow.Reply.{Reply}
 use Rattle.app_get.specs.Fetching.{Done, fetched, told_status, told_error, Notes, is_refusal, done_at, all_done, error_status, status_after, exit_status, are_fetched, AreOutcomes, FetchesEach, FetchesOne, ended_by, Tried, kept_gave, new_gave, IsTried}
 
 -- ---- what is noted
@@ -121,28 +122,28 @@ fetched_each a b count all refused status done same =
 -- ---- tries
 
 -- there is none that may be used
-pub tried_new : (a b c : Option (List Tried)) (has_file : Bool) (x : Option (Result ℕ GetError)) (result : Result ℕ GetError) → Notes a (kept_gave x ∷ []) b
+pub tried_new : (a b c : Option (List Tried)) (has_file : Bool) (x : Option (Result Reply GetError)) (result : Result Reply GetError) → Notes a (kept_gave x ∷ []) b
     → x ≡ None → Notes b (new_gave result ∷ []) c → IsTried a has_file c result
 tried_new a b c has_file x result first is second =
     inr (inl (notes_then a b c (kept_gave None ∷ []) (new_gave result ∷ [])
-    (subst (λ (x : Option (Result ℕ GetError)). Notes a (kept_gave x ∷ []) b) is first) second))
+    (subst (λ (x : Option (Result Reply GetError)). Notes a (kept_gave x ∷ []) b) is first) second))
 
 -- it gave no answer, and no file is sent
-pub tried_again : (a b c : Option (List Tried)) (has_file : Bool) (x : Option (Result ℕ GetError)) (result : Result ℕ GetError) → Notes a (kept_gave x ∷ []) b
+pub tried_again : (a b c : Option (List Tried)) (has_file : Bool) (x : Option (Result Reply GetError)) (result : Result Reply GetError) → Notes a (kept_gave x ∷ []) b
     → x ≡ Some (Err get_error.Unanswered) → has_file ≡ false → Notes b (new_gave result ∷ []) c → IsTried a has_file c result
 tried_again a b c has_file x result first is none second =
     inr (inr (
       none,
       notes_then a b c (kept_gave (Some (Err get_error.Unanswered)) ∷ []) (new_gave result ∷ [])
-          (subst (λ (x : Option (Result ℕ GetError)). Notes a (kept_gave x ∷ []) b) is first) second,
+          (subst (λ (x : Option (Result Reply GetError)). Notes a (kept_gave x ∷ []) b) is first) second,
     ))
 
-pub tried_done : (a b c : Option (List Tried)) (has_file : Bool) (done result : Result ℕ GetError) → Notes a (kept_gave (Some done) ∷ []) b
+pub tried_done : (a b c : Option (List Tried)) (has_file : Bool) (done result : Result Reply GetError) → Notes a (kept_gave (Some done) ∷ []) b
     → done ≡ Err get_error.Unanswered → has_file ≡ false → Notes b (new_gave result ∷ []) c → IsTried a has_file c result
 tried_done a b c has_file done result first is none second =
-    tried_again a b c has_file (Some done) result first (ap (λ (d : Result ℕ GetError). Some d) is) none second
+    tried_again a b c has_file (Some done) result first (ap (λ (d : Result Reply GetError). Some d) is) none second
 
 -- it gave an answer, or failed
-pub tried_kept : (a b : Option (List Tried)) (has_file : Bool) (x : Option (Result ℕ GetError)) (result : Result ℕ GetError) → Notes a (kept_gave x ∷ []) b
+pub tried_kept : (a b : Option (List Tried)) (has_file : Bool) (x : Option (Result Reply GetError)) (result : Result Reply GetError) → Notes a (kept_gave x ∷ []) b
     → x ≡ Some result → IsTried a has_file b result
-tried_kept a b has_file x result first is = inl (subst (λ (x : Option (Result ℕ GetError)). Notes a (kept_gave x ∷ []) b) is first)
+tried_kept a b has_file x result first is = inl (subst (λ (x : Option (Result Reply GetError)). Notes a (kept_gave x ∷ []) b) is first)

@@ -1,12 +1,14 @@
 -- Redirect after redirect.
-use Rattle.std.specs.Prelude.{◌≡◌, ℕ, ◌+◌, ◌≤◌, Bool, true, false, List, [], ◌∷◌, ◌++◌, length, Option, Result, Ok, Err, IsErrAnd}
+use Rattle.std.specs.Prelude.{◌≡◌, ℕ, ◌+◌, ◌≤◌, Bool, true, List, [], ◌∷◌, ◌++◌, length, Option, Result, Ok, Err, IsErrAnd}
 use Rattle.std.proofs.Common.{refl, sym, subst, ◌∙◌, inl, inr, arith}
 use Rattle.app_get.specs.declared.error.GetError.{GetError}
 use Rattle.app_get.specs.declared.error.GetError.TheVariants as get_error
 use Rattle.app_get.specs.declared.follow.Stage.{Stage}
 use Rattle.app_get.specs.declared.follow.Reply.{Reply}
+use Rattle.app_get.specs.declared.follow.Turn.{Turn}
+use Rattle.app_get.specs.declared.follow.Turn.TheVariants as turning
 use Rattle.app_get.specs.Fetching.{Notes}
-use Rattle.app_get.specs.Following.{Asked, came, is_followed, IsFirst, Leads, IsWay, is_of_url, IsBarred, IsEnd, Follows}
+use Rattle.app_get.specs.Following.{Asked, came, is_followed, IsFirst, Leads, IsWay, IsRefused, IsBarred, IsTurn, IsEnd, Follows}
 use Rattle.app_get.proofs.Outcomes.{notes_none, notes_then}
 
 -- so many redirects led here
@@ -20,65 +22,66 @@ pub gone_none : (a : Option (List Asked)) (text method : List ℕ) (follows : Bo
 gone_none a text method follows stage first = record { asked = []; many = refl; notes = notes_none a; way = first }
 
 -- one more
-pub gone_more : (a b c : Option (List Asked)) (text method : List ℕ) (follows : Bool) (count : ℕ) (stage next : Stage) (reply : Reply)
-    → HasGone a text method follows count b stage → Notes b (came stage (Ok reply) ∷ []) c → is_followed follows reply ≡ true → Leads method stage reply next
-    → HasGone a text method follows (count + 1) c next
-gone_more a b c text method follows count stage next reply gone noted followed leads = record {
-  asked = came stage (Ok reply) ∷ gone.asked;
-  many = omega (arith, gone.many);
-  notes = notes_then a b c gone.asked (came stage (Ok reply) ∷ []) gone.notes noted;
-  way = (followed, (leads, gone.way));
-}
+pub gone_more : (a b c : Option (List Asked)) (text method : List ℕ) (follows : Bool) (count : ℕ) (stage next : Stage) (t : Turn)
+    → HasGone a text method follows count b stage → IsTurn b stage method follows c (Ok t) → t ≡ turning.On next → HasGone a text method follows (count + 1) c next
+gone_more a b c text method follows count stage next t gone turned is =
+    let x : IsTurn b stage method follows c (Ok (turning.On next)) = subst (λ (t : Turn). IsTurn b stage method follows c (Ok t)) is turned in record {
+      asked = came stage (Ok x.0) ∷ gone.asked;
+      many = omega (arith, gone.many);
+      notes = notes_then a b c gone.asked (came stage (Ok x.0) ∷ []) gone.notes x.1;
+      way = (x.2, (x.3, gone.way));
+    }
 
 -- ---- the end
 
 -- the URL isn't taken
-pub gone_nowhere : (a : Option (List Asked)) (text method : List ℕ) (follows : Bool) (error : GetError) → is_of_url error ≡ true
+pub gone_nowhere : (a : Option (List Asked)) (text method : List ℕ) (follows : Bool) (error : GetError) → IsRefused text error
     → Follows a text method follows a (Err error)
 gone_nowhere a text method follows error is = record { asked = []; few = omega arith; notes = notes_none a; ends = is }
 
--- it wasn't answered
+-- it was answered, and that isn't followed
+pub gone_last : (a b c : Option (List Asked)) (text method : List ℕ) (follows : Bool) (count : ℕ) (stage : Stage) (status : ℕ) (t : Turn)
+    → HasGone a text method follows count b stage → count ≤ 10 → IsTurn b stage method follows c (Ok t) → t ≡ turning.Last status
+    → Follows a text method follows c (Ok status)
+gone_last a b c text method follows count stage status t gone few turned is =
+    let x : IsTurn b stage method follows c (Ok (turning.Last status)) = subst (λ (t : Turn). IsTurn b stage method follows c (Ok t)) is turned in record {
+      asked = came stage (Ok x.0) ∷ gone.asked;
+      few = omega (arith, gone.many);
+      notes = notes_then a b c gone.asked (came stage (Ok x.0) ∷ []) gone.notes x.1;
+      ends = (gone.way, (x.2, x.3));
+    }
+
+-- it wasn't answered, or the redirect can't be followed
 pub gone_failed : (a b c : Option (List Asked)) (text method : List ℕ) (follows : Bool) (count : ℕ) (stage : Stage) (error : GetError)
-    → HasGone a text method follows count b stage → count ≤ 10 → Notes b (came stage (Err error) ∷ []) c → Follows a text method follows c (Err error)
-gone_failed a b c text method follows count stage error gone few noted = record {
+    → HasGone a text method follows count b stage → count ≤ 10 → IsTurn b stage method follows c (Err error) → Follows a text method follows c (Err error)
+gone_failed a b c text method follows count stage error gone few (inl noted) = record {
   asked = came stage (Err error) ∷ gone.asked;
   few = omega (arith, gone.many);
   notes = notes_then a b c gone.asked (came stage (Err error) ∷ []) gone.notes noted;
   ends = (gone.way, refl);
 }
-
--- it was answered, and that isn't followed
-pub gone_answered : (a b c : Option (List Asked)) (text method : List ℕ) (follows : Bool) (count : ℕ) (stage : Stage) (reply : Reply)
-    → HasGone a text method follows count b stage → count ≤ 10 → Notes b (came stage (Ok reply) ∷ []) c → is_followed follows reply ≡ false
-    → Follows a text method follows c (Ok reply.status)
-gone_answered a b c text method follows count stage reply gone few noted last = record {
-  asked = came stage (Ok reply) ∷ gone.asked;
+gone_failed a b c text method follows count stage error gone few (inr x) = record {
+  asked = came stage (Ok x.0) ∷ gone.asked;
   few = omega (arith, gone.many);
-  notes = notes_then a b c gone.asked (came stage (Ok reply) ∷ []) gone.notes noted;
-  ends = (gone.way, (last, refl));
+  notes = notes_then a b c gone.asked (came stage (Ok x.0) ∷ []) gone.notes x.1;
+  ends = (gone.way, (x.2, inr x.3));
 }
 
--- a redirect that can't be followed
-pub gone_barred : (a b c : Option (List Asked)) (text method : List ℕ) (follows : Bool) (count : ℕ) (stage : Stage) (reply : Reply) (error : GetError)
-    → HasGone a text method follows count b stage → count ≤ 10 → Notes b (came stage (Ok reply) ∷ []) c → is_followed follows reply ≡ true
-    → IsBarred stage reply error → Follows a text method follows c (Err error)
-gone_barred a b c text method follows count stage reply error gone few noted followed barred = record {
-  asked = came stage (Ok reply) ∷ gone.asked;
-  few = omega (arith, gone.many);
-  notes = notes_then a b c gone.asked (came stage (Ok reply) ∷ []) gone.notes noted;
-  ends = (gone.way, (followed, inr barred));
+-- one redirect too many
+beyond_by : (asked : List Asked) (a b : Option (List Asked)) (text method : List ℕ) (follows : Bool) (stage : Stage) → length asked ≡ 11 → Notes a asked b
+    → IsWay text method follows asked stage → Follows a text method follows b (Err get_error.Redirects)
+beyond_by [] a b text method follows stage many notes way = absurd (omega (arith, many))
+beyond_by (came old (Ok reply) ∷ before) a b text method follows stage many notes way = record {
+  asked = came old (Ok reply) ∷ before;
+  few = omega (arith, many);
+  notes = notes;
+  ends = (way.1.1, (way.0, inl (refl, omega (arith, many))));
 }
+beyond_by (came old (Err error) ∷ before) a b text method follows stage many notes way = absurd way
 
--- one too many
-pub gone_beyond : (a b c : Option (List Asked)) (text method : List ℕ) (follows : Bool) (count : ℕ) (stage : Stage) (reply : Reply)
-    → HasGone a text method follows count b stage → count ≡ 10 → Notes b (came stage (Ok reply) ∷ []) c → is_followed follows reply ≡ true
-    → Follows a text method follows c (Err get_error.Redirects)
-gone_beyond a b c text method follows count stage reply gone all noted followed = record {
-  asked = came stage (Ok reply) ∷ gone.asked;
-  few = omega (arith, gone.many);
-  notes = notes_then a b c gone.asked (came stage (Ok reply) ∷ []) gone.notes noted;
-  ends = (gone.way, (followed, inl (refl, gone.many ∙ all)));
-}
+pub gone_beyond : (a b : Option (List Asked)) (text method : List ℕ) (follows : Bool) (count : ℕ) (stage : Stage) → HasGone a text method follows count b stage → count ≡ 11
+    → Follows a text method follows b (Err get_error.Redirects)
+gone_beyond a b text method follows count stage gone all = beyond_by gone.asked a b text method follows stage (gone.many ∙ all) gone.notes gone.way
 
 -- where it is known which error there is
 pub gone_err : (r : Result ℕ GetError) (error : GetError) (a b : Option (List Asked)) (text method : List ℕ) (follows : Bool) → IsErrAnd r (λ d. d ≡ error)

@@ -23,7 +23,7 @@ use Rattle.app_get.specs.declared.error.GetError.TheVariants as get_error
 use Rattle.app_get.specs.Exchange.{Ends, Goes, Acts, noted_by, is_unwanted, is_failure, IsWaiting}
 use Rattle.app_get.specs.Failure.{Hears, Heard, Draws, IsStuck, BreaksOff, IsUnwanted, IsCause, IsPart, IsUnshown, WritesOut, Fails, Stops, IsEndless, is_heard, error_by}
 use Rattle.app_get.specs.Patience.{left_of}
-use Rattle.app_get.proofs.Going.{goes_none, goes_then}
+use Rattle.app_get.proofs.Going.{goes_none, goes_as, goes_then}
 
 -- ---- here, or after it went on
 
@@ -203,8 +203,14 @@ pub protocol_stops : (was old new : Ends) → old ≡ was → old.status ≡ Som
 protocol_stops was old new seen is out = stops_here was old new get_error.Protocol seen is out
 
 -- the answer isn't wanted
-pub unwanted_stops : (was old new : Ends) (status : ℕ) → old ≡ was → was.status ≡ Some status → is_unwanted old.wanted status ≡ true
-    → Keeps old.out new.out → Stops was new get_error.Unwanted
-unwanted_stops was old new status seen noted refused out =
-    stops_here was old new get_error.Unwanted seen
-    (record { status = status; noted = ap (λ (e : Ends). e.status) seen ∙ noted; refused = refused }) out
+pub unwanted_stops : (a : Ends) (status : ℕ) → a.status ≡ Some status → is_unwanted a.wanted status ≡ true → Stops a a get_error.Unwanted
+unwanted_stops a status noted refused =
+    stops_here a a a get_error.Unwanted refl (record { status = status; noted = noted; refused = refused }, refl) (Keeps-refl a.out)
+
+-- until then it went on
+unwanted_at : (a b : Ends) → Stops a b get_error.Unwanted → Goes a b
+unwanted_at a b s = goes_as a s.last b s.fails.cause.1 s.goes
+
+pub unwanted_goes : (a b : Ends) (e : GetError) → e ≡ get_error.Unwanted → Stops a b e ⊎ IsEndless a b e → Goes a b
+unwanted_goes a b e is (inl s) = unwanted_at a b (subst (λ (e : GetError). Stops a b e) is s)
+unwanted_goes a b e is (inr x) = absurd (cc (x.late, is))

@@ -1,7 +1,10 @@
 -- What moves in an exchange: from the connection to the server and back, out of the file that is sent, and to the output.
-use Rattle.std.specs.Prelude.{◌≡◌, ◌≢◌, ℕ, ◌<◌, ◌⊎◌, Bool, true, false, ◌||◌, ◌&&◌, nat_le, List, [], ◌++◌, ◌∷◌, length, if◌then◌else◌, Option, Some, None, ⊤}
+use Rattle.std.specs.Prelude.{◌≡◌, ◌≢◌, ℕ, ◌<◌, ◌⊎◌, Bool, true, false, ◌||◌, ◌&&◌, nat_le, List, [], ◌++◌, ◌∷◌, length, codes, if◌then◌else◌, Option, Some, None, ⊤}
 use Rattle.std.specs.Io.KnownBytes.{Consumes, Appends, Keeps}
 use Rattle.http_config.specs.Causes.{Rose}
+use Rattle.http_framing.specs.HeaderLines.{header_map}
+use Rattle.http_header.specs.FieldValue.{FieldValue}
+use Rattle.http_map.specs.HeaderMap.{get}
 use Rattle.h1_client.specs.ClientMeaning.{setting_of}
 use Rattle.h1_client.specs.State.{State, Stands, GoesOn, Is}
 use Rattle.model_client.specs.ClientEvent as on
@@ -17,8 +20,8 @@ use Rattle.app_get.specs.declared.answer.Taken.{Taken}
 use Rattle.app_get.specs.declared.answer.Taken.TheVariants as taking
 
 -- A connection, what is left to come from the server and what the server was sent, what is left of the file, and what went
--- to the output, where they tell it; what is wanted of the answer; the answer's status, once its head came;
--- whether a byte of the answer came; and how often each of them failed.
+-- to the output, where they tell it; what is wanted of the answer; the answer's status, once its head came, and the Location of
+-- the last head; whether a byte of the answer came; and how often each of them failed.
 pub record Ends : Type 0 where
   pub state : State
   pub came : Option (List ℕ)
@@ -27,6 +30,7 @@ pub record Ends : Type 0 where
   pub out : Option (List ℕ)
   pub wanted : Wanted
   pub status : Option ℕ
+  pub location : Option FieldValue
   pub begun : Bool
   pub came_faults : ℕ
   pub sent_faults : ℕ
@@ -71,6 +75,15 @@ noted_by _ status = status
 abbrev pub noted : List Happened → Option ℕ → Option ℕ
 noted [] status = status
 noted (s ∷ before) status = noted_by s.outcome (noted before status)
+
+-- the Location of the last head that was handed out, the first where it has several
+abbrev pub led_by : ClientOutcome → Option FieldValue → Option FieldValue
+led_by (on.answer a) location = get (header_map a.headers) (codes "location")
+led_by _ location = location
+
+abbrev pub led : List Happened → Option FieldValue → Option FieldValue
+led [] location = location
+led (s ∷ before) location = led_by s.outcome (led before location)
 
 -- ---- the ends that are told
 
@@ -135,6 +148,7 @@ pub record Goes (old new : Ends) : Type 0 where
   pub silent : new.status ≡ None → (old.status ≡ None) × Keeps old.out new.out
   pub unread : is_unread new ≡ true → (is_unread old ≡ true) × (given more ≡ [])
   pub status : new.status ≡ noted more old.status
+  pub location : new.location ≡ led more old.location
   pub wanted : new.wanted ≡ old.wanted
 
 -- ---- what is sent

@@ -2,6 +2,7 @@
 use Rattle.std.specs.Prelude.{◌≡◌, ℕ, ◌+◌, ◌<◌, ◌⊎◌, Bool, true, false, List, [], ◌∷◌, ◌++◌, length, nat_le, if◌then◌else◌, Option, Some, None, Result, Ok, Err, ⊤}
 use Rattle.app_get.specs.declared.error.GetError.{GetError}
 use Rattle.app_get.specs.declared.error.GetError.TheVariants as get_error
+use Rattle.app_get.specs.declared.follow.Reply.{Reply}
 
 -- A URL was fetched, or wasn't, for this reason; and what was told of one: the status that it was answered by, or why it
 -- wasn't fetched.
@@ -89,12 +90,12 @@ pub record FetchesOne (old : Option (List Done)) (refused status : ℕ) (new : O
 
 -- What a try came to: over a connection that was kept, where there was one that may be used, or over a new one.
 pub data Tried : Type 0 where
-  kept_gave : Option (Result ℕ GetError) → Tried
-  new_gave : Result ℕ GetError → Tried
+  kept_gave : Option (Result Reply GetError) → Tried
+  new_gave : Result Reply GetError → Tried
 
 -- A request is asked over a connection that was kept, or, where none may be used, over a new one. It is asked twice only where
 -- the server didn't answer over the first, and where a request does nothing more when it is repeated.
-abbrev pub IsTried : Option (List Tried) → Bool → Option (List Tried) → Result ℕ GetError → Type 0
+abbrev pub IsTried : Option (List Tried) → Bool → Option (List Tried) → Result Reply GetError → Type 0
 IsTried old is_once new result =
     Notes old (kept_gave (Some result) ∷ []) new
     ⊎ (Notes old (new_gave result ∷ kept_gave None ∷ []) new

@@ -1,15 +1,17 @@
 -- What is asked for a URL whose redirects are followed.
 use Rattle.std.specs.Prelude.{◌≡◌, ℕ, ◌≤◌, ◌⊎◌, Bool, true, false, ◌&&◌, List, [], ◌∷◌, length, Option, Some, None, Result, Ok, Err, IsErr, ⊤}
 use Rattle.http_header.specs.FieldValue.{FieldValue, IsVisibleAscii}
-use Rattle.http_uri.specs.Uri.{Spells}
 use Rattle.url.specs.Parser.{parse_url}
-use Rattle.url.specs.Parts.{Parts, serialize}
+use Rattle.url.specs.Parts.{Parts}
 use Rattle.app_get.specs.Fetching.{Notes}
+use Rattle.app_get.specs.Places.{IsTargetOf, IsNoTarget, HasNoTarget}
 use Rattle.app_get.specs.Redirects.{is_redirect, is_same_place, hop_method, IsHop}
 use Rattle.app_get.specs.declared.error.GetError.{GetError}
 use Rattle.app_get.specs.declared.error.GetError.TheVariants as get_error
 use Rattle.app_get.specs.declared.follow.Stage.{Stage}
 use Rattle.app_get.specs.declared.follow.Reply.{Reply}
+use Rattle.app_get.specs.declared.follow.Turn.{Turn}
+use Rattle.app_get.specs.declared.follow.Turn.TheVariants as turning
 
 -- what was asked for, and what came
 pub data Asked : Type 0 where
@@ -24,7 +26,7 @@ is_followed follows reply = follows && is_redirect reply.status
 -- At first that is the URL itself, as it is asked without redirects.
 pub record IsFirst (text : List ℕ) (stage : Stage) : Type 0 where
   pub read : parse_url None text ≡ Ok stage.url
-  pub spelled : Spells (serialize stage.url) stage.target.uri
+  pub target : IsTargetOf stage.url stage.target
   pub by_get : stage.hop.by_get ≡ false
   pub is_foreign : stage.hop.is_foreign ≡ false
 
@@ -41,7 +43,7 @@ NamesNone base (Some location) = (IsVisibleAscii location.bytes → ⊥) ⊎ IsE
 -- This answer leads on to what its Location names. The first method is this one.
 pub record Leads (method : List ℕ) (old : Stage) (reply : Reply) (new : Stage) : Type 0 where
   pub named : Names old.url reply.location new.url
-  pub spelled : Spells (serialize new.url) new.target.uri
+  pub target : IsTargetOf new.url new.target
   pub hop : IsHop old.hop reply.status (hop_method old.hop method) (is_same_place old.target new.target) new.hop
 
 -- Of what was asked, the last first, each answer was a redirect and led on, and the last led here.
@@ -52,20 +54,30 @@ IsWay text method follows (came old (Err error) ∷ before) stage = ⊥
 
 -- ---- how it ends
 
--- a URL isn't taken: it is none, names a user or has another scheme, or memory runs out
-abbrev pub is_of_url : GetError → Bool
-is_of_url get_error.Url = true
-is_of_url get_error.User = true
-is_of_url get_error.Scheme = true
-is_of_url get_error.NoMemory = true
-is_of_url _ = false
+-- the text is no URL, or that of one that isn't taken, or memory runs out
+abbrev pub IsRefused : List ℕ → GetError → Type 0
+IsRefused text error =
+    (error ≡ get_error.NoMemory)
+    ⊎ (((error ≡ get_error.Url) × IsErr (parse_url None text))
+    ⊎ ((url : Parts) × (parse_url None text ≡ Ok url) × IsNoTarget url error))
 
 -- The redirect can't be followed: memory runs out, it names nothing, or it names a URL that isn't taken.
 abbrev pub IsBarred : Stage → Reply → GetError → Type 0
 IsBarred stage reply error =
     (error ≡ get_error.NoMemory)
     ⊎ (((error ≡ get_error.Location) × NamesNone stage.url reply.location)
-    ⊎ ((error ≡ get_error.Elsewhere) × ((url : Parts) × Names stage.url reply.location url)))
+    ⊎ ((error ≡ get_error.Elsewhere) × ((url : Parts) × Names stage.url reply.location url × HasNoTarget url)))
+
+-- What comes of asking once, of which this is noted: an answer that isn't followed, or where a redirect leads. It isn't answered,
+-- or its redirect can't be followed.
+abbrev pub IsTurn : Option (List Asked) → Stage → List ℕ → Bool → Option (List Asked) → Result Turn GetError → Type 0
+IsTurn old stage method follows new (Ok (turning.Last status)) =
+    (reply : Reply) × Notes old (came stage (Ok reply) ∷ []) new × (is_followed follows reply ≡ false) × (status ≡ reply.status)
+IsTurn old stage method follows new (Ok (turning.On next)) =
+    (reply : Reply) × Notes old (came stage (Ok reply) ∷ []) new × (is_followed follows reply ≡ true) × Leads method stage reply next
+IsTurn old stage method follows new (Err error) =
+    Notes old (came stage (Err error) ∷ []) new
+    ⊎ ((reply : Reply) × Notes old (came stage (Ok reply) ∷ []) new × (is_followed follows reply ≡ true) × IsBarred stage reply error)
 
 -- After so many redirects this answer is the last: it isn't followed, or it can't be, or it is one redirect too many.
 abbrev pub IsLast : Bool → ℕ → Stage → Reply → Result ℕ GetError → Type 0
@@ -76,7 +88,7 @@ IsLast follows count stage reply (Err error) =
 -- nothing was asked since the URL isn't taken, or the last was answered, or it wasn't
 abbrev pub IsEnd : List ℕ → List ℕ → Bool → List Asked → Result ℕ GetError → Type 0
 IsEnd text method follows [] (Ok status) = ⊥
-IsEnd text method follows [] (Err error) = is_of_url error ≡ true
+IsEnd text method follows [] (Err error) = IsRefused text error
 IsEnd text method follows (came stage (Ok reply) ∷ before) result = IsWay text method follows before stage × IsLast follows (length before) stage reply result
 IsEnd text method follows (came stage (Err error) ∷ before) result = IsWay text method follows before stage × (result ≡ Err error)
 

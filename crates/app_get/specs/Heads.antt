@@ -1,5 +1,5 @@
 -- The head of a request for a target, and that of an answer as it is shown.
-use Rattle.std.specs.Prelude.{◌≡◌, ◌≢◌, ℕ, Bool, true, false, ◌&&◌, ◌||◌, not, ◌==◌, List, [], ◌∷◌, ◌++◌, fold, flat_map, codes, decimal, bytes_eq, if◌then◌else◌, Option, Some, None, is_none}
+use Rattle.std.specs.Prelude.{◌≡◌, ◌≢◌, ℕ, Bool, true, false, ◌&&◌, ◌||◌, not, ◌==◌, List, [], ◌∷◌, ◌++◌, fold, flat_map, codes, decimal, bytes_eq, if◌then◌else◌, Option, Some, None, is_none, is_some}
 use Rattle.std.specs.List.{before_first, after_first}
 use Rattle.std.specs.Option.{unwrap_or}
 use Rattle.std.specs.Str.{trim}
@@ -13,10 +13,15 @@ use Rattle.http_types.specs.declared.requests.head.RequestHead.{RequestHead}
 use Rattle.http_uri.specs.Uri.{HasParts, uri_scheme, uri_authority, uri_data}
 use Rattle.h1_decoder.specs.declared.response.ResponseItem.{ResponseItem}
 use Rattle.app_get.specs.Redirects.{hop_method, hop_has_body, hop_fields}
-use Rattle.app_get.specs.declared.redirect.Hop.{Hop}
+use Rattle.app_get.specs.declared.follow.Stage.{Stage}
+use Rattle.app_get.specs.declared.options.Options.{Options}
 use Rattle.app_get.specs.declared.target.Target.{Target}
 
 -- ---- what is asked
+
+-- something is sent
+abbrev pub sends_body : Options → Bool
+sends_body options = is_some options.file || is_some options.text
 
 -- the user's own method, or the usual one
 abbrev pub asked_method : Option (List ℕ) → Bool → Bool → List ℕ
@@ -57,13 +62,13 @@ with_fields fields headers = append_all (remove_all headers (keys fields)) (pair
 abbrev pub asked_headers : List ℕ → Bool → Bool → Entries → Entries
 asked_headers authority has_body is_form fields = with_fields fields (typed has_body is_form (general_headers authority))
 
--- It asks for the target by this method of the user's own, or by HEAD, by POST where something is sent, or by GET, as redirects
+-- It asks for the stage's target, by the user's own method, or by HEAD, by POST where something is sent, or by GET, as redirects
 -- have changed it.
-pub record AsksFor (target : Target) (hop : Hop) (own : Option (List ℕ)) (is_head has_body is_form : Bool) (fields : Entries) (head : RequestHead) : Type 0 where
-  pub method : head.method ≡ hop_method hop (asked_method own is_head has_body)
-  pub uri : HasParts head.uri (uri_scheme target.uri) (uri_authority target.uri) (uri_data target.uri)
+pub record AsksFor (options : Options) (stage : Stage) (head : RequestHead) : Type 0 where
+  pub method : head.method ≡ hop_method stage.hop (asked_method options.method options.is_head (sends_body options))
+  pub uri : HasParts head.uri (uri_scheme stage.target.uri) (uri_authority stage.target.uri) (uri_data stage.target.uri)
   pub version : head.version ≡ HTTP_11
-  pub headers : head.headers ≡ asked_headers (target_authority target) (hop_has_body hop has_body) is_form (hop_fields hop fields)
+  pub headers : head.headers ≡ asked_headers (target_authority stage.target) (hop_has_body stage.hop (sends_body options)) options.is_form (hop_fields stage.hop options.fields)
 
 -- ---- a field of the user's own
 

@@ -1,6 +1,5 @@
 // What comes of the answer.
 ghost use Rattle.std.specs.Prelude.{◌≡◌, ◌≢◌, false, None, Some, codes, IsSome, IfOk, IfErr, OnErr, if◌then◌else◌};
-ghost use Rattle.h1_decoder.specs.declared.response.ResponseItem.{ResponseItem};
 ghost use Rattle.http_map.specs.HeaderMap.{get};
 ghost use Rattle.h1_client.specs.Answers.{SaysNext};
 ghost use Rattle.h1_client.specs.ClientMeaning.{setting_of};
@@ -8,7 +7,7 @@ ghost use Rattle.h1_client.specs.State.{IsAllowed};
 ghost use Rattle.model_client.specs.ClientEvent as on;
 ghost use Rattle.model_client.specs.ClientKept.{client_allows};
 ghost use Rattle.model_client.specs.AnswerParse.{is_interim};
-ghost use Rattle.app_get.specs.Exchange.{Goes, IsTaken, noted_by, is_unwanted, is_unread};
+ghost use Rattle.app_get.specs.Exchange.{Goes, IsTaken, noted_by, led_by, is_unwanted, is_unread};
 ghost use Rattle.app_get.specs.Failure.{Heard, Stops, is_heard, error_by};
 
 use crate::error::GetError;
@@ -89,7 +88,7 @@ impl<S: TimedSource + Drop, K: TimedSink + Drop, B: Source + Drop, O: Sink + Dro
         ensures err { OnErr result (self.new.out ≡ self.old.out) }
     {
         let next = self.connection.next()?;
-        self.location = location_of(&next)?;
+        self.location = led(&next, self.location.take())?;
         self.status = noted(&next, self.status);
         Ok(next)
     }
@@ -207,15 +206,18 @@ impl<S: TimedSource + Drop, K: TimedSink + Drop, B: Source + Drop, O: Sink + Dro
     }
 }
 
-// Where an answer leads, where its head names that.
-fn location_of(next: &NextAnswer) -> Result<Option<HeaderValue>, NoMemory>
-    ensures { IfOk result (λ found. (item : ResponseItem) → next.now ≡ NextAnswer.Answer item → found ≡ get item.head.headers (codes "location")) }
+// The Location of the last head.
+fn led(
+    next: &NextAnswer,
+    before: Option<HeaderValue>,
+) -> Result<Option<HeaderValue>, NoMemory>
+    ensures { IfOk result (λ found. (out : on.ClientOutcome) → SaysNext next.now out → found ≡ led_by out before) }
 {
     match next {
         NextAnswer::Answer(item) => location_in(&item.head),
-        NextAnswer::Fault(_) => Ok(None),
-        NextAnswer::Pending => Ok(None),
-        NextAnswer::Closed(_) => Ok(None),
+        NextAnswer::Fault(_) => Ok(before),
+        NextAnswer::Pending => Ok(before),
+        NextAnswer::Closed(_) => Ok(before),
     }
 }
 

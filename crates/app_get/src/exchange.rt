@@ -1,5 +1,5 @@
 //! One request and its answer over a connection: a client's whole loop.
-ghost use Rattle.std.specs.Prelude.{◌≡◌, ◌≢◌, ◌⊎◌, false, None, Some, OnOk, IfOk, IfErr};
+ghost use Rattle.std.specs.Prelude.{◌≡◌, ◌≢◌, ◌⊎◌, false, None, Some, IsTrue, OnOk, IfOk, IfErr};
 ghost use Rattle.app_get.specs.Exchange.{Ends, file_left, faults_of_file, is_unwanted, Goes, IsWhole, IsPending, IsWaiting};
 ghost use Rattle.app_get.specs.Failure.{Stops, IsEndless};
 
@@ -38,7 +38,7 @@ pub struct Exchange<S: TimedSource, K: TimedSink, B: Source, O: Sink> {
     // A byte of the answer came.
     pub(crate) has_begun: bool,
 
-    // Where the answer leads, where its head names that.
+    // Where the last head leads, where it names that.
     pub(crate) location: Option<HeaderValue>,
 }
 
@@ -55,6 +55,7 @@ impl<S: TimedSource, K: TimedSink, B: Source, O: Sink> Model for Exchange<S, K, 
       out = O.given e.out;
       wanted = e.wanted;
       status = e.status;
+      location = e.location;
       begun = e.has_begun;
       came_faults = S.faults e.input;
       sent_faults = K.faults e.output;
@@ -87,6 +88,7 @@ impl<S: TimedSource + Drop, K: TimedSink + Drop, B: Source + Drop, O: Sink + Dro
           out = O.given out;
           wanted = wanted;
           status = None;
+          location = None;
           begun = false;
           came_faults = S.faults input;
           sent_faults = K.faults output;
@@ -112,6 +114,7 @@ impl<S: TimedSource + Drop, K: TimedSink + Drop, B: Source + Drop, O: Sink + Dro
     pub fn into_parts(self) -> (ClientConnection, O, Option<HeaderValue>)
         ensures connection { result.0 ≡ self.state }
         ensures out { O.given result.1 ≡ self.out }
+        ensures location { result.2 ≡ self.location }
     {
         let Exchange {
             alloc: _,
@@ -126,6 +129,23 @@ impl<S: TimedSource + Drop, K: TimedSink + Drop, B: Source + Drop, O: Sink + Dro
             location,
         } = self;
         (connection, out, location)
+    }
+
+    /// Runs the exchange, and gives the answer's status and whether it was taken to its end: what is left of one that isn't wanted
+    /// isn't read.
+    pub fn answer(&mut self, wait: u64) -> Result<(u16, bool), GetError>
+        ensures goes { OnOk result (Goes self.old self.new) }
+        ensures status { IfOk result (λ x. self.new.status ≡ Some x.0) }
+        ensures whole { IfOk result (λ x. IsTrue x.1 → IsWhole self.new.state) }
+    {
+        match self.run(wait) {
+            Ok(status) => Ok((status, true)),
+            Err(GetError::Unwanted) => match self.status {
+                Some(status) => Ok((status, false)),
+                None => Err(GetError::Unwanted),
+            },
+            Err(error) => Err(error),
+        }
     }
 
     /// Sends the request and takes its answer, until the answer is whole, and gives its status. Nothing may move for at most

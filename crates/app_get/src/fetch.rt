@@ -1,5 +1,6 @@
 //! How a URL is fetched.
-ghost use Rattle.std.specs.Prelude.{None};
+ghost use Rattle.std.specs.Prelude.{None, IfOk};
+ghost use Rattle.app_get.specs.Answering.{IsAskedAt, IsReplyOver, IsReplyAt};
 
 use crate::answer::Wanted;
 use crate::each::{Fetches, fetch_each};
@@ -11,11 +12,10 @@ use crate::options::Options;
 use crate::output::OutputFile;
 use crate::redirect::Hop;
 use crate::request::{ask, head_for, is_repeatable, method_for};
-use crate::target::Target;
 use crate::tries::{Tries, try_twice};
 use bytes::Bytes;
 use http_framing::BodySize;
-use http_types::{HeaderValue, ReadSource, Sink, Source, StdSink, SureSource};
+use http_types::{ReadSource, Sink, Source, StdSink, SureSource};
 use net_sockets::{SocketSink, SocketSource, moment};
 use std::fs::File;
 use std::io::ErrorKind;
@@ -30,8 +30,6 @@ pub fn fetch_all(rt: HostRuntime, options: &Options<'_>) -> u8 {
         options,
         kept: None,
         has_written: false,
-        hop: Hop::first(),
-        location: None,
     };
     let refused = if options.is_failing {
         GetError::Unwanted.status()
@@ -50,75 +48,93 @@ struct Fetcher<'a, 'w> {
 
     // Something was written to the file for bodies.
     has_written: bool,
-
-    // What redirects have changed, and where the last answer leads.
-    hop: Hop,
-    location: Option<HeaderValue>,
 }
 
 impl<'a, 'w> Fetcher<'a, 'w> {
     // Over this connection, or over a new one, which is kept.
-    fn over(&mut self, target: &Target, kept: Option<Link>) -> Result<u16, GetError> {
-        if self.hop.by_get {
-            return self.send::<SureSource>(target, kept, None, BodySize::None);
+    fn over(&mut self, stage: &Stage, kept: Option<Link>) -> Result<Reply, GetError>
+        ensures { IfOk result (IsReplyAt self.new.options.now stage.now) }
+    {
+        if stage.hop.by_get {
+            return self.send::<SureSource>(stage, kept, None, BodySize::None);
         }
-        if let Some(text) = self.options.text {
-            let Ok(bytes) = Bytes::copy_from_slice(self.rt.alloc(), text.as_bytes()) else {
-                return Err(GetError::NoMemory);
-            };
-            let size = if self.options.is_chunked {
-                BodySize::Stream
-            } else {
-                BodySize::Sized(text.len() as u64)
-            };
-            return self.send(target, kept, Some(SureSource::new(bytes)), size);
+        match self.options.text {
+            Some(text) => self.send_text(stage, kept, text),
+            None => self.send_file(stage, kept),
         }
+    }
+
+    fn send_text(
+        &mut self,
+        stage: &Stage,
+        kept: Option<Link>,
+        text: &str,
+    ) -> Result<Reply, GetError>
+        ensures { IfOk result (IsReplyAt self.new.options.now stage.now) }
+    {
+        let Ok(bytes) = Bytes::copy_from_slice(self.rt.alloc(), text.as_bytes()) else {
+            return Err(GetError::NoMemory);
+        };
+        let size = if self.options.is_chunked {
+            BodySize::Stream
+        } else {
+            BodySize::Sized(text.len() as u64)
+        };
+        self.send(stage, kept, Some(SureSource::new(bytes)), size)
+    }
+
+    fn send_file(&mut self, stage: &Stage, kept: Option<Link>) -> Result<Reply, GetError>
+        ensures { IfOk result (IsReplyAt self.new.options.now stage.now) }
+    {
         let (file, size) = open(self.rt, self.options)?;
-        self.send(target, kept, file, size)
+        self.send(stage, kept, file, size)
     }
 
     // The same, where this is what is sent.
     fn send<B: Source + Drop>(
         &mut self,
-        target: &Target,
+        stage: &Stage,
         kept: Option<Link>,
         body: Option<B>,
         size: BodySize,
-    ) -> Result<u16, GetError> {
-        let link = ask_over(self.rt, self.options, self.hop, target, kept, size)?;
+    ) -> Result<Reply, GetError>
+        ensures { IfOk result (IsReplyAt self.new.options.now stage.now) }
+    {
+        let link = ask_over(self.rt, self.options, stage, kept, size)?;
+        let Answer { reply, link } = self.take_answer(link, body)?;
+        self.kept = link;
+        Ok(reply)
+    }
+
+    // Takes the answer, and writes it where it is to be written.
+    fn take_answer<B: Source + Drop>(
+        &mut self,
+        link: Link,
+        body: Option<B>,
+    ) -> Result<Answer, GetError>
+        ensures reply { IfOk result (λ answer. IsReplyOver link.connection answer.reply) }
+        ensures options { self.new.options.now ≡ self.old.options.now }
+    {
         match self.options.output {
             Some(path) => {
                 let out = OutputFile::new(self.rt, path, self.has_written);
                 let (answer, out) = exchange_over(self.rt, self.options, link, body, out)?;
                 self.has_written = out.end(answer.link.is_some())?;
-                Ok(self.note(answer))
+                Ok(answer)
             }
             None => {
                 let out = StdSink::new(self.rt.stdout());
                 let (answer, _) = exchange_over(self.rt, self.options, link, body, out)?;
-                Ok(self.note(answer))
+                Ok(answer)
             }
         }
     }
-
-    // Keeps the connection, and where the answer leads.
-    fn note(&mut self, answer: Answer) -> u16 {
-        let Answer {
-            status,
-            location,
-            link,
-        } = answer;
-        self.location = location;
-        self.kept = link;
-        status
-    }
 }
 
-// What came of an exchange: the status, where the answer leads, and the connection, if the answer was taken to its end.
+// What came of an exchange: what the answer says, and the connection, if the answer was taken to its end.
 #[derive(Drop)]
 struct Answer {
-    status: u16,
-    location: Option<HeaderValue>,
+    reply: Reply,
     link: Option<Link>,
 }
 
@@ -149,12 +165,11 @@ impl<'a, 'w> Asks for Fetcher<'a, 'w> {
     // Nor is what is asked.
     ghost asked = { λ _. None };
 
+    ghost answers = { λ f. IsReplyAt f.options.now };
+
     fn ask_at(&mut self, stage: &Stage) -> Result<Reply, GetError> {
-        self.hop = stage.hop;
         let is_once = !is_repeatable(self.options);
-        let status = try_twice(self, &stage.target, is_once)?;
-        let location = self.location.take();
-        Ok(Reply { status, location })
+        try_twice(self, stage, is_once)
     }
 }
 
@@ -173,28 +188,32 @@ impl<'a, 'w> Tries for Fetcher<'a, 'w> {
     // Nor are tries.
     ghost tried = { λ _. None };
 
-    fn over_kept(&mut self, target: &Target) -> Option<Result<u16, GetError>> {
+    ghost gives = { λ f. IsReplyAt f.options.now };
+
+    fn over_kept(&mut self, stage: &Stage) -> Option<Result<Reply, GetError>> {
         let link = self.kept.take()?;
-        if link.serves(&self.rt, target) {
-            Some(self.over(target, Some(link)))
+        if link.serves(&self.rt, &stage.target) {
+            Some(self.over(stage, Some(link)))
         } else {
             None
         }
     }
 
-    fn over_new(&mut self, target: &Target) -> Result<u16, GetError> {
-        self.over(target, None)
+    fn over_new(&mut self, stage: &Stage) -> Result<Reply, GetError> {
+        self.over(stage, None)
     }
 }
 
-// Takes the answer. What is left of one that isn't wanted isn't read.
+// Takes the answer to what was asked over this connection.
 fn exchange_over<B: Source + Drop, O: Sink + Drop>(
     rt: HostRuntime,
     options: &Options<'_>,
     link: Link,
     body: Option<B>,
     out: O,
-) -> Result<(Answer, O), GetError> {
+) -> Result<(Answer, O), GetError>
+    ensures { IfOk result (λ x. IsReplyOver link.connection x.0.reply) }
+{
     let Link {
         stream,
         connection,
@@ -209,11 +228,7 @@ fn exchange_over<B: Source + Drop, O: Sink + Drop>(
         out,
         wanted_of(options),
     );
-    let (status, is_whole) = match exchange.run(options.wait) {
-        Ok(status) => (status, true),
-        Err(GetError::Unwanted) => (exchange.status.unwrap_or(0), false),
-        Err(error) => return Err(error),
-    };
+    let (status, is_whole) = exchange.answer(options.wait)?;
     let (connection, out, location) = exchange.into_parts();
     let link = if is_whole {
         Some(Link {
@@ -224,28 +239,25 @@ fn exchange_over<B: Source + Drop, O: Sink + Drop>(
     } else {
         None
     };
-    let answer = Answer {
-        status,
-        location,
-        link,
-    };
-    Ok((answer, out))
+    let reply = Reply { status, location };
+    Ok((Answer { reply, link }, out))
 }
 
 // Asks over this connection, or over a new one.
 fn ask_over(
     rt: HostRuntime,
     options: &Options<'_>,
-    hop: Hop,
-    target: &Target,
+    stage: &Stage,
     kept: Option<Link>,
     size: BodySize,
-) -> Result<Link, GetError> {
+) -> Result<Link, GetError>
+    ensures { IfOk result (λ link. IsAskedAt options.now stage.now link.connection) }
+{
     let alloc = rt.alloc();
-    let head = head_for(alloc, options, hop, target)?;
+    let head = head_for(alloc, options, stage)?;
     let mut link = match kept {
         Some(link) => link,
-        None => Link::open(&rt, alloc, target, options.wait)?,
+        None => Link::open(&rt, alloc, &stage.target, options.wait)?,
     };
     ask(&mut link.connection, moment(&rt).unwrap_or(0), &head, size)?;
     Ok(link)

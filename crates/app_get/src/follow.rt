@@ -1,9 +1,8 @@
 //! Redirect after redirect.
 ghost use Rattle.std.specs.Prelude.{◌≡◌, ◌⊎◌, true, Option, List, [], ◌∷◌, IfOk, IfErr};
-ghost use Rattle.http_uri.specs.Uri.{Spells};
-ghost use Rattle.url.specs.Parts.{serialize};
 ghost use Rattle.app_get.specs.Fetching.{Notes};
-ghost use Rattle.app_get.specs.Following.{Asked, came, is_followed, is_of_url, IsFirst, Leads, IsBarred, Follows};
+ghost use Rattle.app_get.specs.Following.{Asked, came, is_followed, IsFirst, IsRefused, Leads, IsBarred, IsTurn, Follows};
+ghost use Rattle.app_get.specs.Places.{IsTargetOf, HasNoTarget};
 
 use crate::error::GetError;
 use crate::redirect::{Hop, is_redirect, is_same_place, read_url, resolve};
@@ -32,12 +31,29 @@ pub struct Reply {
 
 /// What asks for URLs.
 pub trait Asks {
+    ghost use Rattle.app_get.specs.declared.follow.Reply.{Reply};
+    ghost use Rattle.app_get.specs.declared.follow.Stage.{Stage};
+
     /// What was asked so far, the last first, where that is told.
     ghost asked: { Self → Option (List Asked) };
 
+    /// What answers a request for a stage.
+    ghost answers: { Self → Stage → Reply → Type 0 };
+
     /// Asks there.
     fn ask_at(&mut self, stage: &Stage) -> Result<Reply, GetError>
-        ensures { Notes (asked self.old) (came stage.now result ∷ []) (asked self.new) };
+        ensures noted { Notes (asked self.old) (came stage.now result ∷ []) (asked self.new) }
+        ensures answered { IfOk result (answers self.new stage.now) };
+}
+
+/// What comes of asking once.
+#[derive(Drop)]
+pub enum Turn {
+    /// The status of an answer that isn't followed.
+    Last(u16),
+
+    /// Where a redirect leads.
+    On(Stage),
 }
 
 /// Asks for a URL by this method, and, where redirects are followed, for what they name: ten of them at most. It gives the status
@@ -52,18 +68,29 @@ pub fn follow<A: Asks>(
     ensures { Follows (A.asked asks.old) url.now method.now follows (A.asked asks.new) result }
 {
     let mut stage = Stage::first(alloc, url)?;
-    for _turn in 0..MOST_REDIRECTS {
-        let reply = asks.ask_at(&stage)?;
-        if !reply.is_followed(follows) {
-            return Ok(reply.status);
+    for _turn in 0..MOST_REDIRECTS + 1 {
+        match ask_once(alloc, asks, &stage, method, follows)? {
+            Turn::Last(status) => return Ok(status),
+            Turn::On(next) => stage = next,
         }
-        stage = stage.after(alloc, method, &reply)?;
     }
-    let reply = asks.ask_at(&stage)?;
-    if reply.is_followed(follows) {
-        return Err(GetError::Redirects);
+    Err(GetError::Redirects)
+}
+
+fn ask_once<A: Asks>(
+    alloc: Global,
+    asks: &mut A,
+    stage: &Stage,
+    method: &[u8],
+    follows: bool,
+) -> Result<Turn, GetError>
+    ensures { IsTurn (A.asked asks.old) stage.now method.now follows (A.asked asks.new) result }
+{
+    let reply = asks.ask_at(stage)?;
+    if !reply.is_followed(follows) {
+        return Ok(Turn::Last(reply.status));
     }
-    Ok(reply.status)
+    Ok(Turn::On(stage.after(alloc, method, &reply)?))
 }
 
 impl Reply {
@@ -78,11 +105,11 @@ impl Reply {
 impl Stage {
     // Of the URL itself. What a URL can't hold is escaped.
     fn first(alloc: Global, text: &str) -> Result<Stage, GetError>
-        ensures ok { IfOk result (λ stage. IsFirst text.now stage) }
-        ensures err { IfErr result (λ error. is_of_url error ≡ true) }
+        ensures ok { IfOk result (IsFirst text.now) }
+        ensures err { IfErr result (IsRefused text.now) }
     {
         let url = read_url(alloc, text)?;
-        let target = Target::read(alloc, url.as_str())?;
+        let target = Target::of(alloc, &url)?;
         Ok(Stage {
             url,
             target,
@@ -92,8 +119,8 @@ impl Stage {
 
     // Where a redirect leads.
     fn after(&self, alloc: Global, method: &[u8], reply: &Reply) -> Result<Stage, GetError>
-        ensures ok { IfOk result (λ next. Leads method.now self.now reply.now next) }
-        ensures err { IfErr result (λ error. IsBarred self.now reply.now error) }
+        ensures ok { IfOk result (Leads method.now self.now reply.now) }
+        ensures err { IfErr result (IsBarred self.now reply.now) }
     {
         let Some(location) = &reply.location else {
             return Err(GetError::Location);
@@ -110,10 +137,10 @@ impl Stage {
 
 // What the URL of a redirect leads to.
 fn redirected(alloc: Global, url: &Url) -> Result<Target, GetError>
-    ensures ok { IfOk result (λ target. Spells (serialize url.now) target.uri) }
-    ensures err { IfErr result (λ error. (error ≡ GetError.NoMemory) ⊎ (error ≡ GetError.Elsewhere)) }
+    ensures ok { IfOk result (IsTargetOf url.now) }
+    ensures err { IfErr result (λ error. (error ≡ GetError.NoMemory) ⊎ ((error ≡ GetError.Elsewhere) × HasNoTarget url.now)) }
 {
-    match Target::read(alloc, url.as_str()) {
+    match Target::of(alloc, url) {
         Ok(target) => Ok(target),
         Err(GetError::NoMemory) => Err(GetError::NoMemory),
         Err(_) => Err(GetError::Elsewhere),

@@ -1,8 +1,8 @@
 //! Where a redirect leads, and what is asked there.
-ghost use Rattle.std.specs.Prelude.{◌≡◌, ◌⊎◌, None, Ok, Some, true, false, IfOk, IfErr};
+ghost use Rattle.std.specs.Prelude.{◌≡◌, ◌⊎◌, None, Ok, Some, true, false, IsErr, IfOk, IfErr};
 ghost use Rattle.url.specs.Parser.{parse_url};
 ghost use Rattle.app_get.specs.Redirects.{is_redirect, turns_to_get, is_same_place, IsHop, hop_method};
-ghost use Rattle.app_get.specs.Following.{is_of_url, NamesNone};
+ghost use Rattle.app_get.specs.Following.{NamesNone};
 
 use crate::error::GetError;
 use crate::target::Target;
@@ -73,11 +73,12 @@ pub fn is_same_place(old: &Target, new: &Target) -> bool
 /// Reads a URL that the user names. What a URL can't hold is escaped, as the URL Standard has it.
 pub fn read_url(alloc: Global, text: &str) -> Result<Url, GetError>
     ensures ok { IfOk result (λ url. parse_url None text.now ≡ Ok url) }
-    ensures err { IfErr result (λ error. is_of_url error ≡ true) }
+    ensures err { IfErr result (λ error. (error ≡ GetError.NoMemory) ⊎ ((error ≡ GetError.Url) × IsErr (parse_url None text.now))) }
 {
     match Url::parse(alloc, text) {
         Ok(url) => Ok(url),
         Err(ParseError::OutOfMemory) => Err(GetError::NoMemory),
+        Err(ParseError::Overflow) => Err(GetError::NoMemory),
         Err(_) => Err(GetError::Url),
     }
 }

@@ -1,14 +1,15 @@
 //! What is asked.
-ghost use Rattle.std.specs.Prelude.{◌≡◌, ◌||◌, None, is_some, OnOk, IfOk, IfErr};
+ghost use Rattle.std.specs.Prelude.{◌≡◌, None, OnOk, IfOk, IfErr};
 ghost use Rattle.http_header.specs.FieldValue.{plain_value};
 ghost use Rattle.h1_client.specs.ClientMeaning.{request_of};
 ghost use Rattle.h1_encoder.specs.Meaning.{size_of};
 ghost use Rattle.app_get.specs.Redirects.{hop_method, hop_has_body, without_secrets, without_content, hop_fields};
 ghost use Rattle.app_get.specs.Asking.{TellsTime, Asks, IsUnasked};
-ghost use Rattle.app_get.specs.Heads.{asked_method, is_repeatable, target_authority, general_headers, body_type, typed, asked_headers, AsksFor};
+ghost use Rattle.app_get.specs.Heads.{sends_body, asked_method, is_repeatable, target_authority, general_headers, body_type, typed, asked_headers, AsksFor};
 
 use crate::error::GetError;
 use crate::fields::put_fields;
+use crate::follow::Stage;
 use crate::options::Options;
 use crate::redirect::Hop;
 use crate::target::Target;
@@ -51,33 +52,32 @@ fn tell_time(connection: &mut ClientConnection, moment: u64)
     connection.tick(moment);
 }
 
-/// The head of the request for a target.
+/// The head of the request for a stage.
 pub fn head_for(
     alloc: Global,
     options: &Options<'_>,
-    hop: Hop,
-    target: &Target,
+    stage: &Stage,
 ) -> Result<RequestHead, GetError>
-    ensures { IfOk result (λ head. AsksFor target.now hop options.now.method options.now.is_head (is_some options.now.file || is_some options.now.text) options.now.is_form options.now.fields head) }
+    ensures { IfOk result (AsksFor options.now stage.now) }
 {
-    let Ok(uri) = target.uri.clone() else {
+    let Ok(uri) = stage.target.uri.clone() else {
         return Err(GetError::NoMemory);
     };
-    let headers = headers_for(alloc, options, hop, target)?;
-    let method = method_for(options, hop)?;
+    let headers = headers_for(alloc, options, stage.hop, &stage.target)?;
+    let method = method_for(options, stage.hop)?;
     Ok(RequestHead::from_parts(method, uri, Version::HTTP_11, headers))
 }
 
 /// Whether the request may be asked once more over another connection.
 pub fn is_repeatable(options: &Options<'_>) -> bool
-    ensures { result ≡ is_repeatable options.now.method (is_some options.now.file || is_some options.now.text) }
+    ensures { result ≡ is_repeatable options.now.method (sends_body options.now) }
 {
     options.method.is_none() && !options.has_body()
 }
 
 /// The method that it is asked by.
 pub fn method_for(options: &Options<'_>, hop: Hop) -> Result<Method, GetError>
-    ensures { IfOk result (λ method. method ≡ hop_method hop (asked_method options.now.method options.now.is_head (is_some options.now.file || is_some options.now.text))) }
+    ensures { IfOk result (λ method. method ≡ hop_method hop (asked_method options.now.method options.now.is_head (sends_body options.now))) }
 {
     if hop.by_get {
         return Ok(Method::GET);
@@ -106,7 +106,7 @@ fn headers_for(
     hop: Hop,
     target: &Target,
 ) -> Result<HeaderMap, GetError>
-    ensures { IfOk result (λ headers. headers ≡ asked_headers (target_authority target.now) (hop_has_body hop (is_some options.now.file || is_some options.now.text)) options.now.is_form (hop_fields hop options.now.fields)) }
+    ensures { IfOk result (λ headers. headers ≡ asked_headers (target_authority target.now) (hop_has_body hop (sends_body options.now)) options.now.is_form (hop_fields hop options.now.fields)) }
 {
     let mut headers = general_headers(alloc, target)?;
     put_type(&mut headers, has_body(options, hop), options.is_form)?;
@@ -116,7 +116,7 @@ fn headers_for(
 
 /// Whether it has a body.
 pub fn has_body(options: &Options<'_>, hop: Hop) -> bool
-    ensures { result ≡ hop_has_body hop (is_some options.now.file || is_some options.now.text) }
+    ensures { result ≡ hop_has_body hop (sends_body options.now) }
 {
     options.has_body() && !hop.by_get
 }

@@ -9,7 +9,7 @@ use Rattle.app_get.proofs.exchange.Exchange.next_answer.Goals as goal
 pub returns-clause-heard : goal.returns-clause-heard
 returns-clause-heard g c =
     heard_as _ _ _ _ c.self.view_is
-    (one_act _ _ _ on.next _ [] [] [] [] c.self.view_is c.in_ok-next.ensures.stands (next_moves _ _ _ c.noted-self-inside.ensures)
+    (one_act _ _ _ on.next _ [] [] [] [] c.self.view_is c.in_ok-next.ensures.stands (next_moves _ _ _ _ _ c.noted-self-inside.ensures c.in_ok-self-inside.ensures)
     (Consumes-nil _) (Appends-nil _) (Consumes-nil _) (λ _. Appends-nil _) (ends_none on.next _ _ refl refl refl) (quiet_still _ _ refl (Keeps-refl _)
     (λ _. subst (λ (e : Ends). is_unread e ≡ true) (sym c.self.view_is) (ap (has_none_wanted _) c.requires.none))) refl)
     c.in_ok-next.ensures.stands c.noted-self-inside.ensures (Keeps-refl _)

@@ -20,7 +20,7 @@ returns-in-Bytes-clause-taken g c =
 pub returns-in-Trailers-clause-taken : goal.returns-in-Trailers-clause-taken
 returns-in-Trailers-clause-taken g c =
     one_act _ _ _ on.pull _ [] [] [] [] c.self.view_is c.in_ok-bytes.ensures.stands
-    (λ o says. let s = subst (λ x. SaysPulled x o) c.in-Trailers.is says in none_moves (on.trailers s.0) _ refl refl refl o s.1)
+    (λ o says. let s = subst (λ x. SaysPulled x o) c.in-Trailers.is says in none_moves (on.trailers s.0) _ refl refl refl refl o s.1)
     (Consumes-nil _) (Appends-nil _) (Consumes-nil _) (λ _. Appends-nil _) (ends_none on.pull _ _ refl refl refl)
     (quiet_wanted _ _ _ refl (subst (λ (e : Ends). is_some e.status ≡ true) (sym c.self.view_is) c.requires.noted)
     (subst (λ (e : Ends). is_unread e ≡ false) (sym c.self.view_is) c.requires.wanted)) refl
@@ -28,7 +28,7 @@ returns-in-Trailers-clause-taken g c =
 pub returns-in-End-clause-taken : goal.returns-in-End-clause-taken
 returns-in-End-clause-taken g c =
     one_act _ _ _ on.pull _ [] [] [] [] c.self.view_is c.in_ok-bytes.ensures.stands
-    (λ o says. none_moves on.body_ended _ refl refl refl o (subst (λ x. SaysPulled x o) c.in-End.is says))
+    (λ o says. none_moves on.body_ended _ refl refl refl refl o (subst (λ x. SaysPulled x o) c.in-End.is says))
     (Consumes-nil _) (Appends-nil _) (Consumes-nil _) (λ _. Appends-nil _) (ends_none on.pull _ _ refl refl refl)
     (quiet_wanted _ _ _ refl (subst (λ (e : Ends). is_some e.status ≡ true) (sym c.self.view_is) c.requires.noted)
     (subst (λ (e : Ends). is_unread e ≡ false) (sym c.self.view_is) c.requires.wanted)) refl
@@ -36,7 +36,7 @@ returns-in-End-clause-taken g c =
 pub returns-clause-taken : goal.returns-clause-taken
 returns-clause-taken g c = (
   one_act _ _ _ on.pull _ [] [] [] [] c.self.view_is c.in_ok-bytes.ensures.stands
-      (λ o says. none_moves on.pending _ refl refl refl o (subst (λ x. SaysPulled x o) c.in-Pending.is says))
+      (λ o says. none_moves on.pending _ refl refl refl refl o (subst (λ x. SaysPulled x o) c.in-Pending.is says))
       (Consumes-nil _) (Appends-nil _) (Consumes-nil _) (λ _. Appends-nil _) (ends_none on.pull _ _ refl refl refl)
       (quiet_wanted _ _ _ refl (subst (λ (e : Ends). is_some e.status ≡ true) (sym c.self.view_is) c.requires.noted)
       (subst (λ (e : Ends). is_unread e ≡ false) (sym c.self.view_is) c.requires.wanted)) refl,

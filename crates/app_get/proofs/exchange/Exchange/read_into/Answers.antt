@@ -26,7 +26,7 @@ returns-else-branch-count-clause-goes g c =
 
 pub returns-in-Err-clause-goes : goal.returns-in-Err-clause-goes
 returns-in-Err-clause-goes g c =
-    no_step _ _ _ c.self.view_is refl c.in-Err.ensures.bytes (Keeps-refl _) (Consumes-nil _) (λ _. Appends-nil _) (quiet_still _ _ refl (Keeps-refl _) (λ is. is)) refl refl
+    no_step _ _ _ c.self.view_is refl c.in-Err.ensures.bytes (Keeps-refl _) (Consumes-nil _) (λ _. Appends-nil _) (quiet_still _ _ refl (Keeps-refl _) (λ is. is)) refl refl refl
 
 pub returns-in_err-read-in-Ok-clause-stops : goal.returns-in_err-read-in-Ok-clause-stops
 returns-in_err-read-in-Ok-clause-stops g c = err_stops _ _ _ _ c.from_residual.ensures.1 (no_memory _ _ _ _ c.self.view_is refl (Keeps-refl _))

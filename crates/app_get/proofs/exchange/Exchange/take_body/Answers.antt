@@ -8,7 +8,7 @@ pub returns-then-status-eq101-clause-stops : goal.returns-then-status-eq101-clau
 returns-then-status-eq101-clause-stops g c = protocol_stops _ _ _ refl (c.requires ∙ ap (λ (n : ℕ). Some n) c.if-status-eq101.true) (Keeps-refl _)
 
 pub returns-then-is_unwanted-clause-stops : goal.returns-then-is_unwanted-clause-stops
-returns-then-is_unwanted-clause-stops g c = unwanted_stops _ _ _ _ refl c.requires (sym c.is_unwanted.ensures ∙ c.if-is_unwanted.true) (Keeps-refl _)
+returns-then-is_unwanted-clause-stops g c = unwanted_stops _ _ c.requires (sym c.is_unwanted.ensures ∙ c.if-is_unwanted.true)
 
 pub pull-requires-clause-wanted : goal.pull-requires-clause-wanted
 pull-requires-clause-wanted g c = ap (has_none_wanted _) c.requires ∙ sym c.is_unwanted.ensures ∙ c.if-is_unwanted.false

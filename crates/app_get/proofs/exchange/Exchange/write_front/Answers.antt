@@ -28,11 +28,11 @@ returns-in-Ok g c =
 pub returns-in-Err : goal.returns-in-Err
 returns-in-Err g c =
     none_now _ _ _ c.self.view_is
-    (no_step _ _ _ c.self.view_is refl (Keeps-refl _) c.in-Err.ensures.bytes (Consumes-nil _) (λ _. Appends-nil _) (quiet_still _ _ refl (Keeps-refl _) (λ is. is)) refl refl)
+    (no_step _ _ _ c.self.view_is refl (Keeps-refl _) c.in-Err.ensures.bytes (Consumes-nil _) (λ _. Appends-nil _) (quiet_still _ _ refl (Keeps-refl _) (λ is. is)) refl refl refl)
     c.in-Err.ensures.cause.failed (Keeps-refl _) refl
 
 pub returns-in-Err-2 : goal.returns-in-Err-2
 returns-in-Err-2 g c =
     none_now _ _ _ c.self.view_is
-    (no_step _ _ _ c.self.view_is refl (Keeps-refl _) c.in-Err-2.ensures.bytes (Consumes-nil _) (λ _. Appends-nil _) (quiet_still _ _ refl (Keeps-refl _) (λ is. is)) refl refl)
+    (no_step _ _ _ c.self.view_is refl (Keeps-refl _) c.in-Err-2.ensures.bytes (Consumes-nil _) (λ _. Appends-nil _) (quiet_still _ _ refl (Keeps-refl _) (λ is. is)) refl refl refl)
     c.in-Err-2.ensures.cause.failed (Keeps-refl _) refl
