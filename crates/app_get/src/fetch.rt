@@ -1,5 +1,5 @@
 //! How a URL is fetched.
-ghost use Rattle.std.specs.Prelude.{None, IfOk};
+ghost use Rattle.std.specs.Prelude.{◌≡◌, None, IfOk};
 ghost use Rattle.app_get.specs.Answering.{IsAskedAt, IsReplyOver, IsReplyAt};
 
 use crate::answer::Wanted;
