@@ -1,4 +1,3 @@
-pub mod Answering
 pub mod Asking
 pub mod Freed
 pub mod Going

@@ -1,5 +1,5 @@
 //! The file that bodies are written to.
-ghost use Rattle.std.specs.Prelude.{None};
+ghost use Rattle.std.specs.Prelude.{◌≡◌, None};
 
 use crate::error::GetError;
 use http_types::{Failed, Sink, WriteSink};
@@ -40,7 +40,9 @@ impl<'a> OutputFile<'a> {
         Ok(self.is_begun || self.file.is_some())
     }
 
-    fn open(&mut self) {
+    fn open(&mut self)
+        ensures { self.new.faults ≡ self.old.faults }
+    {
         if self.file.is_some() {
             return;
         }

@@ -11,7 +11,7 @@ pub returns-then-is_unwanted-clause-stops : goal.returns-then-is_unwanted-clause
 returns-then-is_unwanted-clause-stops g c = unwanted_stops _ _ c.requires (sym c.is_unwanted.ensures ∙ c.if-is_unwanted.true)
 
 pub pull-requires-clause-wanted : goal.pull-requires-clause-wanted
-pull-requires-clause-wanted g c = ap (has_none_wanted _) c.requires ∙ sym c.is_unwanted.ensures ∙ c.if-is_unwanted.false
+pull-requires-clause-wanted g c = ap (has_none_wanted c.args.self.now.wanted) c.requires ∙ sym c.is_unwanted.ensures ∙ c.if-is_unwanted.false
 
 pub finish-requires-clause-wanted : goal.finish-requires-clause-wanted
 finish-requires-clause-wanted g c = sym c.is_unwanted.ensures ∙ c.if-is_unwanted.false
