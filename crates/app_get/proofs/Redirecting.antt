@@ -1,14 +1,13 @@
 -- Redirect after redirect.
-use Rattle.std.specs.Prelude.{◌≡◌, ℕ, ◌+◌, ◌≤◌, Bool, true, List, [], ◌∷◌, ◌++◌, length, Option, Result, Ok, Err, IsErrAnd}
+use Rattle.std.specs.Prelude.{◌≡◌, ℕ, ◌+◌, ◌≤◌, Bool, List, [], ◌∷◌, length, Option, Result, Ok, Err, IsErrAnd}
 use Rattle.std.proofs.Common.{refl, sym, subst, ◌∙◌, inl, inr, arith}
 use Rattle.app_get.specs.declared.error.GetError.{GetError}
 use Rattle.app_get.specs.declared.error.GetError.TheVariants as get_error
 use Rattle.app_get.specs.declared.follow.Stage.{Stage}
-use Rattle.app_get.specs.declared.follow.Reply.{Reply}
 use Rattle.app_get.specs.declared.follow.Turn.{Turn}
 use Rattle.app_get.specs.declared.follow.Turn.TheVariants as turning
 use Rattle.app_get.specs.Fetching.{Notes}
-use Rattle.app_get.specs.Following.{Asked, came, is_followed, IsFirst, Leads, IsWay, IsRefused, IsBarred, IsTurn, IsEnd, Follows}
+use Rattle.app_get.specs.Following.{Asked, came, IsFirst, IsWay, IsRefused, IsTurn, Follows}
 use Rattle.app_get.proofs.Outcomes.{notes_none, notes_then}
 
 -- so many redirects led here

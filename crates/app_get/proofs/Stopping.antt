@@ -1,6 +1,6 @@
 -- Where an exchange stops.
 use Rattle.std.specs.Prelude.{◌≡◌, ℕ, ◌-◌, ◌≤◌, nat_lt, Bool, true, false, List, length, take, if◌then◌else◌, Option, Some, None, Result, Ok, Err, IfErr, OnErr, IsErrAnd, ◌⊎◌}
-use Rattle.std.proofs.Common.{refl, sym, ap, subst, ◌∙◌, inl, inr}
+use Rattle.std.proofs.Common.{refl, sym, subst, ◌∙◌, inl, inr}
 use Rattle.std.proofs.lemmas.List.{length-take-le}
 use Rattle.std.specs.Io.KnownBytes.{Keeps}
 use Rattle.std.proofs.KnownBytes.{Keeps-refl}
@@ -21,7 +21,7 @@ use Rattle.model_client.specs.ClientKept.{client_closing}
 use Rattle.app_get.specs.declared.error.GetError.{GetError}
 use Rattle.app_get.specs.declared.error.GetError.TheVariants as get_error
 use Rattle.app_get.specs.Exchange.{Ends, Goes, Acts, noted_by, is_unwanted, is_failure, IsWaiting}
-use Rattle.app_get.specs.Failure.{Hears, Heard, Draws, IsStuck, BreaksOff, IsUnwanted, IsCause, IsPart, IsUnshown, WritesOut, Fails, Stops, IsEndless, is_heard, error_by}
+use Rattle.app_get.specs.Failure.{Hears, Heard, Draws, IsStuck, BreaksOff, IsCause, IsPart, IsUnshown, WritesOut, Fails, Stops, IsEndless, is_heard, error_by}
 use Rattle.app_get.specs.Patience.{left_of}
 use Rattle.app_get.proofs.Going.{goes_none, goes_as, goes_then}
 

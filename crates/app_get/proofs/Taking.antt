@@ -1,11 +1,11 @@
 -- What is taken of an answer.
-use Rattle.std.specs.Prelude.{◌≡◌, ◌≢◌, ℕ, ◌+◌, ◌≤◌, Bool, false, length, Option, Some, Result, Ok, Err, IfOk, IsTrue}
+use Rattle.std.specs.Prelude.{◌≡◌, ◌≢◌, ℕ, ◌+◌, ◌≤◌, false, length, Some, Result, Ok, Err, IfOk, IsTrue}
 use Rattle.std.proofs.Common.{refl, sym, ap, subst, ◌∙◌, None, inl, inr, arith}
 use Rattle.h1_client.specs.Answers.{SaysNext}
 use Rattle.h1_client.specs.declared.event.NextAnswer.{NextAnswer}
 use Rattle.h1_client.specs.declared.event.NextAnswer.TheVariants as next
 use Rattle.h1_client.specs.ClientMeaning.{setting_of}
-use Rattle.h1_client.specs.State.{State, Stands, GoesOn, Is}
+use Rattle.h1_client.specs.State.{State, GoesOn, Is}
 use Rattle.model_client.specs.ClientEvent as on
 use Rattle.model_client.specs.ClientEvent.{ClientEvent, ClientOutcome, ClientEnd}
 use Rattle.model_client.specs.ClientKept.{client_allows, client_closing}

@@ -8,7 +8,7 @@ use Rattle.h1_payload.specs.declared.pulled.Pulled.TheVariants as pulled
 use Rattle.h1_client.specs.Answers.{SaysNext}
 use Rattle.h1_client.specs.Bodies.{SaysPulled}
 use Rattle.h1_client.specs.ClientMeaning.{setting_of}
-use Rattle.h1_client.specs.State.{State, GoesOn, Is}
+use Rattle.h1_client.specs.State.{GoesOn, Is}
 use Rattle.h1_client.specs.declared.event.ClientEnd.{ClientEnd}
 use Rattle.h1_client.specs.declared.event.ClientEnd.TheVariants as end
 use Rattle.h1_client.specs.declared.event.NextAnswer.{NextAnswer}

@@ -1,5 +1,5 @@
 -- What is asked after a redirect (RFC 9110, section 15.4).
-use Rattle.std.specs.Prelude.{◌≡◌, ℕ, Bool, true, ◌&&◌, ◌||◌, not, ◌==◌, List, codes, bytes_eq, if◌then◌else◌}
+use Rattle.std.specs.Prelude.{◌≡◌, ℕ, Bool, ◌&&◌, ◌||◌, not, ◌==◌, List, codes, bytes_eq, if◌then◌else◌}
 use Rattle.http_map.specs.HeaderMap.{Entries, remove}
 use Rattle.app_get.specs.Places.{target_host}
 use Rattle.app_get.specs.declared.redirect.Hop.{Hop}

@@ -207,10 +207,7 @@ impl<S: TimedSource + Drop, K: TimedSink + Drop, B: Source + Drop, O: Sink + Dro
 }
 
 // The Location of the last head.
-fn led(
-    next: &NextAnswer,
-    before: Option<HeaderValue>,
-) -> Result<Option<HeaderValue>, NoMemory>
+fn led(next: &NextAnswer, before: Option<HeaderValue>) -> Result<Option<HeaderValue>, NoMemory>
     ensures { IfOk result (λ found. (out : on.ClientOutcome) → SaysNext next.now out → found ≡ led_by out before) }
 {
     match next {

@@ -1,5 +1,4 @@
 use Rattle.std.proofs.Common.{refl, inr, arith}
-use Rattle.app_get.specs.Exchange.{Goes, Acts}
 use Rattle.app_get.proofs.Going.{goes_none, goes_then, taken_goes, acts_then, then_acts}
 use Rattle.app_get.proofs.Stopping.{err_ends, stops_then}
 use Rattle.app_get.proofs.Taking.{part_acts, nothing_acts, nothing_pending, whole_is, turned_as}
