@@ -126,9 +126,11 @@ most_64=18446744073709551615
 
 # Reads words as the programs do: `flags` are the options without a value, `valued` those with one, and what else begins with
 # `option_mark` is no option. `value OPTION VALUE` and `operand NUMBER WORD`, which the launcher has, end by `wrong` where it is
-# out of form; they may put another word in place of `word`. What they leave is in `words`, the number of operands in `operands`.
+# out of form; they may put another word in place of `word`. What they leave is in `words`, the flags in
+# `given`, the number of operands in `operands`.
 read_words() {
     words=()
+    given=
     operands=0
     while [ $# -gt 0 ]; do
         word=$1
@@ -137,12 +139,12 @@ read_words() {
             --version) text_of VERSION; exit 0 ;;
         esac
         if [[ " $flags " == *" $1 "* ]]; then
-            :
+            given+=" $1 "
         elif [[ " $valued " == *" $1 "* ]]; then
             words+=("$1")
+            word=${2-}
             value "$@"
             shift
-            word=$1
         elif [[ $1 == "$option_mark"* ]]; then
             wrong Option
         else

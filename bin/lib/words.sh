@@ -79,27 +79,43 @@ launch_serve() {
 }
 
 launch_get() {
-    flags="--head --chunked"
-    valued="--wait"
+    flags="--head -I --fail -f --location -L --chunked"
+    valued="--wait --data -d --output -o --request -X --header -H"
     urls=0
-    file=
-    value() { [ $# -gt 1 ] && is_number "$2" 86400 && [ "${2#+}" -gt 0 ] || wrong Wait; }
+    sent=
+    method=
+    value() {
+        [ $# -gt 1 ] || wrong NoValue
+        case $1 in
+            --wait) is_number "$2" 86400 && [ "${2#+}" -gt 0 ] || wrong Wait ;;
+            --output | -o) word=$(absolute "$2") ;;
+            --request | -X) method=own ;;
+            --data | -d)
+                [ -z "$sent" ] || wrong TwoFiles
+                sent=yes
+                [[ $2 != @* ]] || word=@$(absolute "${2#@}")
+                ;;
+        esac
+    }
     operand() {
         case $2 in
             *://*) urls=$((urls + 1)) ;;
             *)
-                [ -z "$file" ] || wrong TwoFiles
-                file=$2 word=$(absolute "$2")
+                [ -z "$sent" ] || wrong TwoFiles
+                sent=yes word=$(absolute "$2")
                 ;;
         esac
     }
     read_words "$@"
     [ "$urls" -gt 0 ] || wrong NoUrl
-    case " ${words[*]} " in
-        *" --head "*) [ -z "$file" ] || wrong HeadWithFile ;;
+    case $given in
+        *" --head "* | *" -I "*)
+            [ -z "$sent" ] || wrong HeadWithFile
+            [ -z "$method" ] || wrong HeadWithMethod
+            ;;
     esac
-    case " ${words[*]} " in
-        *" --chunked "*) [ -n "$file" ] || wrong ChunkedAlone ;;
+    case $given in
+        *" --chunked "*) [ -n "$sent" ] || wrong ChunkedAlone ;;
     esac
     answer "$@"
 }

@@ -1,12 +1,12 @@
 -- When a connection is free.
 use Rattle.std.specs.Prelude.{◌≡◌, ℕ, ◌-◌, Bool, true, false, not, ◌&&◌, ◌==◌, List, [], ◌∷◌, ◌++◌, length, take, drop, min, Option, Some, None, is_some, IsTrue, if◌then◌else◌}
 use Rattle.std.specs.Option.{option_or}
-use Rattle.std.proofs.Common.{refl, sym, ap, ◌∙◌, subst}
+use Rattle.std.proofs.Common.{refl, sym, ap, subst}
 use Rattle.model_h1.specs.Event as server
 use Rattle.model_h1.specs.Request.{Fault, malformed, too_large}
 use Rattle.model_h1.specs.Setting.{Setting}
 use Rattle.model_client.specs.AnswerParse.{is_interim}
-use Rattle.model_client.specs.AnswerReading.{Answer, AnswerReading, answer_is, refused}
+use Rattle.model_client.specs.AnswerReading.{AnswerReading, answer_is, refused}
 use Rattle.model_client.specs.ClientEvent as on
 use Rattle.model_client.specs.ClientEvent.{ClientEvent, ClientEnd, ClientOutcome}
 use Rattle.model_client.specs.ClientKept.{Waiting, SendingBody, ReadingBody, ClientKept, is_free, client_closing, client_allows}

@@ -1,12 +1,14 @@
 -- An exchange that goes on twice goes on.
-use Rattle.std.specs.Prelude.{◌≡◌, ℕ, ◌<◌, ◌≤◌, ◌+◌, Bool, true, false, ◌||◌, List, [], ◌∷◌, ◌++◌, length, Option, Some, None, Result, Ok, Err, OnOk, IsTrue}
+use Rattle.std.specs.Prelude.{◌≡◌, ℕ, ◌+◌, Bool, true, false, ◌||◌, List, [], ◌∷◌, ◌++◌, length, Option, Some, None, Result, Ok, Err, OnOk, IsTrue}
 use Rattle.std.proofs.Common.{refl, sym, ap, subst, ◌∙◌, append_assoc, append-nil, length-append, arith}
 use Rattle.std.specs.Io.KnownBytes.{Consumes, Appends, Keeps}
 use Rattle.std.proofs.KnownBytes.{Consumes-nil, Appends-nil, Consumes-trans, Appends-trans, Keeps-refl, Keeps-trans}
+use Rattle.http_header.specs.FieldValue.{FieldValue}
 use Rattle.h1_client.specs.State.{Stands}
 use Rattle.model_client.specs.ClientTrace.{Happened, taken, taken_by, written, given as gave}
 use Rattle.model_client.specs.ClientEvent.{ClientEvent}
-use Rattle.app_get.specs.Exchange.{Ends, Goes, Acts, handed, handed_by, given, given_by, noted, noted_by, has_event, ends_input, ends_body, drops_rest, Empties, IsTaken}
+use Rattle.app_get.specs.Exchange.{Ends, Goes, Acts, handed, handed_by, given, given_by, noted, noted_by, led, led_by, has_event, ends_input, ends_body, drops_rest, Empties, is_unread, IsTaken}
+use Rattle.app_get.specs.declared.answer.Wanted.{Wanted}
 use Rattle.app_get.specs.declared.answer.Taken.{Taken}
 use Rattle.app_get.specs.declared.answer.Taken.TheVariants as taking
 
@@ -31,6 +33,10 @@ given_then (y ∷ ys) xs = ap (λ (l : List ℕ). l ++ given_by y.outcome) (give
 noted_then : (ys xs : List Happened) (status : Option ℕ) → noted (ys ++ xs) status ≡ noted ys (noted xs status)
 noted_then [] xs status = refl
 noted_then (y ∷ ys) xs status = ap (noted_by y.outcome) (noted_then ys xs status)
+
+led_then : (ys xs : List Happened) (location : Option FieldValue) → led (ys ++ xs) location ≡ led ys (led xs location)
+led_then [] xs location = refl
+led_then (y ∷ ys) xs location = ap (led_by y.outcome) (led_then ys xs location)
 
 -- ---- ends that are told first or then
 
@@ -100,8 +106,10 @@ goes_none a = record {
   none_dropped = refl;
   heard = λ unheard. (unheard, refl);
   silent = λ none. (none, Keeps-refl a.out);
+  unread = λ unread. (unread, refl);
   status = refl;
-  shows = refl;
+  location = refl;
+  wanted = refl;
 }
 
 pub goes_equal : (was new : Ends) → new ≡ was → Goes was new
@@ -120,7 +128,7 @@ goes_then a b c first second = record {
   file = subst (Consumes a.file c.file) (sym (handed_then second.more first.more)) (Consumes-trans a.file b.file c.file _ _ first.file second.file);
   out = λ hides.
       subst (Appends a.out c.out) (sym (given_then second.more first.more))
-      (Appends-trans a.out b.out c.out _ _ (first.out hides) (second.out (first.shows ∙ hides)));
+      (Appends-trans a.out b.out c.out _ _ (first.out hides) (second.out (ap (λ (w : Wanted). w.head) first.wanted ∙ hides)));
   input_end = ends_then ends_input second.more first.more a.came b.came c.came _ _ first.came second.came first.input_end second.input_end;
   body_end = ends_then ends_body second.more first.more a.file b.file c.file _ _ first.file second.file first.body_end second.body_end;
   none_dropped =
@@ -134,8 +142,13 @@ goes_then a b c first second = record {
       let then_ : (b.status ≡ None) × Keeps b.out c.out = second.silent none in
       let before : (a.status ≡ None) × Keeps a.out b.out = first.silent then_.0 in
       (before.0, Keeps-trans a.out b.out c.out before.1 then_.1);
+  unread = λ unread.
+      let then_ : (is_unread b ≡ true) × (given second.more ≡ []) = second.unread unread in
+      let before : (is_unread a ≡ true) × (given first.more ≡ []) = first.unread then_.0 in
+      (before.0, given_then second.more first.more ∙ none_both (given first.more) (given second.more) before.1 then_.1);
   status = second.status ∙ ap (noted second.more) first.status ∙ sym (noted_then second.more first.more a.status);
-  shows = second.shows ∙ first.shows;
+  location = second.location ∙ ap (led second.more) first.location ∙ sym (led_then second.more first.more a.location);
+  wanted = second.wanted ∙ first.wanted;
 }
 
 -- the same, where the second may fail

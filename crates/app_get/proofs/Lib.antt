@@ -2,6 +2,7 @@ pub mod Asking
 pub mod Freed
 pub mod Going
 pub mod Outcomes
+pub mod Redirecting
 pub mod Results
 pub mod Sending
 pub mod Shown

@@ -3,7 +3,8 @@ use Rattle.std.specs.Prelude.{◌≡◌, ℕ, ◌<◌, ◌≤◌, List, [], ◌�
 use Rattle.std.proofs.Common.{refl, sym, ap, subst, ◌∙◌, append-nil, append_assoc, arith, take_all, take-append-drop, lit<}
 use Rattle.std.proofs.lemmas.List.{length-take-le}
 use Rattle.std.specs.Io.KnownBytes.{Consumes, Appends, Keeps, IsAtEnd}
-use Rattle.std.proofs.KnownBytes.{Appends-trans, Appends-kept}
+use Rattle.std.proofs.KnownBytes.{Appends-trans}
+use Rattle.http_header.specs.FieldValue.{FieldValue}
 use Rattle.h1_client.specs.Answers.{SaysNext}
 use Rattle.h1_client.specs.State.{State, Stands, GoesOn, Is}
 use Rattle.h1_client.specs.declared.event.NextAnswer.{NextAnswer}
@@ -12,18 +13,19 @@ use Rattle.model_client.specs.ClientEvent as on
 use Rattle.model_client.specs.ClientEvent.{ClientEvent, ClientOutcome}
 use Rattle.model_client.specs.AnswerParse.{is_interim}
 use Rattle.model_client.specs.ClientTrace.{Happened, taken_by, given as gave}
-use Rattle.app_get.specs.Exchange.{Ends, Goes, Acts, handed_by, given_by, noted_by, ends_input, ends_body, drops_rest, Empties}
+use Rattle.app_get.specs.Exchange.{Ends, Goes, Acts, handed_by, given_by, noted_by, led_by, ends_input, ends_body, drops_rest, Empties, is_unread}
 
 -- ---- an event
 
 -- the outcome takes these bytes, gives those to be written, hands in and hands out these of the bodies, and makes this
--- status of that one
-pub record Moves (e : ClientEvent) (o : ClientOutcome) (came sent file out : List ℕ) (before after : Option ℕ) : Type 0 where
+-- status of that one, and this Location
+pub record Moves (e : ClientEvent) (o : ClientOutcome) (came sent file out : List ℕ) (before after : Option ℕ) (was is : Option FieldValue) : Type 0 where
   pub takes : taken_by e o ≡ came
   pub gives : gave o ≡ sent
   pub hands : handed_by e ≡ file
   pub shows : given_by o ≡ out
   pub notes : after ≡ noted_by o before
+  pub leads : is ≡ led_by o was
 
 -- the event tells an end only where nothing is left, and drops nothing
 pub record EndsWhole (e : ClientEvent) (old new : Ends) : Type 0 where
@@ -43,22 +45,33 @@ pub emptied_all : (a : Option (List ℕ)) → Empties a (Some [])
 emptied_all None = tt
 emptied_all (Some xs) = refl
 
--- what isn't known to have come isn't taken, and without a status nothing is written out
-pub record IsQuiet (old new : Ends) (came : List ℕ) : Type 0 where
+-- what isn't known to have come isn't taken, without a status nothing is written out, and of what isn't wanted nothing is handed
+-- out
+pub record IsQuiet (old new : Ends) (came out : List ℕ) : Type 0 where
   pub heard : new.begun ≡ false → (old.begun ≡ false) × (came ≡ [])
   pub silent : new.status ≡ None → Keeps old.out new.out
+  pub unread : is_unread new ≡ true → (is_unread old ≡ true) × (out ≡ [])
 
 -- nothing is taken, and nothing is written out
-pub quiet_still : (old new : Ends) → new.begun ≡ old.begun → Keeps old.out new.out → IsQuiet old new []
-quiet_still old new begun out = record { heard = λ unheard. (sym begun ∙ unheard, refl); silent = λ _. out }
+pub quiet_still : (old new : Ends) → new.begun ≡ old.begun → Keeps old.out new.out → (is_unread new ≡ true → is_unread old ≡ true) → IsQuiet old new [] []
+quiet_still old new begun out unread = record { heard = λ unheard. (sym begun ∙ unheard, refl); silent = λ _. out; unread = λ is. (unread is, refl) }
 
 -- nothing is taken, and there is a status
-pub quiet_known : (old new : Ends) → new.begun ≡ old.begun → is_some new.status ≡ true → IsQuiet old new []
-quiet_known old new begun known = record { heard = λ unheard. (sym begun ∙ unheard, refl); silent = λ none. absurd (cc (sym known ∙ ap (λ (s : Option ℕ). is_some s) none)) }
+pub quiet_known : (old new : Ends) (out : List ℕ) → new.begun ≡ old.begun → is_some new.status ≡ true
+    → (is_unread new ≡ true → (is_unread old ≡ true) × (out ≡ [])) → IsQuiet old new [] out
+quiet_known old new out begun known unread = record {
+  heard = λ unheard. (sym begun ∙ unheard, refl);
+  silent = λ none. absurd (cc (sym known ∙ ap (λ (s : Option ℕ). is_some s) none));
+  unread = unread;
+}
+
+-- a piece of a body that is wanted
+pub quiet_wanted : (old new : Ends) (out : List ℕ) → new.begun ≡ old.begun → is_some new.status ≡ true → is_unread new ≡ false → IsQuiet old new [] out
+quiet_wanted old new out begun known wanted = quiet_known old new out begun known (λ is. absurd (cc (wanted, is)))
 
 -- it is known that something came
-pub quiet_heard : (old new : Ends) (came : List ℕ) → new.begun ≡ true → Keeps old.out new.out → IsQuiet old new came
-quiet_heard old new came begun out = record { heard = λ unheard. absurd (cc (begun, unheard)); silent = λ _. out }
+pub quiet_heard : (old new : Ends) (came : List ℕ) → new.begun ≡ true → Keeps old.out new.out → (is_unread new ≡ true → is_unread old ≡ true) → IsQuiet old new came []
+quiet_heard old new came begun out unread = record { heard = λ unheard. absurd (cc (begun, unheard)); silent = λ _. out; unread = λ is. (unread is, refl) }
 
 if_none : (test : Bool) (before : Option ℕ) (status : ℕ) → (if test then before else Some status) ≡ None → before ≡ None
 if_none true before status is = is
@@ -71,11 +84,11 @@ none_noted _ before is = is
 
 -- one event more, of which this holds
 pub one_with : (was old new : Ends) (e : ClientEvent) (Says : ClientOutcome → Type 0) (came sent file out : List ℕ) (P : List Happened → Type 0) → old ≡ was
-    → (goes : GoesOn old.state e Says new.state) → ((o : ClientOutcome) → Says o → Moves e o came sent file out old.status new.status)
+    → (goes : GoesOn old.state e Says new.state) → ((o : ClientOutcome) → Says o → Moves e o came sent file out old.status new.status old.location new.location)
     → Consumes old.came new.came came → Appends old.sent new.sent sent → Consumes old.file new.file file
-    → (old.shows ≡ false → Appends old.out new.out out) → EndsWhole e old new → IsQuiet old new came → new.shows ≡ old.shows
+    → (old.wanted.head ≡ false → Appends old.out new.out out) → EndsWhole e old new → IsQuiet old new came out → new.wanted ≡ old.wanted
     → P (record { event = e; outcome = goes.outcome } ∷ []) → (all : Goes was new) × P all.more
-one_with was old new e Says came sent file out P seen goes moves lost got handed told ends quiet shows holds =
+one_with was old new e Says came sent file out P seen goes moves lost got handed told ends quiet wanted holds =
     subst (λ (l : Ends). (all : Goes l new) × P all.more) seen
     (let m = moves goes.outcome goes.says in (
       record {
@@ -90,27 +103,29 @@ one_with was old new e Says came sent file out P seen goes moves lost got handed
         none_dropped = ends.keeps_rest;
         heard = λ unheard. ((quiet.heard unheard).0, m.takes ∙ (quiet.heard unheard).1);
         silent = λ none. (none_noted goes.outcome old.status (sym m.notes ∙ none), quiet.silent none);
+        unread = λ is. ((quiet.unread is).0, m.shows ∙ (quiet.unread is).1);
         status = m.notes;
-        shows = shows;
+        location = m.leads;
+        wanted = wanted;
       },
       holds,
     ))
 
 -- one event more
 pub one_act : (was old new : Ends) (e : ClientEvent) (Says : ClientOutcome → Type 0) (came sent file out : List ℕ) → old ≡ was
-    → GoesOn old.state e Says new.state → ((o : ClientOutcome) → Says o → Moves e o came sent file out old.status new.status)
+    → GoesOn old.state e Says new.state → ((o : ClientOutcome) → Says o → Moves e o came sent file out old.status new.status old.location new.location)
     → Consumes old.came new.came came → Appends old.sent new.sent sent → Consumes old.file new.file file
-    → (old.shows ≡ false → Appends old.out new.out out) → EndsWhole e old new → IsQuiet old new came → new.shows ≡ old.shows → Acts was new
-one_act was old new e Says came sent file out seen goes moves lost got handed told ends quiet shows =
-    let all = one_with was old new e Says came sent file out (λ more. 0 < length more) seen goes moves lost got handed told ends quiet shows (lit< tt) in
+    → (old.wanted.head ≡ false → Appends old.out new.out out) → EndsWhole e old new → IsQuiet old new came out → new.wanted ≡ old.wanted → Acts was new
+one_act was old new e Says came sent file out seen goes moves lost got handed told ends quiet wanted =
+    let all = one_with was old new e Says came sent file out (λ more. 0 < length more) seen goes moves lost got handed told ends quiet wanted (lit< tt) in
     record { goes = all.0; some = all.1 }
 
 pub one_step : (was old new : Ends) (e : ClientEvent) (Says : ClientOutcome → Type 0) (came sent file out : List ℕ) → old ≡ was
-    → GoesOn old.state e Says new.state → ((o : ClientOutcome) → Says o → Moves e o came sent file out old.status new.status)
+    → GoesOn old.state e Says new.state → ((o : ClientOutcome) → Says o → Moves e o came sent file out old.status new.status old.location new.location)
     → Consumes old.came new.came came → Appends old.sent new.sent sent → Consumes old.file new.file file
-    → (old.shows ≡ false → Appends old.out new.out out) → EndsWhole e old new → IsQuiet old new came → new.shows ≡ old.shows → Goes was new
-one_step was old new e Says came sent file out seen goes moves lost got handed told ends quiet shows =
-    (one_act was old new e Says came sent file out seen goes moves lost got handed told ends quiet shows).goes
+    → (old.wanted.head ≡ false → Appends old.out new.out out) → EndsWhole e old new → IsQuiet old new came out → new.wanted ≡ old.wanted → Goes was new
+one_step was old new e Says came sent file out seen goes moves lost got handed told ends quiet wanted =
+    (one_act was old new e Says came sent file out seen goes moves lost got handed told ends quiet wanted).goes
 
 kept_consumes : (a b : Option (List ℕ)) → Keeps a b → Consumes a b []
 kept_consumes None b keeps = tt
@@ -124,8 +139,8 @@ kept_appends (Some ps) (Some qs) keeps = keeps ∙ sym (append-nil ps)
 
 -- no event
 pub no_step : (was old new : Ends) → old ≡ was → new.state ≡ old.state → Keeps old.came new.came → Keeps old.sent new.sent → Consumes old.file new.file []
-    → (old.shows ≡ false → Appends old.out new.out []) → IsQuiet old new [] → new.status ≡ old.status → new.shows ≡ old.shows → Goes was new
-no_step was old new seen state came sent file out quiet status shows =
+    → (old.wanted.head ≡ false → Appends old.out new.out []) → IsQuiet old new [] [] → new.status ≡ old.status → new.location ≡ old.location → new.wanted ≡ old.wanted → Goes was new
+no_step was old new seen state came sent file out quiet status location wanted =
     subst (λ (l : Ends). Goes l new) seen
     (record {
       more = [];
@@ -139,49 +154,53 @@ no_step was old new seen state came sent file out quiet status shows =
       none_dropped = refl;
       heard = quiet.heard;
       silent = λ none. (sym status ∙ none, quiet.silent none);
+      unread = quiet.unread;
       status = status;
-      shows = shows;
+      location = location;
+      wanted = wanted;
     })
 
 -- ---- what each event moves
 
-pub done_moves : (e : ClientEvent) (status : Option ℕ) → taken_by e on.done ≡ [] → (o : ClientOutcome) → Is on.done o → Moves e o [] [] (handed_by e) [] status status
-done_moves e status none o is = subst (λ (o : ClientOutcome). Moves e o [] [] (handed_by e) [] status status) (sym is)
-    (record { takes = none; gives = refl; hands = refl; shows = refl; notes = refl })
+pub done_moves : {l : Option FieldValue} (e : ClientEvent) (status : Option ℕ) → taken_by e on.done ≡ [] → (o : ClientOutcome) → Is on.done o → Moves e o [] [] (handed_by e) [] status status l l
+done_moves {l} e status none o is = subst (λ (o : ClientOutcome). Moves e o [] [] (handed_by e) [] status status l l) (sym is)
+    (record { takes = none; gives = refl; hands = refl; shows = refl; notes = refl; leads = refl })
 
 -- as many bytes were taken as came
-pub read_moves : (bytes : List ℕ) (n : ℕ) (status : Option ℕ) → n ≡ length bytes → (o : ClientOutcome) → Is (on.took n) o
-    → Moves (on.read bytes) o bytes [] [] [] status status
-read_moves bytes n status all o is = subst (λ (o : ClientOutcome). Moves (on.read bytes) o bytes [] [] [] status status) (sym is)
-    (record { takes = take_all n bytes (omega arith); gives = refl; hands = refl; shows = refl; notes = refl })
+pub read_moves : {l : Option FieldValue} (bytes : List ℕ) (n : ℕ) (status : Option ℕ) → n ≡ length bytes → (o : ClientOutcome) → Is (on.took n) o
+    → Moves (on.read bytes) o bytes [] [] [] status status l l
+read_moves {l} bytes n status all o is = subst (λ (o : ClientOutcome). Moves (on.read bytes) o bytes [] [] [] status status l l) (sym is)
+    (record { takes = take_all n bytes (omega arith); gives = refl; hands = refl; shows = refl; notes = refl; leads = refl })
 
-pub gave_moves : (count : ℕ) (bytes : List ℕ) (status : Option ℕ) (o : ClientOutcome) → Is (on.gave bytes) o → Moves (on.write count) o [] bytes [] [] status status
-gave_moves count bytes status o is = subst (λ (o : ClientOutcome). Moves (on.write count) o [] bytes [] [] status status) (sym is)
-    (record { takes = refl; gives = refl; hands = refl; shows = refl; notes = refl })
+pub gave_moves : {l : Option FieldValue} (count : ℕ) (bytes : List ℕ) (status : Option ℕ) (o : ClientOutcome) → Is (on.gave bytes) o → Moves (on.write count) o [] bytes [] [] status status l l
+gave_moves {l} count bytes status o is = subst (λ (o : ClientOutcome). Moves (on.write count) o [] bytes [] [] status status l l) (sym is)
+    (record { takes = refl; gives = refl; hands = refl; shows = refl; notes = refl; leads = refl })
 
 -- a pull gives these bytes
-pub bytes_moves : (bytes : List ℕ) (status : Option ℕ) (o : ClientOutcome) → o ≡ on.bytes bytes → Moves on.pull o [] [] [] bytes status status
-bytes_moves bytes status o is = subst (λ (o : ClientOutcome). Moves on.pull o [] [] [] bytes status status) (sym is)
-    (record { takes = refl; gives = refl; hands = refl; shows = refl; notes = refl })
+pub bytes_moves : {l : Option FieldValue} (bytes : List ℕ) (status : Option ℕ) (o : ClientOutcome) → o ≡ on.bytes bytes → Moves on.pull o [] [] [] bytes status status l l
+bytes_moves {l} bytes status o is = subst (λ (o : ClientOutcome). Moves on.pull o [] [] [] bytes status status l l) (sym is)
+    (record { takes = refl; gives = refl; hands = refl; shows = refl; notes = refl; leads = refl })
 
 -- a pull gives none
-pub none_moves : (was : ClientOutcome) (status : Option ℕ) → gave was ≡ [] → given_by was ≡ [] → status ≡ noted_by was status → (o : ClientOutcome) → o ≡ was
-    → Moves on.pull o [] [] [] [] status status
-none_moves was status gives shows notes o is = subst (λ (o : ClientOutcome). Moves on.pull o [] [] [] [] status status) (sym is)
-    (record { takes = refl; gives = gives; hands = refl; shows = shows; notes = notes })
+pub none_moves : {l : Option FieldValue} (was : ClientOutcome) (status : Option ℕ) → gave was ≡ [] → given_by was ≡ [] → status ≡ noted_by was status → l ≡ led_by was l → (o : ClientOutcome)
+    → o ≡ was → Moves on.pull o [] [] [] [] status status l l
+none_moves {l} was status gives shows notes leads o is = subst (λ (o : ClientOutcome). Moves on.pull o [] [] [] [] status status l l) (sym is)
+    (record { takes = refl; gives = gives; hands = refl; shows = shows; notes = notes; leads = leads })
 
-next_is : (before after : Option ℕ) (was o : ClientOutcome) → gave was ≡ [] → given_by was ≡ [] → after ≡ noted_by was before → o ≡ was
-    → Moves on.next o [] [] [] [] before after
-next_is before after was o gives shows notes is = subst (λ (o : ClientOutcome). Moves on.next o [] [] [] [] before after) (sym is)
-    (record { takes = refl; gives = gives; hands = refl; shows = shows; notes = notes })
+next_is : (before after : Option ℕ) (k l : Option FieldValue) (was o : ClientOutcome) → gave was ≡ [] → given_by was ≡ [] → after ≡ noted_by was before → l ≡ led_by was k → o ≡ was
+    → Moves on.next o [] [] [] [] before after k l
+next_is before after k l was o gives shows notes leads is = subst (λ (o : ClientOutcome). Moves on.next o [] [] [] [] before after k l) (sym is)
+    (record { takes = refl; gives = gives; hands = refl; shows = shows; notes = notes; leads = leads })
 
--- the next head, whose status is noted
-pub next_moves : (x : NextAnswer) (before after : Option ℕ) → ((o : ClientOutcome) → SaysNext x o → after ≡ noted_by o before) → (o : ClientOutcome) → SaysNext x o
-    → Moves on.next o [] [] [] [] before after
-next_moves (next.Answer item) before after notes o says = next_is before after (on.answer says.0) o refl refl (notes (on.answer says.0) (says.0, says.1, refl)) says.2
-next_moves (next.Fault fault) before after notes o is = next_is before after _ o refl refl (notes _ refl) is
-next_moves next.Pending before after notes o is = next_is before after _ o refl refl (notes _ refl) is
-next_moves (next.Closed end) before after notes o is = next_is before after _ o refl refl (notes _ refl) is
+-- the next head, of which status and Location are noted
+pub next_moves : (x : NextAnswer) (before after : Option ℕ) (k l : Option FieldValue) → ((o : ClientOutcome) → SaysNext x o → after ≡ noted_by o before)
+    → ((o : ClientOutcome) → SaysNext x o → l ≡ led_by o k) → (o : ClientOutcome) → SaysNext x o → Moves on.next o [] [] [] [] before after k l
+next_moves (next.Answer item) before after k l notes leads o says =
+    let is : SaysNext (next.Answer item) (on.answer says.0) = (says.0, says.1, refl) in
+    next_is before after k l (on.answer says.0) o refl refl (notes (on.answer says.0) is) (leads (on.answer says.0) is) says.2
+next_moves (next.Fault fault) before after k l notes leads o is = next_is before after k l _ o refl refl (notes _ refl) (leads _ refl) is
+next_moves next.Pending before after k l notes leads o is = next_is before after k l _ o refl refl (notes _ refl) (leads _ refl) is
+next_moves (next.Closed end) before after k l notes leads o is = next_is before after k l _ o refl refl (notes _ refl) (leads _ refl) is
 
 -- ---- bytes that are counted
 

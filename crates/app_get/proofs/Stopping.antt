@@ -20,10 +20,10 @@ use Rattle.model_client.specs.ClientEvent.{ClientOutcome}
 use Rattle.model_client.specs.ClientKept.{client_closing}
 use Rattle.app_get.specs.declared.error.GetError.{GetError}
 use Rattle.app_get.specs.declared.error.GetError.TheVariants as get_error
-use Rattle.app_get.specs.Exchange.{Ends, Goes, Acts, noted_by, is_failure, IsWaiting}
+use Rattle.app_get.specs.Exchange.{Ends, Goes, Acts, noted_by, is_unwanted, is_failure, IsWaiting}
 use Rattle.app_get.specs.Failure.{Hears, Heard, Draws, IsStuck, BreaksOff, IsCause, IsPart, IsUnshown, WritesOut, Fails, Stops, IsEndless, is_heard, error_by}
 use Rattle.app_get.specs.Patience.{left_of}
-use Rattle.app_get.proofs.Going.{goes_none, goes_then}
+use Rattle.app_get.proofs.Going.{goes_none, goes_as, goes_then}
 
 -- ---- here, or after it went on
 
@@ -92,12 +92,12 @@ unshown (Ok x) old new before now cause = tt
 unshown (Err e) old new before now cause = subst (λ (e : GetError). IsUnshown e old new before now) (sym cause.0) cause.1
 
 -- a head isn't written out
-head_refused : (old new : Ends) (e : GetError) → old.shows ≡ true → IsUnshown e old.out new.out old.out_faults new.out_faults → Fails e old new
+head_refused : (old new : Ends) (e : GetError) → old.wanted.head ≡ true → IsUnshown e old.out new.out old.out_faults new.out_faults → Fails e old new
 head_refused old new get_error.NoMemory shows is = record { cause = tt; writes = is }
 head_refused old new get_error.Output shows is = record { cause = is; writes = λ hides. absurd (cc (shows, hides)) }
 head_refused old new _ shows is = absurd is
 
-pub head_fails : (was old new : Ends) (e : GetError) → old ≡ was → old.shows ≡ true → IsUnshown e old.out new.out old.out_faults new.out_faults → Stops was new e
+pub head_fails : (was old new : Ends) (e : GetError) → old ≡ was → old.wanted.head ≡ true → IsUnshown e old.out new.out old.out_faults new.out_faults → Stops was new e
 head_fails was old new e seen shows is = fails_here was old new e seen (head_refused old new e shows is)
 
 -- ---- by the connection's end
@@ -201,3 +201,16 @@ short_stops a is = stops_here a a a get_error.ShortFile refl (inr is) (Keeps-ref
 
 pub protocol_stops : (was old new : Ends) → old ≡ was → old.status ≡ Some 101 → Keeps old.out new.out → Stops was new get_error.Protocol
 protocol_stops was old new seen is out = stops_here was old new get_error.Protocol seen is out
+
+-- the answer isn't wanted
+pub unwanted_stops : (a : Ends) (status : ℕ) → a.status ≡ Some status → is_unwanted a.wanted status ≡ true → Stops a a get_error.Unwanted
+unwanted_stops a status noted refused =
+    stops_here a a a get_error.Unwanted refl (record { status = status; noted = noted; refused = refused }, refl) (Keeps-refl a.out)
+
+-- until then it went on
+unwanted_at : (a b : Ends) → Stops a b get_error.Unwanted → Goes a b
+unwanted_at a b s = goes_as a s.last b s.fails.cause.1 s.goes
+
+pub unwanted_goes : (a b : Ends) (e : GetError) → e ≡ get_error.Unwanted → Stops a b e ⊎ IsEndless a b e → Goes a b
+unwanted_goes a b e is (inl s) = unwanted_at a b (subst (λ (e : GetError). Stops a b e) is s)
+unwanted_goes a b e is (inr x) = absurd (cc (x.late, is))

@@ -1,17 +1,17 @@
 -- What is taken of an answer.
-use Rattle.std.specs.Prelude.{◌≡◌, ◌≢◌, ℕ, ◌+◌, ◌≤◌, Bool, false, length, Option, Some, Result, Ok, Err, IfOk, IsTrue}
+use Rattle.std.specs.Prelude.{◌≡◌, ◌≢◌, ℕ, ◌+◌, ◌≤◌, false, length, Some, Result, Ok, Err, IfOk, IsTrue}
 use Rattle.std.proofs.Common.{refl, sym, ap, subst, ◌∙◌, None, inl, inr, arith}
 use Rattle.h1_client.specs.Answers.{SaysNext}
 use Rattle.h1_client.specs.declared.event.NextAnswer.{NextAnswer}
 use Rattle.h1_client.specs.declared.event.NextAnswer.TheVariants as next
 use Rattle.h1_client.specs.ClientMeaning.{setting_of}
-use Rattle.h1_client.specs.State.{State, Stands, GoesOn, Is}
+use Rattle.h1_client.specs.State.{State, GoesOn, Is}
 use Rattle.model_client.specs.ClientEvent as on
 use Rattle.model_client.specs.ClientEvent.{ClientEvent, ClientOutcome, ClientEnd}
 use Rattle.model_client.specs.ClientKept.{client_allows, client_closing}
 use Rattle.app_get.specs.declared.answer.Taken.{Taken}
 use Rattle.app_get.specs.declared.answer.Taken.TheVariants as taking
-use Rattle.app_get.specs.Exchange.{Ends, Goes, Acts, is_failure, IsWhole, IsPending, IsTaken}
+use Rattle.app_get.specs.Exchange.{Ends, Goes, Acts, is_unwanted, is_failure, IsWhole, IsPending, IsTaken}
 use Rattle.app_get.specs.Failure.{Hears, Heard}
 use Rattle.app_get.proofs.Freed.{free_at_end, free_for_next}
 use Rattle.app_get.proofs.Going.{goes_none, goes_then, acts_then, more_then}
@@ -20,22 +20,26 @@ use Rattle.app_get.proofs.Going.{goes_none, goes_then, acts_then, more_then}
 
 -- the connection ends in order
 pub whole_at_end : (a : Ends) (status : ℕ) (end : ClientEnd) → client_allows (setting_of a.state.settings) a.state.kept on.pull ≡ false
-    → client_closing a.state.kept ≡ Some end → is_failure (Some end) ≡ false → a.status ≡ Some status → status ≢ 101 → IsTaken (taking.Whole status) a a
-whole_at_end a status end left is fine noted plain = (
+    → client_closing a.state.kept ≡ Some end → is_failure (Some end) ≡ false → a.status ≡ Some status → status ≢ 101 → is_unwanted a.wanted status ≡ false
+    → IsTaken (taking.Whole status) a a
+whole_at_end a status end left is fine noted plain wanted = (
   goes_none a,
   record { nothing_left = left; unbroken = ap is_failure is ∙ fine; free = free_at_end (setting_of a.state.settings) a.state.kept end is fine },
   noted,
   plain,
+  wanted,
 )
 
 -- or the next answer may come
 pub whole_for_next : (a : Ends) (status : ℕ) → client_allows (setting_of a.state.settings) a.state.kept on.pull ≡ false → client_closing a.state.kept ≡ None
-    → IsTrue (client_allows (setting_of a.state.settings) a.state.kept on.next) → a.status ≡ Some status → status ≢ 101 → IsTaken (taking.Whole status) a a
-whole_for_next a status left is may noted plain = (
+    → IsTrue (client_allows (setting_of a.state.settings) a.state.kept on.next) → a.status ≡ Some status → status ≢ 101 → is_unwanted a.wanted status ≡ false
+    → IsTaken (taking.Whole status) a a
+whole_for_next a status left is may noted plain wanted = (
   goes_none a,
   record { nothing_left = left; unbroken = ap is_failure is; free = λ trace stands. free_for_next (setting_of a.state.settings) a.state.kept is may },
   noted,
   plain,
+  wanted,
 )
 
 -- ---- nothing
@@ -77,8 +81,8 @@ nothing_acts t a b taken is = let n : IsTaken taking.Nothing a b = subst (λ (t 
 pub nothing_pending : (t : Taken) (a b : Ends) → IsTaken t a b → t ≡ taking.Nothing → IsPending b
 nothing_pending t a b taken is = let n : IsTaken taking.Nothing a b = subst (λ (t : Taken). IsTaken t a b) is taken in n.1
 
-pub whole_is : (t : Taken) (a b : Ends) (status : ℕ) → IsTaken t a b → t ≡ taking.Whole status → IsWhole b.state × (b.status ≡ Some status) × (status ≢ 101)
-whole_is t a b status taken is = let w : IsTaken (taking.Whole status) a b = subst (λ (t : Taken). IsTaken t a b) is taken in (w.1, w.2, w.3)
+pub whole_is : (t : Taken) (a b : Ends) (status : ℕ) → IsTaken t a b → t ≡ taking.Whole status → IsWhole b.state × (b.status ≡ Some status) × (status ≢ 101) × (is_unwanted b.wanted status ≡ false)
+whole_is t a b status taken is = let w : IsTaken (taking.Whole status) a b = subst (λ (t : Taken). IsTaken t a b) is taken in (w.1, w.2, w.3, w.4)
 
 -- a turn more, by an event at least
 turned : (a b c : Ends) (n : ℕ) (first : Goes a b) → n ≤ length first.more → Acts b c → (goes : Goes a c) × (n + 1 ≤ length goes.more)

@@ -1,7 +1,10 @@
 -- What moves in an exchange: from the connection to the server and back, out of the file that is sent, and to the output.
-use Rattle.std.specs.Prelude.{◌≡◌, ◌≢◌, ℕ, ◌<◌, ◌⊎◌, Bool, true, false, ◌||◌, List, [], ◌++◌, ◌∷◌, length, if◌then◌else◌, Option, Some, None, ⊤}
+use Rattle.std.specs.Prelude.{◌≡◌, ◌≢◌, ℕ, ◌<◌, ◌⊎◌, Bool, true, false, ◌||◌, ◌&&◌, nat_le, List, [], ◌++◌, ◌∷◌, length, codes, if◌then◌else◌, Option, Some, None, ⊤}
 use Rattle.std.specs.Io.KnownBytes.{Consumes, Appends, Keeps}
 use Rattle.http_config.specs.Causes.{Rose}
+use Rattle.http_framing.specs.HeaderLines.{header_map}
+use Rattle.http_header.specs.FieldValue.{FieldValue}
+use Rattle.http_map.specs.HeaderMap.{get}
 use Rattle.h1_client.specs.ClientMeaning.{setting_of}
 use Rattle.h1_client.specs.State.{State, Stands, GoesOn, Is}
 use Rattle.model_client.specs.ClientEvent as on
@@ -11,20 +14,23 @@ use Rattle.model_client.specs.ClientTrace.{Happened, taken, written}
 use Rattle.model_client.specs.AnswerParse.{is_interim}
 use Rattle.app_get.specs.declared.transport.Sent.{Sent}
 use Rattle.app_get.specs.declared.transport.Sent.TheVariants as sending
+use Rattle.app_get.specs.declared.answer.Wanted.{Wanted}
+use Rattle.app_get.specs.Redirects.{is_redirect}
 use Rattle.app_get.specs.declared.answer.Taken.{Taken}
 use Rattle.app_get.specs.declared.answer.Taken.TheVariants as taking
 
 -- A connection, what is left to come from the server and what the server was sent, what is left of the file, and what went
--- to the output, where they tell it; whether the answer's head is written too; the answer's status, once its head came;
--- whether a byte of the answer came; and how often each of them failed.
+-- to the output, where they tell it; what is wanted of the answer; the answer's status, once its head came, and the Location of
+-- the last head; whether a byte of the answer came; and how often each of them failed.
 pub record Ends : Type 0 where
   pub state : State
   pub came : Option (List ℕ)
   pub sent : Option (List ℕ)
   pub file : Option (List ℕ)
   pub out : Option (List ℕ)
-  pub shows : Bool
+  pub wanted : Wanted
   pub status : Option ℕ
+  pub location : Option FieldValue
   pub begun : Bool
   pub came_faults : ℕ
   pub sent_faults : ℕ
@@ -70,6 +76,15 @@ abbrev pub noted : List Happened → Option ℕ → Option ℕ
 noted [] status = status
 noted (s ∷ before) status = noted_by s.outcome (noted before status)
 
+-- the Location of the last head that was handed out, the first where it has several
+abbrev pub led_by : ClientOutcome → Option FieldValue → Option FieldValue
+led_by (on.answer a) location = get (header_map a.headers) (codes "location")
+led_by _ location = location
+
+abbrev pub led : List Happened → Option FieldValue → Option FieldValue
+led [] location = location
+led (s ∷ before) location = led_by s.outcome (led before location)
+
 -- ---- the ends that are told
 
 -- the server has sent all
@@ -97,27 +112,44 @@ abbrev pub Empties : Option (List ℕ) → Option (List ℕ) → Type 0
 Empties None new = ⊤
 Empties (Some bytes) new = new ≡ Some []
 
+-- ---- an answer that isn't wanted
+
+-- its status is 400 or above, or that of a redirect, where such a one isn't wanted
+abbrev pub is_unwanted : Wanted → ℕ → Bool
+is_unwanted wanted status = (wanted.no_refusal && nat_le 400 status) || (wanted.no_redirect && is_redirect status)
+
+-- there is no answer of which a body is wanted
+abbrev pub has_none_wanted : Wanted → Option ℕ → Bool
+has_none_wanted wanted None = true
+has_none_wanted wanted (Some status) = is_unwanted wanted status
+
+abbrev pub is_unread : Ends → Bool
+is_unread ends = has_none_wanted ends.wanted ends.status
+
 -- ---- what moves
 
 -- It goes on by these events: the bytes that came are those that the connection took, the bytes that were sent are those
 -- that it gave to be written, what was handed in comes out of the file, and the bytes of the answer's body, and nothing
 -- else, are written out, unless the answer's head is written too. The input's end is told only once nothing is left to come,
 -- and the body's end only once nothing is left of the file. No body is dropped. While it isn't known that a byte of the answer
--- came, none was taken, and while there is no status, nothing was written out.
+-- came, none was taken, and while there is no status, nothing was written out. While there is no answer of which a body is
+-- wanted, none of a body was handed out.
 pub record Goes (old new : Ends) : Type 0 where
   pub more : List Happened
   pub stands : (before : List Happened) → Stands old.state before → Stands new.state (more ++ before)
   pub came : Consumes old.came new.came (taken more)
   pub sent : Appends old.sent new.sent (written more)
   pub file : Consumes old.file new.file (handed more)
-  pub out : old.shows ≡ false → Appends old.out new.out (given more)
+  pub out : old.wanted.head ≡ false → Appends old.out new.out (given more)
   pub input_end : has_event ends_input more ≡ true → Empties old.came new.came
   pub body_end : has_event ends_body more ≡ true → Empties old.file new.file
   pub none_dropped : has_event drops_rest more ≡ false
   pub heard : new.begun ≡ false → (old.begun ≡ false) × (taken more ≡ [])
   pub silent : new.status ≡ None → (old.status ≡ None) × Keeps old.out new.out
+  pub unread : is_unread new ≡ true → (is_unread old ≡ true) × (given more ≡ [])
   pub status : new.status ≡ noted more old.status
-  pub shows : new.shows ≡ old.shows
+  pub location : new.location ≡ led more old.location
+  pub wanted : new.wanted ≡ old.wanted
 
 -- ---- what is sent
 
@@ -185,8 +217,8 @@ pub record IsWaiting (ends : Ends) : Type 0 where
   pub wrote : Wrote last ends
 
 -- What was taken of an answer. Where it is the rest, the answer is whole, and has this status, which isn't that of another
--- protocol. A part is taken by an event at least. Where it is nothing, nothing more has come.
+-- protocol or of an answer that isn't wanted. A part is taken by an event at least. Where it is nothing, nothing more has come.
 abbrev pub IsTaken : Taken → Ends → Ends → Type 0
-IsTaken (taking.Whole status) old new = Goes old new × IsWhole new.state × (new.status ≡ Some status) × (status ≢ 101)
+IsTaken (taking.Whole status) old new = Goes old new × IsWhole new.state × (new.status ≡ Some status) × (status ≢ 101) × (is_unwanted new.wanted status ≡ false)
 IsTaken taking.Part old new = Acts old new
 IsTaken taking.Nothing old new = Acts old new × IsPending new

@@ -8,7 +8,7 @@ use Rattle.h1_payload.specs.declared.pulled.Pulled.TheVariants as pulled
 use Rattle.h1_client.specs.Answers.{SaysNext}
 use Rattle.h1_client.specs.Bodies.{SaysPulled}
 use Rattle.h1_client.specs.ClientMeaning.{setting_of}
-use Rattle.h1_client.specs.State.{State, GoesOn, Is}
+use Rattle.h1_client.specs.State.{GoesOn, Is}
 use Rattle.h1_client.specs.declared.event.ClientEnd.{ClientEnd}
 use Rattle.h1_client.specs.declared.event.ClientEnd.TheVariants as end
 use Rattle.h1_client.specs.declared.event.NextAnswer.{NextAnswer}
@@ -17,7 +17,7 @@ use Rattle.h1_client.specs.declared.heads.AnswerFault.TheVariants.{Malformed, To
 use Rattle.model_client.specs.ClientEvent as on
 use Rattle.model_client.specs.ClientEvent.{ClientOutcome}
 use Rattle.model_client.specs.ClientKept.{client_allows, client_closing}
-use Rattle.app_get.specs.Exchange.{Ends, Goes, Acts, noted_by, is_failure, IsPending, IsWaiting, HasNoneToSend}
+use Rattle.app_get.specs.Exchange.{Ends, Goes, Acts, noted_by, is_unwanted, is_failure, IsPending, IsWaiting, HasNoneToSend}
 use Rattle.app_get.specs.declared.error.GetError.{GetError}
 use Rattle.app_get.specs.declared.error.GetError.TheVariants as get_error
 
@@ -68,6 +68,12 @@ abbrev pub IsCut : Ends → Ends → Type 0
 IsCut last new =
     BreaksOff last new ⊎ (Draws last (pulled.Broken Incomplete) new ⊎ (IsStuck last ⊎ LosesBytes last new))
 
+-- the answer isn't wanted, by its status
+pub record IsUnwanted (ends : Ends) : Type 0 where
+  pub status : ℕ
+  pub noted : ends.status ≡ Some status
+  pub refused : is_unwanted ends.wanted status ≡ true
+
 -- Why it fails, by what happened last. Memory may run out at any time.
 abbrev pub IsCause : GetError → Ends → Ends → Type 0
 IsCause get_error.NoMemory last new = ⊤
@@ -78,6 +84,7 @@ IsCause get_error.BadHead last new = Hears last (next.Fault Malformed) new ⊎ H
 IsCause get_error.LongHead last new = Hears last (next.Fault TooLarge) new ⊎ Hears last (next.Closed end.LargeAnswer) new
 IsCause get_error.BadChunks last new = Draws last (pulled.Broken Corrupted) new
 IsCause get_error.Protocol last new = last.status ≡ Some 101
+IsCause get_error.Unwanted last new = IsUnwanted last × (new ≡ last)
 IsCause get_error.Unanswered last new = (last.begun ≡ false) × (last.status ≡ None) × BreaksOff last new
 IsCause get_error.Lost last new = IsCut last new
 IsCause get_error.Late last new = IsPending last × HasNoneToSend last new
@@ -106,7 +113,7 @@ pub record IsDrawnPart (last new : Ends) : Type 0 where
 
 -- where the output fails, the first bytes of a piece of the body, unless the answer's head is written too; and else nothing
 abbrev pub WritesOut : GetError → Ends → Ends → Type 0
-WritesOut get_error.Output last new = last.shows ≡ false → IsDrawnPart last new
+WritesOut get_error.Output last new = last.wanted.head ≡ false → IsDrawnPart last new
 WritesOut _ last new = Keeps last.out new.out
 
 pub record Fails (error : GetError) (last new : Ends) : Type 0 where

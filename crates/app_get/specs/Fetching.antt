@@ -2,6 +2,7 @@
 use Rattle.std.specs.Prelude.{◌≡◌, ℕ, ◌+◌, ◌<◌, ◌⊎◌, Bool, true, false, List, [], ◌∷◌, ◌++◌, length, nat_le, if◌then◌else◌, Option, Some, None, Result, Ok, Err, ⊤}
 use Rattle.app_get.specs.declared.error.GetError.{GetError}
 use Rattle.app_get.specs.declared.error.GetError.TheVariants as get_error
+use Rattle.app_get.specs.declared.follow.Reply.{Reply}
 
 -- A URL was fetched, or wasn't, for this reason; and what was told of one: the status that it was answered by, or why it
 -- wasn't fetched.
@@ -43,17 +44,19 @@ error_status get_error.Refused = 4
 error_status get_error.Unreachable = 4
 error_status get_error.NoMemory = 5
 error_status get_error.Late = 7
+error_status get_error.Unwanted = 22
+error_status get_error.Request = 64
 error_status _ = 6
 
--- the status after an outcome more
-abbrev pub status_after : ℕ → Result ℕ GetError → ℕ
-status_after status (Ok said) = if is_refusal said then 8 else status
-status_after status (Err error) = error_status error
+-- the status after an outcome more, where this one tells of a refusal
+abbrev pub status_after : ℕ → ℕ → Result ℕ GetError → ℕ
+status_after refused status (Ok said) = if is_refusal said then refused else status
+status_after refused status (Err error) = error_status error
 
 -- the status after all outcomes, of which the last is the first
-abbrev pub exit_status : List (Result ℕ GetError) → ℕ
-exit_status [] = 0
-exit_status (outcome ∷ before) = status_after (exit_status before) outcome
+abbrev pub exit_status : ℕ → List (Result ℕ GetError) → ℕ
+exit_status refused [] = 0
+exit_status refused (outcome ∷ before) = status_after refused (exit_status refused before) outcome
 
 abbrev pub are_fetched : List (Result ℕ GetError) → Bool
 are_fetched [] = true
@@ -67,33 +70,33 @@ AreOutcomes count (Ok status ∷ before) = (length before + 1 ≡ count) × (are
 AreOutcomes count [] = count ≡ 0
 
 -- so many URLs are fetched, and told of, and the program ends with this status
-pub record FetchesEach (old : Option (List Done)) (count : ℕ) (new : Option (List Done)) (exit : ℕ) : Type 0 where
+pub record FetchesEach (old : Option (List Done)) (count refused : ℕ) (new : Option (List Done)) (exit : ℕ) : Type 0 where
   pub outcomes : List (Result ℕ GetError)
   pub all : AreOutcomes count outcomes
   pub notes : Notes old (all_done outcomes) new
-  pub ends : exit ≡ exit_status outcomes
+  pub ends : exit ≡ exit_status refused outcomes
 
 -- a URL is fetched, after which the status is another one, or the program ends with it
-abbrev pub ended_by : ℕ → Result ℕ GetError → Result ℕ ℕ
-ended_by status (Ok said) = Ok (status_after status (Ok said))
-ended_by status (Err error) = Err (error_status error)
+abbrev pub ended_by : ℕ → ℕ → Result ℕ GetError → Result ℕ ℕ
+ended_by refused status (Ok said) = Ok (status_after refused status (Ok said))
+ended_by refused status (Err error) = Err (error_status error)
 
-pub record FetchesOne (old : Option (List Done)) (status : ℕ) (new : Option (List Done)) (end : Result ℕ ℕ) : Type 0 where
+pub record FetchesOne (old : Option (List Done)) (refused status : ℕ) (new : Option (List Done)) (end : Result ℕ ℕ) : Type 0 where
   pub outcome : Result ℕ GetError
   pub notes : Notes old (done_at outcome) new
-  pub ends : end ≡ ended_by status outcome
+  pub ends : end ≡ ended_by refused status outcome
 
 -- ---- tries
 
 -- What a try came to: over a connection that was kept, where there was one that may be used, or over a new one.
 pub data Tried : Type 0 where
-  kept_gave : Option (Result ℕ GetError) → Tried
-  new_gave : Result ℕ GetError → Tried
+  kept_gave : Option (Result Reply GetError) → Tried
+  new_gave : Result Reply GetError → Tried
 
 -- A request is asked over a connection that was kept, or, where none may be used, over a new one. It is asked twice only where
--- the server didn't answer over the first, and where no file is sent: such a request does nothing more when it is repeated.
-abbrev pub IsTried : Option (List Tried) → Bool → Option (List Tried) → Result ℕ GetError → Type 0
-IsTried old has_file new result =
+-- the server didn't answer over the first, and where a request does nothing more when it is repeated.
+abbrev pub IsTried : Option (List Tried) → Bool → Option (List Tried) → Result Reply GetError → Type 0
+IsTried old is_once new result =
     Notes old (kept_gave (Some result) ∷ []) new
     ⊎ (Notes old (new_gave result ∷ kept_gave None ∷ []) new
-    ⊎ ((has_file ≡ false) × Notes old (new_gave result ∷ kept_gave (Some (Err get_error.Unanswered)) ∷ []) new))
+    ⊎ ((is_once ≡ false) × Notes old (new_gave result ∷ kept_gave (Some (Err get_error.Unanswered)) ∷ []) new))

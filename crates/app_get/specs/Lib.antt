@@ -1,7 +1,10 @@
+pub mod Answering
 pub mod Asking
 pub mod Exchange
 pub mod Failure
 pub mod Fetching
+pub mod Following
 pub mod Heads
 pub mod Patience
 pub mod Places
+pub mod Redirects

@@ -1,20 +1,36 @@
 // What comes of the answer.
-ghost use Rattle.std.specs.Prelude.{◌≡◌, ◌≢◌, false, None, Some, IsSome, IfOk, IfErr, OnErr, if◌then◌else◌};
+ghost use Rattle.std.specs.Prelude.{◌≡◌, ◌≢◌, false, None, Some, codes, IsSome, IfOk, IfErr, OnErr, if◌then◌else◌};
+ghost use Rattle.http_map.specs.HeaderMap.{get};
 ghost use Rattle.h1_client.specs.Answers.{SaysNext};
 ghost use Rattle.h1_client.specs.ClientMeaning.{setting_of};
 ghost use Rattle.h1_client.specs.State.{IsAllowed};
 ghost use Rattle.model_client.specs.ClientEvent as on;
 ghost use Rattle.model_client.specs.ClientKept.{client_allows};
 ghost use Rattle.model_client.specs.AnswerParse.{is_interim};
-ghost use Rattle.app_get.specs.Exchange.{Goes, IsTaken, noted_by};
+ghost use Rattle.app_get.specs.Exchange.{Goes, IsTaken, noted_by, led_by, is_unwanted, is_unread};
 ghost use Rattle.app_get.specs.Failure.{Heard, Stops, is_heard, error_by};
 
 use crate::error::GetError;
 use crate::exchange::Exchange;
+use crate::redirect::is_redirect;
 use crate::show::{write_all, write_head};
 use h1_client::{AnswerFault, BodyFault, ClientEnd, NextAnswer, Pulled, ResponseItem};
-use http_types::{NoMemory, Sink, Source};
+use http_header::LOCATION;
+use http_types::{HeaderValue, NoMemory, ResponseHead, Sink, Source};
 use net_sockets::{TimedSink, TimedSource};
+
+/// What is wanted of an answer.
+#[derive(Clone, Copy)]
+pub struct Wanted {
+    /// Its head is written too.
+    pub head: bool,
+
+    /// An answer of a status of 400 or above isn't wanted: its body isn't written.
+    pub no_refusal: bool,
+
+    /// Nor is a redirect.
+    pub no_redirect: bool,
+}
 
 /// What was taken of an answer.
 #[derive(Clone, Copy)]
@@ -64,13 +80,15 @@ impl<S: TimedSource + Drop, K: TimedSink + Drop, B: Source + Drop, O: Sink + Dro
         }
     }
 
-    // The next head, or that there is none. The status of one that isn't interim is noted.
+    // The next head, or that there is none. The status of one that isn't interim is noted, and where it leads.
     fn next_answer(&mut self) -> Result<NextAnswer, NoMemory>
         requires can_next { IsAllowed self.old.state on.next }
+        requires none { self.old.status ≡ None }
         ensures heard { IfOk result (λ next. Heard self.old next self.new) }
         ensures err { OnErr result (self.new.out ≡ self.old.out) }
     {
         let next = self.connection.next()?;
+        self.location = led(&next, self.location.take())?;
         self.status = noted(&next, self.status);
         Ok(next)
     }
@@ -81,7 +99,7 @@ impl<S: TimedSource + Drop, K: TimedSink + Drop, B: Source + Drop, O: Sink + Dro
         ensures stops { IfErr result (λ error. Stops self.old self.new error) }
     {
         // The status of an interim one isn't noted.
-        if self.shows_head && self.status.is_some() {
+        if self.wanted.head && self.status.is_some() {
             write_head(self.alloc, item, &mut self.out)?;
         }
         Ok(Taken::Part)
@@ -96,6 +114,9 @@ impl<S: TimedSource + Drop, K: TimedSink + Drop, B: Source + Drop, O: Sink + Dro
         if status == 101 {
             return Err(GetError::Protocol);
         }
+        if self.is_unwanted(status) {
+            return Err(GetError::Unwanted);
+        }
         if self.connection.can_pull() {
             self.pull()
         } else {
@@ -103,11 +124,20 @@ impl<S: TimedSource + Drop, K: TimedSink + Drop, B: Source + Drop, O: Sink + Dro
         }
     }
 
+    // Whether an answer of this status isn't wanted.
+    fn is_unwanted(&self, status: u16) -> bool
+        ensures { result ≡ is_unwanted self.now.wanted status }
+    {
+        (self.wanted.no_refusal && 400 <= status)
+            || (self.wanted.no_redirect && is_redirect(status))
+    }
+
     // Writes out what comes next of the body.
     fn pull(&mut self) -> Result<Taken, GetError>
         requires can_pull { IsAllowed self.old.state on.pull }
         requires noted { IsSome self.old.status }
         requires plain { self.old.status ≢ Some 101 }
+        requires wanted { is_unread self.old ≡ false }
         ensures taken { IfOk result (λ taken. IsTaken taken self.old self.new) }
         ensures stops { IfErr result (λ error. Stops self.old self.new error) }
     {
@@ -128,6 +158,7 @@ impl<S: TimedSource + Drop, K: TimedSink + Drop, B: Source + Drop, O: Sink + Dro
     fn finish(&self, status: u16) -> Result<Taken, GetError>
         requires noted { self.now.status ≡ Some status }
         requires plain { status ≢ 101 }
+        requires wanted { is_unwanted self.now.wanted status ≡ false }
         requires nothing_left { client_allows (setting_of self.now.state.settings) self.now.state.kept on.pull ≡ false }
         ensures taken { IfOk result (λ taken. IsTaken taken self.now self.now) }
         ensures stops { IfErr result (λ error. Stops self.now self.now error) }
@@ -172,6 +203,28 @@ impl<S: TimedSource + Drop, K: TimedSink + Drop, B: Source + Drop, O: Sink + Dro
         } else {
             GetError::Unanswered
         }
+    }
+}
+
+// The Location of the last head.
+fn led(next: &NextAnswer, before: Option<HeaderValue>) -> Result<Option<HeaderValue>, NoMemory>
+    ensures { IfOk result (λ found. (out : on.ClientOutcome) → SaysNext next.now out → found ≡ led_by out before) }
+{
+    match next {
+        NextAnswer::Answer(item) => location_in(&item.head),
+        NextAnswer::Fault(_) => Ok(before),
+        NextAnswer::Pending => Ok(before),
+        NextAnswer::Closed(_) => Ok(before),
+    }
+}
+
+// The Location of a head, the first where there are several.
+fn location_in(head: &ResponseHead) -> Result<Option<HeaderValue>, NoMemory>
+    ensures { IfOk result (λ found. found ≡ get head.now.headers (codes "location")) }
+{
+    match head.headers.get(LOCATION) {
+        Some(value) => Ok(Some(value.clone()?)),
+        None => Ok(None),
     }
 }
 

@@ -4,9 +4,6 @@ ghost use Rattle.app_get.specs.Fetching.{Done, fetched, told_status, told_error,
 
 use crate::error::GetError;
 
-/// The status of the program where an answer says that it isn't what was asked for.
-const NO_SUCCESS: u8 = 8;
-
 /// What fetches URLs, and tells the user what is wrong with one.
 pub trait Fetches {
     /// What was done so far, the last first, where that is told.
@@ -25,13 +22,14 @@ pub trait Fetches {
         ensures { Notes (done self.old) (told_error error ∷ []) (done self.new) };
 }
 
-/// Fetches all, one after another, until one can't be had, and gives the status of the program.
-pub fn fetch_each<F: Fetches>(fetcher: &mut F, urls: &[&str]) -> u8
-    ensures { FetchesEach (F.done fetcher.old) (length urls.now) (F.done fetcher.new) result }
+/// Fetches all, one after another, until one can't be had, and gives the status of the program: `refused` after an answer that
+/// says that it isn't what was asked for.
+pub fn fetch_each<F: Fetches>(fetcher: &mut F, urls: &[&str], refused: u8) -> u8
+    ensures { FetchesEach (F.done fetcher.old) (length urls.now) refused (F.done fetcher.new) result }
 {
     let mut status = 0;
     for url in urls {
-        match fetch_one(fetcher, url, status) {
+        match fetch_one(fetcher, url, refused, status) {
             Ok(next) => status = next,
             Err(exit) => return exit,
         }
@@ -40,8 +38,8 @@ pub fn fetch_each<F: Fetches>(fetcher: &mut F, urls: &[&str]) -> u8
 }
 
 // Fetches one. It gives the status of the program so far, or the one that it ends with.
-fn fetch_one<F: Fetches>(fetcher: &mut F, url: &str, status: u8) -> Result<u8, u8>
-    ensures { FetchesOne (F.done fetcher.old) status (F.done fetcher.new) result }
+fn fetch_one<F: Fetches>(fetcher: &mut F, url: &str, refused: u8, status: u8) -> Result<u8, u8>
+    ensures { FetchesOne (F.done fetcher.old) refused status (F.done fetcher.new) result }
 {
     match fetcher.fetch(url) {
         Ok(said) => {
@@ -49,7 +47,7 @@ fn fetch_one<F: Fetches>(fetcher: &mut F, url: &str, status: u8) -> Result<u8, u
                 return Ok(status);
             }
             fetcher.tell_status(url, said);
-            Ok(NO_SUCCESS)
+            Ok(refused)
         }
         Err(error) => {
             fetcher.tell_error(url, error);

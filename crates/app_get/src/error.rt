@@ -9,8 +9,8 @@ use thiserror::Error;
 /// Why a URL wasn't fetched.
 #[derive(Clone, Copy, Debug, PartialEq, Eq, Error)]
 pub enum GetError {
-    /// The standard output takes no more.
-    #[error("the standard output takes no more")]
+    /// The output can't be written.
+    #[error("the output can't be written")]
     Output,
 
     /// The text is no URL.
@@ -81,6 +81,22 @@ pub enum GetError {
     #[error("the server goes on to another protocol, for which nobody asked")]
     Protocol,
 
+    /// An answer of this status isn't wanted.
+    #[error("an answer of this status isn't wanted")]
+    Unwanted,
+
+    /// A redirect that names no URL.
+    #[error("the server redirects to what is no URL")]
+    Location,
+
+    /// A redirect to a URL that isn't taken.
+    #[error("the server redirects to a URL that can't be asked for, such as https://")]
+    Elsewhere,
+
+    /// More redirects than are followed.
+    #[error("the server redirects more than ten times")]
+    Redirects,
+
     /// The request can't be sent.
     #[error("such a request can't be sent")]
     Request,
@@ -103,8 +119,11 @@ impl GetError {
             GetError::Host | GetError::Refused | GetError::Unreachable => 4,
             GetError::NoMemory => 5,
             GetError::Unanswered | GetError::Lost | GetError::BadHead | GetError::LongHead => 6,
-            GetError::BadChunks | GetError::Protocol | GetError::Request => 6,
+            GetError::BadChunks | GetError::Protocol => 6,
+            GetError::Location | GetError::Elsewhere | GetError::Redirects => 6,
             GetError::Late => 7,
+            GetError::Unwanted => 22,
+            GetError::Request => 64,
         }
     }
 

@@ -1,14 +1,14 @@
 //! One request and its answer over a connection: a client's whole loop.
-ghost use Rattle.std.specs.Prelude.{◌≡◌, ◌≢◌, ◌⊎◌, false, None, Some, OnOk, IfOk, IfErr};
-ghost use Rattle.app_get.specs.Exchange.{Ends, file_left, faults_of_file, Goes, IsWhole, IsPending, IsWaiting};
+ghost use Rattle.std.specs.Prelude.{◌≡◌, ◌≢◌, ◌⊎◌, false, None, Some, IsTrue, OnOk, IfOk, IfErr};
+ghost use Rattle.app_get.specs.Exchange.{Ends, file_left, faults_of_file, is_unwanted, Goes, IsWhole, IsPending, IsWaiting};
 ghost use Rattle.app_get.specs.Failure.{Stops, IsEndless};
 
-use crate::answer::Taken;
+use crate::answer::{Taken, Wanted};
 use crate::error::GetError;
 use crate::patience::Patience;
 use crate::transport::Sent;
 use h1_client::ClientConnection;
-use http_types::{Sink, Source};
+use http_types::{HeaderValue, Sink, Source};
 use net_sockets::{TimedSink, TimedSource};
 use std::alloc::Global;
 use std::marker::Model;
@@ -30,14 +30,16 @@ pub struct Exchange<S: TimedSource, K: TimedSink, B: Source, O: Sink> {
     pub(crate) body: Option<B>,
     pub(crate) out: O,
 
-    // The answer's head is written too.
-    pub(crate) shows_head: bool,
+    pub(crate) wanted: Wanted,
 
     // The answer's status, once its head came.
     pub(crate) status: Option<u16>,
 
     // A byte of the answer came.
     pub(crate) has_begun: bool,
+
+    // Where the last head leads, where it names that.
+    pub(crate) location: Option<HeaderValue>,
 }
 
 impl<S: TimedSource, K: TimedSink, B: Source, O: Sink> Model for Exchange<S, K, B, O> {
@@ -51,8 +53,9 @@ impl<S: TimedSource, K: TimedSink, B: Source, O: Sink> Model for Exchange<S, K, 
       sent = K.given e.output;
       file = file_left B.left e.body;
       out = O.given e.out;
-      shows = e.shows_head;
+      wanted = e.wanted;
       status = e.status;
+      location = e.location;
       begun = e.has_begun;
       came_faults = S.faults e.input;
       sent_faults = K.faults e.output;
@@ -67,8 +70,7 @@ impl<S: TimedSource + Drop, K: TimedSink + Drop, B: Source + Drop, O: Sink + Dro
     B,
     O,
 > {
-    /// The exchange of the request that was asked last over this connection. The answer's body is written out, and its head
-    /// too where that is wanted.
+    /// The exchange of the request that was asked last over this connection. What is wanted of the answer is written out.
     pub fn new(
         alloc: Global,
         connection: ClientConnection,
@@ -76,7 +78,7 @@ impl<S: TimedSource + Drop, K: TimedSink + Drop, B: Source + Drop, O: Sink + Dro
         output: K,
         body: Option<B>,
         out: O,
-        shows_head: bool,
+        wanted: Wanted,
     ) -> Exchange<S, K, B, O>
         ensures { result ≡ record {
           state = connection;
@@ -84,8 +86,9 @@ impl<S: TimedSource + Drop, K: TimedSink + Drop, B: Source + Drop, O: Sink + Dro
           sent = K.given output;
           file = file_left B.left body;
           out = O.given out;
-          shows = shows_head;
+          wanted = wanted;
           status = None;
+          location = None;
           begun = false;
           came_faults = S.faults input;
           sent_faults = K.faults output;
@@ -100,15 +103,18 @@ impl<S: TimedSource + Drop, K: TimedSink + Drop, B: Source + Drop, O: Sink + Dro
             output,
             body,
             out,
-            shows_head,
+            wanted,
             status: None,
             has_begun: false,
+            location: None,
         }
     }
 
-    /// The connection, which may be used again where it says so.
-    pub fn into_connection(self) -> ClientConnection
-        ensures { result ≡ self.state }
+    /// The connection, which may be used again where it says so, the sink of the answer's body, and where the answer leads.
+    pub fn into_parts(self) -> (ClientConnection, O, Option<HeaderValue>)
+        ensures connection { result.0 ≡ self.state }
+        ensures out { O.given result.1 ≡ self.out }
+        ensures location { result.2 ≡ self.location }
     {
         let Exchange {
             alloc: _,
@@ -116,12 +122,30 @@ impl<S: TimedSource + Drop, K: TimedSink + Drop, B: Source + Drop, O: Sink + Dro
             input: _,
             output: _,
             body: _,
-            out: _,
-            shows_head: _,
+            out,
+            wanted: _,
             status: _,
             has_begun: _,
+            location,
         } = self;
-        connection
+        (connection, out, location)
+    }
+
+    /// Runs the exchange, and gives the answer's status and whether it was taken to its end: what is left of one that isn't wanted
+    /// isn't read.
+    pub fn answer(&mut self, wait: u64) -> Result<(u16, bool), GetError>
+        ensures goes { OnOk result (Goes self.old self.new) }
+        ensures status { IfOk result (λ x. self.new.status ≡ Some x.0) }
+        ensures whole { IfOk result (λ x. IsTrue x.1 → IsWhole self.new.state) }
+    {
+        match self.run(wait) {
+            Ok(status) => Ok((status, true)),
+            Err(GetError::Unwanted) => match self.status {
+                Some(status) => Ok((status, false)),
+                None => Err(GetError::Unwanted),
+            },
+            Err(error) => Err(error),
+        }
     }
 
     /// Sends the request and takes its answer, until the answer is whole, and gives its status. Nothing may move for at most
@@ -134,6 +158,7 @@ impl<S: TimedSource + Drop, K: TimedSink + Drop, B: Source + Drop, O: Sink + Dro
         ensures whole { OnOk result (IsWhole self.new.state) }
         ensures status { IfOk result (λ status. self.new.status ≡ Some status) }
         ensures protocol { IfOk result (λ status. status ≢ 101) }
+        ensures wanted { IfOk result (λ status. is_unwanted self.new.wanted status ≡ false) }
         ensures stops { IfErr result (λ error. Stops self.old self.new error ⊎ IsEndless self.old self.new error) }
     {
         let mut patience = Patience::begin(&self.input, wait);

@@ -6,9 +6,13 @@ mod each;
 mod error;
 mod exchange;
 mod fetch;
+mod fields;
+mod follow;
 mod link;
 mod options;
+mod output;
 mod patience;
+mod redirect;
 mod request;
 mod show;
 mod target;
@@ -24,7 +28,7 @@ use std::process::ExitCode;
 use std::rt::Env;
 use std::{env, io};
 
-/// The output takes no more.
+/// The output can't be written.
 const NO_OUTPUT: u8 = 1;
 
 /// The words are out of form.

@@ -1,17 +1,19 @@
 //! Where a URL leads.
-ghost use Rattle.std.specs.Prelude.{◌≡◌};
+ghost use Rattle.std.specs.Prelude.{◌≡◌, IfOk, IfErr};
+ghost use Rattle.url.specs.Parts.{has_credentials};
 ghost use Rattle.app_get.specs.Heads.{target_authority};
-ghost use Rattle.app_get.specs.Places.{target_host};
+ghost use Rattle.app_get.specs.Places.{target_host, IsTargetOf, IsNoTarget};
 
 use crate::error::GetError;
 use http_types::Uri;
 use http_uri::UriError;
 use std::alloc::Global;
+use url::Url;
 
 /// The port of HTTP.
 const HTTP_PORT: u16 = 80;
 
-/// A URL that is asked for.
+/// Where a URL leads.
 #[derive(Drop)]
 pub struct Target {
     pub uri: Uri,
@@ -19,18 +21,25 @@ pub struct Target {
 }
 
 impl Target {
-    /// Reads a URL of the scheme http that names a host and no user.
-    pub fn read(alloc: Global, text: &str) -> Result<Target, GetError> {
-        let uri = match Uri::from_str(alloc, text) {
-            Ok(uri) => uri,
-            Err(UriError::OutOfMemory) => return Err(GetError::NoMemory),
-            Err(_) => return Err(GetError::Url),
-        };
-        if uri.scheme_str() != Some("http") {
+    /// Of a URL of the scheme http that names no user.
+    pub fn of(alloc: Global, url: &Url) -> Result<Target, GetError>
+        ensures ok { IfOk result (IsTargetOf url.now) }
+        ensures err { IfErr result (IsNoTarget url.now) }
+    {
+        if url.scheme() != "http" {
             return Err(GetError::Scheme);
         }
-        let port = port_of(&uri)?;
-        Ok(Target { uri, port })
+        if has_user(url) {
+            return Err(GetError::User);
+        }
+        match Uri::from_str(alloc, url.as_str()) {
+            Ok(uri) => Ok(Target {
+                uri,
+                port: url.port().unwrap_or(HTTP_PORT),
+            }),
+            Err(UriError::OutOfMemory) => Err(GetError::NoMemory),
+            Err(_) => Err(GetError::Url),
+        }
     }
 
     /// The host, an address of IPv6 without its brackets.
@@ -59,20 +68,11 @@ impl Target {
     }
 }
 
-// The port of a URL that names a host and no user.
-fn port_of(uri: &Uri) -> Result<u16, GetError> {
-    let authority = uri.authority().ok_or(GetError::Url)?;
-    if authority.as_str().contains('@') {
-        return Err(GetError::User);
-    }
-    let host = authority.host();
-    if host.is_empty() {
-        return Err(GetError::Url);
-    }
-    match authority.as_str().strip_prefix(host) {
-        Some("" | ":") => Ok(HTTP_PORT),
-        _ => authority.port_u16().ok_or(GetError::Url),
-    }
+// Whether a URL names a user or a password.
+fn has_user(url: &Url) -> bool
+    ensures { result ≡ has_credentials url.now }
+{
+    !url.username().is_empty() || url.password().is_some()
 }
 
 fn bare(host: &str) -> &str {

@@ -1,48 +1,57 @@
 //! Over a connection that was kept, or over a new one.
-ghost use Rattle.std.specs.Prelude.{◌≡◌, Option, List, [], ◌∷◌, false, IsTrue};
+ghost use Rattle.std.specs.Prelude.{◌≡◌, Option, List, [], ◌∷◌, false, IsTrue, IfSome, IfOk};
 ghost use Rattle.app_get.specs.Fetching.{Tried, kept_gave, new_gave, Notes, IsTried};
 
 use crate::error::GetError;
-use crate::target::Target;
+use crate::follow::{Reply, Stage};
 
-/// What asks for a target over connections.
+/// What asks over connections.
 pub trait Tries {
+    ghost use Rattle.app_get.specs.declared.follow.Reply.{Reply};
+    ghost use Rattle.app_get.specs.declared.follow.Stage.{Stage};
+
     /// What was tried so far, the last first, where that is told.
     ghost tried: { Self → Option (List Tried) };
 
-    /// Asks over the connection that was kept, where there is one that may be used, and gives the status of the answer.
-    fn over_kept(&mut self, target: &Target) -> Option<Result<u16, GetError>>
-        ensures { Notes (tried self.old) (kept_gave result ∷ []) (tried self.new) };
+    /// What answers a request for a stage.
+    ghost gives: { Self → Stage → Reply → Type 0 };
+
+    /// Asks over the connection that was kept, where there is one that may be used.
+    fn over_kept(&mut self, stage: &Stage) -> Option<Result<Reply, GetError>>
+        ensures noted { Notes (tried self.old) (kept_gave result ∷ []) (tried self.new) }
+        ensures given { IfSome result (λ done. IfOk done (gives self.new stage.now)) };
 
     /// Asks over a new one.
-    fn over_new(&mut self, target: &Target) -> Result<u16, GetError>
-        ensures { Notes (tried self.old) (new_gave result ∷ []) (tried self.new) };
+    fn over_new(&mut self, stage: &Stage) -> Result<Reply, GetError>
+        ensures noted { Notes (tried self.old) (new_gave result ∷ []) (tried self.new) }
+        ensures given { IfOk result (gives self.new stage.now) };
 }
 
-/// Asks for a target, over the connection that was kept where that may be.
+/// Asks there, over the connection that was kept where that may be.
 ///
 /// A server may close such a connection at any time. What does nothing when it is asked twice is asked once more (RFC 9112,
 /// section 9.3.1).
-pub fn try_twice<T: Tries>(tries: &mut T, target: &Target, has_file: bool) -> Result<u16, GetError>
-    ensures { IsTried (T.tried tries.old) has_file (T.tried tries.new) result }
+pub fn try_twice<T: Tries>(tries: &mut T, stage: &Stage, is_once: bool) -> Result<Reply, GetError>
+    ensures tried { IsTried (T.tried tries.old) is_once (T.tried tries.new) result }
+    ensures given { IfOk result (T.gives tries.new stage.now) }
 {
-    match tries.over_kept(target) {
-        None => tries.over_new(target),
+    match tries.over_kept(stage) {
+        None => tries.over_new(stage),
         Some(done) => {
-            if !may_be_repeated(&done, has_file) {
+            if !may_be_repeated(&done, is_once) {
                 return done;
             }
-            tries.over_new(target)
+            tries.over_new(stage)
         }
     }
 }
 
-// Whether what came to this may be asked once more: the server didn't answer, and no file was sent.
-fn may_be_repeated(done: &Result<u16, GetError>, has_file: bool) -> bool
-    ensures { IsTrue result → (done.now ≡ Err GetError.Unanswered) × (has_file ≡ false) }
+// Whether what came to this may be asked once more: the server didn't answer, and nothing is done twice.
+fn may_be_repeated(done: &Result<Reply, GetError>, is_once: bool) -> bool
+    ensures { IsTrue result → (done.now ≡ Err GetError.Unanswered) × (is_once ≡ false) }
 {
     match done {
-        Err(GetError::Unanswered) => !has_file,
+        Err(GetError::Unanswered) => !is_once,
         _ => false,
     }
 }

@@ -1,4 +1,3 @@
-use Rattle.std.proofs.Common.{refl}
 use Rattle.app_get.proofs.Shown.{shown_text}
 use Rattle.app_get.proofs.show.head_text.Goals as goal
 

@@ -12,7 +12,7 @@ pub returns-in-None-clause-taken : goal.returns-in-None-clause-taken
 returns-in-None-clause-taken g c =
     whole_for_next c.args.self.now c.args.status c.requires.nothing_left (search rules)
     (subst (λ (e : Ends). IsTrue (client_allows (setting_of e.state.settings) e.state.kept on.next)) c.self.view_is (sym c.can_next.ensures ∙ c.if-can_next.true))
-    c.requires.noted c.requires.plain
+    c.requires.noted c.requires.plain c.requires.wanted
 
 pub returns-in-None-2-clause-stops : goal.returns-in-None-2-clause-stops
 returns-in-None-2-clause-stops g c =
@@ -25,15 +25,15 @@ returns-in-None-2-clause-stops g c =
 
 pub returns-in-Some-Asked-clause-taken : goal.returns-in-Some-Asked-clause-taken
 returns-in-Some-Asked-clause-taken g c =
-    whole_at_end c.args.self.now c.args.status on.asked c.requires.nothing_left (search rules) refl c.requires.noted c.requires.plain
+    whole_at_end c.args.self.now c.args.status on.asked c.requires.nothing_left (search rules) refl c.requires.noted c.requires.plain c.requires.wanted
 
 pub returns-in-Some-Unasked-clause-taken : goal.returns-in-Some-Unasked-clause-taken
 returns-in-Some-Unasked-clause-taken g c =
-    whole_at_end c.args.self.now c.args.status on.unasked c.requires.nothing_left (search rules) refl c.requires.noted c.requires.plain
+    whole_at_end c.args.self.now c.args.status on.unasked c.requires.nothing_left (search rules) refl c.requires.noted c.requires.plain c.requires.wanted
 
 pub returns-in-Some-InputEnded-clause-taken : goal.returns-in-Some-InputEnded-clause-taken
 returns-in-Some-InputEnded-clause-taken g c =
-    whole_at_end c.args.self.now c.args.status on.input_ended c.requires.nothing_left (search rules) refl c.requires.noted c.requires.plain
+    whole_at_end c.args.self.now c.args.status on.input_ended c.requires.nothing_left (search rules) refl c.requires.noted c.requires.plain c.requires.wanted
 
 pub returns-in-Some-FailedRequest-clause-stops : goal.returns-in-Some-FailedRequest-clause-stops
 returns-in-Some-FailedRequest-clause-stops g c = short_stops c.args.self.now (search rules)

@@ -17,7 +17,7 @@ returns-clause-acts g c =
     one_act _ _ _ (on.chunk (take c.in_ok-count.count c.read_file.new.piece)) _ [] [] _ [] c.self.view_is c.in_ok-chunk.ensures.stands
     (done_moves (on.chunk (take c.in_ok-count.count c.read_file.new.piece)) _ refl)
     (Consumes-nil _) (Appends-nil _) c.in_ok-count.ensures.bytes.0 (λ _. Appends-nil _) (ends_none (on.chunk (take c.in_ok-count.count c.read_file.new.piece)) _ _ refl refl refl)
-    (quiet_still _ _ refl (Keeps-refl _)) refl
+    (quiet_still _ _ refl (Keeps-refl _) (λ is. is)) refl
 
 pub returns-in_err-count-clause-stops : goal.returns-in_err-count-clause-stops
 returns-in_err-count-clause-stops g c = err_stops _ _ _ _ c.from_residual.ensures.1 (file_fails _ _ _ _ c.self.view_is c.in_err-count.ensures.cause (Keeps-refl _))

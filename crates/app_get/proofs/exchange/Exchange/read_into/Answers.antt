@@ -14,7 +14,7 @@ returns-in-Ok-eq0-clause-goes g c =
       body = λ told. absurd (cc told);
       keeps_rest = refl;
     })
-    (quiet_still _ _ refl (Keeps-refl _)) refl
+    (quiet_still _ _ refl (Keeps-refl _) (λ is. is)) refl
 
 pub returns-else-branch-count-clause-goes : goal.returns-else-branch-count-clause-goes
 returns-else-branch-count-clause-goes g c =
@@ -22,11 +22,11 @@ returns-else-branch-count-clause-goes g c =
     one_step _ _ _ (on.read bytes) _ bytes [] [] [] c.self.view_is c.in_ok-read-in-Ok.ensures.stands
     (read_moves bytes c.in_ok-read-in-Ok.field-0 _ (all_taken _ _ _ c.if-branch-count.false c.in-Ok.ensures.bound.0))
     c.in-Ok.ensures.bytes.0 (Appends-nil _) (Consumes-nil _) (λ _. Appends-nil _) (ends_none (on.read bytes) _ _ refl refl refl)
-    (quiet_heard _ _ _ refl (Keeps-refl _)) refl
+    (quiet_heard _ _ _ refl (Keeps-refl _) (λ is. is)) refl
 
 pub returns-in-Err-clause-goes : goal.returns-in-Err-clause-goes
 returns-in-Err-clause-goes g c =
-    no_step _ _ _ c.self.view_is refl c.in-Err.ensures.bytes (Keeps-refl _) (Consumes-nil _) (λ _. Appends-nil _) (quiet_still _ _ refl (Keeps-refl _)) refl refl
+    no_step _ _ _ c.self.view_is refl c.in-Err.ensures.bytes (Keeps-refl _) (Consumes-nil _) (λ _. Appends-nil _) (quiet_still _ _ refl (Keeps-refl _) (λ is. is)) refl refl refl
 
 pub returns-in_err-read-in-Ok-clause-stops : goal.returns-in_err-read-in-Ok-clause-stops
 returns-in_err-read-in-Ok-clause-stops g c = err_stops _ _ _ _ c.from_residual.ensures.1 (no_memory _ _ _ _ c.self.view_is refl (Keeps-refl _))

@@ -1,5 +1,4 @@
 use Rattle.std.proofs.Common.{refl, inr, arith}
-use Rattle.app_get.specs.Exchange.{Goes, Acts}
 use Rattle.app_get.proofs.Going.{goes_none, goes_then, taken_goes, acts_then, then_acts}
 use Rattle.app_get.proofs.Stopping.{err_ends, stops_then}
 use Rattle.app_get.proofs.Taking.{part_acts, nothing_acts, nothing_pending, whole_is, turned_as}
@@ -21,6 +20,9 @@ returns-in-Whole-clause-status g c = (whole_is _ _ _ _ c.in_ok-status.ensures.ta
 
 pub returns-in-Whole-clause-protocol : goal.returns-in-Whole-clause-protocol
 returns-in-Whole-clause-protocol g c = (whole_is _ _ _ _ c.in_ok-status.ensures.taken c.in-Whole.is).2
+
+pub returns-in-Whole-clause-wanted : goal.returns-in-Whole-clause-wanted
+returns-in-Whole-clause-wanted g c = (whole_is _ _ _ _ c.in_ok-status.ensures.taken c.in-Whole.is).3
 
 pub listen-requires : goal.listen-requires
 listen-requires g c = nothing_pending _ _ _ c.in_ok-status.ensures.taken c.in-Nothing.is

@@ -9,7 +9,7 @@ pub returns-in_ok-write_head-clause-part : goal.returns-in_ok-write_head-clause-
 returns-in_ok-write_head-clause-part g c = (
   refl,
   no_step _ _ _ c.self.view_is refl (Keeps-refl _) (Keeps-refl _) (Consumes-nil _) (never_hidden _ _ c.if-self.true)
-      (quiet_known _ _ refl (sym c.is_some.ensures ∙ c.if-is_some.true)) refl refl,
+      (quiet_known _ _ _ refl (sym c.is_some.ensures ∙ c.if-is_some.true) (λ is. (is, refl))) refl refl refl,
 )
 
 pub returns-in_err-write_head-clause-stops : goal.returns-in_err-write_head-clause-stops

@@ -21,18 +21,18 @@ returns-in-Ok g c =
     some_sent _ _ _ c.in-Ok.count _ c.self.view_is
     (one_with _ _ _ (on.write c.in-Ok.count) _ [] _ [] [] (λ more. 0 < length (written more)) c.self.view_is c.advance.ensures.stands (gave_moves c.in-Ok.count _ _)
     (Consumes-nil _) (appends_same _ _ _ _ (ap (λ (l : List ℕ). take c.in-Ok.count l) c.front.ensures) c.in-Ok.ensures.bytes) (Consumes-nil _) (λ _. Appends-nil _)
-    (ends_none (on.write c.in-Ok.count) _ _ refl refl refl) (quiet_still _ _ refl (Keeps-refl _)) refl
+    (ends_none (on.write c.in-Ok.count) _ _ refl refl refl) (quiet_still _ _ refl (Keeps-refl _) (λ is. is)) refl
     (gave_some _ _ c.advance.ensures.stands.says (some_taken _ _ within some)))
     c.advance.ensures.stands
 
 pub returns-in-Err : goal.returns-in-Err
 returns-in-Err g c =
     none_now _ _ _ c.self.view_is
-    (no_step _ _ _ c.self.view_is refl (Keeps-refl _) c.in-Err.ensures.bytes (Consumes-nil _) (λ _. Appends-nil _) (quiet_still _ _ refl (Keeps-refl _)) refl refl)
+    (no_step _ _ _ c.self.view_is refl (Keeps-refl _) c.in-Err.ensures.bytes (Consumes-nil _) (λ _. Appends-nil _) (quiet_still _ _ refl (Keeps-refl _) (λ is. is)) refl refl refl)
     c.in-Err.ensures.cause.failed (Keeps-refl _) refl
 
 pub returns-in-Err-2 : goal.returns-in-Err-2
 returns-in-Err-2 g c =
     none_now _ _ _ c.self.view_is
-    (no_step _ _ _ c.self.view_is refl (Keeps-refl _) c.in-Err-2.ensures.bytes (Consumes-nil _) (λ _. Appends-nil _) (quiet_still _ _ refl (Keeps-refl _)) refl refl)
+    (no_step _ _ _ c.self.view_is refl (Keeps-refl _) c.in-Err-2.ensures.bytes (Consumes-nil _) (λ _. Appends-nil _) (quiet_still _ _ refl (Keeps-refl _) (λ is. is)) refl refl refl)
     c.in-Err-2.ensures.cause.failed (Keeps-refl _) refl
