@@ -114,7 +114,7 @@ wrong() {
     said=$(awk -v mistake="$1" '
         /#\[error\("/ { text = $0; sub(/^.*#\[error\("/, "", text); sub(/"\)\].*$/, "", text) }
         $1 == mistake "," { print text; exit }' "$root/crates/$name/src/options.rt")
-    refuse 2 "$said; --help says more"
+    refuse "$wrong_words" "$said; --help says more"
 }
 
 is_number() { [[ $1 =~ ^\+?[0-9]+$ ]] && [[ ${1#+} =~ ^0*([0-9]{1,20})$ ]] && fits "${BASH_REMATCH[1]}" "$2"; }
@@ -319,5 +319,6 @@ option_mark=-
 words=()
 more=()
 limits=(--seconds 86400)
+wrong_words=2
 ending=
 drain=30

@@ -115,11 +115,13 @@ serve_to_input_end() {
 }
 
 launch_chat() {
-    flags="--ignore-input"
-    valued="--bind --origin"
+    flags="--ignore-input --log --log=json"
+    valued="--bind --origin --limit"
+    wrong_words=64
     value() {
         case $1 in
             --bind) [ $# -gt 1 ] || wrong Bind ;;
+            --limit) [ $# -gt 1 ] && is_limit "$2" || wrong Limit ;;
             # A scheme and a host, without a path.
             --origin) [ $# -gt 1 ] && [[ $2 =~ ^[^:/]+://[^/]+$ ]] || wrong Origin ;;
         esac

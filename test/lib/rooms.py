@@ -101,11 +101,10 @@ def socket_members(address):
     ended("a message inside another one", frame(0x01, b"a") + frame(0x81, b"b"), broken)
     ended("a Close with a code that may not be sent", frame(0x88, b"\x03\xed"), broken)
     ended("a Ping, then a frame without a mask", frame(0x89, b"hi") + b"\x81\x01a", [(0x8a, b"hi")] + broken)
-    ended("a frame of 65,537 bytes, by its head", head(0x82, 65_537), [(0x88, b"\x03\xf1")])
-    ended("a frame of 200,000 bytes", frame(0x82, bytes(200_000)), [(0x88, b"\x03\xf1")])
+    ended("a frame of 1,048,577 bytes, by its head", head(0x82, 1_048_577), [(0x88, b"\x03\xf1")])
     ended("a frame of 2 to the 63rd bytes", b"\x82\xff\x7f" + b"\xff" * 7 + bytes(4), [(0x88, b"\x03\xf1")])
-    ended("1,048,577 bytes in fragments", frame(0x02, b"a") + frame(0x00, bytes(65_536)) * 16, [(0x88, b"\x03\xf1")])
-    ended("text of 60,000 bytes that isn't UTF-8", masked(0x81, b"a" * 59_999 + b"\xc3"), [(0x88, b"\x03\xef")])
+    ended("1,049,000 bytes in three fragments", frame(0x02, bytes(500_000)) + frame(0x00, bytes(549_000)) + frame(0x00, b"a"), [(0x88, b"\x03\xf1")])
+    ended("text of 100,000 bytes that isn't UTF-8", masked(0x81, b"a" * 99_999 + b"\xc3"), [(0x88, b"\x03\xef")])
     ended("1024 fragments and no last one", frame(0x01, b"") + frame(0x00, b"") * 1023, [(0x88, b"\x03\xf1")])
 
     def whole(size):
@@ -116,17 +115,17 @@ def socket_members(address):
             with one, other:
                 # The head comes byte by byte.
                 text = masked(0x81, said[:size])
-                for at in range(8):
+                for at in range(14):
                     one.sendall(text[at:at + 1])
                     time.sleep(0.01)
-                one.sendall(text[8:] + masked(0x82, b"then") + frame(0x88, b""))
+                one.sendall(text[14:] + masked(0x82, b"then") + frame(0x88, b""))
                 read_all(one)
                 other.sendall(frame(0x88, b""))
                 # One that waits for long is sent a Ping.
                 seen = [one for one in frames_of(read_all(other)) if one != (0x89, b"")]
                 return differs(joined_frames(seen), [(0x81, said[:size]), (0x82, b"then"), (0x88, b"")])
         check(f"rooms, a text of {size:,} bytes in one frame", make)
-    for size in (125, 126, 16_370, 16_371, 65_535, 65_536):
+    for size in (125, 126, 16_368, 16_369, 16_371, 32_736, 65_535, 65_536, 1_048_576):
         whole(size)
 
     def early():

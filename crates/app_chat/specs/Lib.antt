@@ -1,3 +1,4 @@
 pub mod House
 pub mod Moves
 pub mod Flow
+pub mod Pieces

@@ -13,11 +13,17 @@ pub enum Farewell {
     /// It broke a rule of the protocol.
     Broken,
 
-    /// It sent a frame that is too big.
+    /// It sent a message that is too big.
     TooBig,
 
     /// It isn't heard any more.
     Silent,
+
+    /// There is no room for its message now.
+    NoRoom,
+
+    /// The program ends, or its hub does.
+    Away,
 }
 
 impl Farewell {
@@ -29,12 +35,25 @@ impl Farewell {
         }
     }
 
-    /// The Close that says so, without a text: 1002, 1009 or 1008.
+    /// Its code.
+    pub fn code(self) -> u16 {
+        match self {
+            Farewell::Broken => 1002,
+            Farewell::TooBig => 1009,
+            Farewell::Silent => 1008,
+            Farewell::NoRoom => 1013,
+            Farewell::Away => 1001,
+        }
+    }
+
+    /// The Close that says so, without a text.
     pub fn close(self) -> &'static [u8] {
         match self {
             Farewell::Broken => &[0x88, 2, 0x03, 0xea],
             Farewell::TooBig => &[0x88, 2, 0x03, 0xf1],
             Farewell::Silent => &[0x88, 2, 0x03, 0xf0],
+            Farewell::NoRoom => &[0x88, 2, 0x03, 0xf5],
+            Farewell::Away => &[0x88, 2, 0x03, 0xe9],
         }
     }
 }

@@ -6,18 +6,25 @@ mod flow;
 mod gate;
 mod hall;
 mod house;
+mod inlet;
+mod journal;
+mod limits;
 mod member;
 mod options;
 mod page;
+mod record;
 mod round;
 mod serve;
 mod server;
+mod splitter;
 mod text;
 mod visit;
 mod watch;
 
 use crate::gate::Gate;
-use crate::options::{Command, HELP, Options, VERSION};
+use crate::journal::Journal;
+use crate::limits::Limits;
+use crate::options::{Command, HELP, Options, UsageError, VERSION};
 use crate::server::{ServeError, Server};
 use http_types::{ServiceConfig, ServiceConfigBuilder};
 use std::alloc::Global;
@@ -27,26 +34,19 @@ use std::process::ExitCode;
 use std::rt::Env;
 use std::{env, io};
 
-/// The words are out of form.
-const USAGE: u8 = 2;
+/// The words are out of form. All else that fails is 1.
+const USAGE: u8 = 64;
 
-/// An address can't be listened on.
-const NO_PORT: u8 = 4;
-
-/// Memory has run out.
-const NO_MEMORY: u8 = 5;
-
-/// The most bytes of a request's head, and of a frame with its own head: its payload has at most 65,536.
-const HOLD_SIZE: usize = 65_550;
-
-/// How long a peer may take for what is left once its connection ends, in milliseconds.
-const DISCONNECT_TIMEOUT: u64 = 10_000;
+/// The most bytes of a request's head, and of a frame with its own head.
+const HOLD_SIZE: usize = 16_384;
 
 fn main(rt: HostRuntime) -> ExitCode {
     let alloc = rt.alloc();
     let words = match words(&rt) {
         Ok(words) => words,
-        Err(error) if error.kind() == ErrorKind::OutOfMemory => return ExitCode::from(NO_MEMORY),
+        Err(error) if error.kind() == ErrorKind::OutOfMemory => {
+            return refuse(rt, &UsageError::NoMemory);
+        }
         // Words that can't be had are wrong words.
         Err(_) => Vec::new(alloc),
     };
@@ -54,11 +54,18 @@ fn main(rt: HostRuntime) -> ExitCode {
         Ok(Command::Help) => print(rt, HELP),
         Ok(Command::Version) => print(rt, VERSION),
         Ok(Command::Serve(options)) => open(rt, options),
-        Err(error) => {
-            let _ = eprintln!(rt; "app_chat: {error}; --help says more");
-            ExitCode::from(USAGE)
-        }
+        Err(error) => refuse(rt, &error),
     }
+}
+
+// Says what is wrong with the words.
+fn refuse(rt: HostRuntime, error: &UsageError) -> ExitCode {
+    if let UsageError::NoMemory = error {
+        let _ = eprintln!(rt; "app_chat: {error}");
+        return ExitCode::FAILURE;
+    }
+    let _ = eprintln!(rt; "app_chat: {error}; --help says more");
+    ExitCode::from(USAGE)
 }
 
 fn print(rt: HostRuntime, text: &str) -> ExitCode {
@@ -75,20 +82,17 @@ fn words(rt: &(impl Env + Alloc<A = Global>)) -> io::Result<Vec<String>> {
 
 fn open(rt: HostRuntime, options: Options<'_>) -> ExitCode {
     let Some((rooms, at)) = listen(rt, options.address, options.port) else {
-        return ExitCode::from(NO_PORT);
+        return ExitCode::FAILURE;
     };
     let Some((pages, page_at)) = listen(rt, options.address, options.page_port) else {
-        return ExitCode::from(NO_PORT);
+        return ExitCode::FAILURE;
     };
     let _ = eprintln!(rt; "app_chat: rooms at ws://{at}/ROOM, the page at http://{page_at}/");
     match run(rt, options, rooms, pages) {
         Ok(()) => ExitCode::SUCCESS,
         Err(error) => {
             let _ = eprintln!(rt; "app_chat: {error}");
-            match error {
-                ServeError::NoMemory => ExitCode::from(NO_MEMORY),
-                ServeError::Poll => ExitCode::FAILURE,
-            }
+            ExitCode::FAILURE
         }
     }
 }
@@ -101,19 +105,25 @@ fn run(
 ) -> Result<(), ServeError> {
     let Options {
         origins,
+        limits,
+        lines,
         ignores_input,
         ..
     } = options;
     let gate = Gate::new(origins);
+    let journal = Journal::new(rt, lines);
     let rooms = mio::net::TcpListener::from_std(rooms);
     let pages = mio::net::TcpListener::from_std(pages);
-    let mut server = Server::new(rt, config(), rooms, pages, gate)?;
+    let config = config(&limits);
+    let mut server = Server::new(rt, config, limits, rooms, pages, gate, journal)?;
     server.run(!ignores_input)
 }
 
 // The settings of each connection.
-fn config() -> ServiceConfig {
-    let builder = ServiceConfigBuilder::new().client_disconnect_timeout(DISCONNECT_TIMEOUT);
+fn config(limits: &Limits) -> ServiceConfig {
+    let builder = ServiceConfigBuilder::new()
+        .client_request_timeout(limits.head)
+        .client_disconnect_timeout(limits.end);
     match builder.h1_hold_size(HOLD_SIZE) {
         Ok(builder) => builder.build(),
         Err(_) => ServiceConfig::default(),

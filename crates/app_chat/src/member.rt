@@ -2,8 +2,12 @@
 ghost use Rattle.std.specs.Prelude.{◌≡◌, true};
 
 use crate::control::Farewell;
+use crate::record::{Gone, Record};
+use crate::splitter::Splitter;
 use bytes::Bytes;
 use mio::net::TcpStream;
+use rooms::NoMemory;
+use std::alloc::Global;
 
 /// How far a socket has come.
 #[derive(Clone, Copy, PartialEq, Eq)]
@@ -53,6 +57,12 @@ pub struct Standing {
 
     /// Why it is let go, as it is told once its connection has ended and all is written.
     pub last: Option<Farewell>,
+
+    /// The code of the Close that it was sent.
+    pub code: Option<u16>,
+
+    /// How many bytes were written.
+    pub written: u64,
 }
 
 impl Standing {
@@ -69,7 +79,14 @@ impl Standing {
             is_lost: false,
             stalled: None,
             last: None,
+            code: None,
+            written: 0,
         }
+    }
+
+    /// Its messages are still taken.
+    pub fn is_heard(&self) -> bool {
+        self.stage == Stage::Open && !self.is_told && !self.is_lost
     }
 
     /// The peer is gone.
@@ -83,12 +100,15 @@ impl Standing {
     }
 }
 
-/// One that joins: its socket, what is owed to it, and its request with what it sent behind that.
+/// One that joins: its socket, what is owed to it, its request, and what it sent behind that. Where a log is kept, its target.
 #[derive(Drop)]
 pub struct Joining {
     pub stream: TcpStream,
+    pub record: Record,
+    pub target: Vec<u8>,
     pub owed: Bytes,
     pub request: Vec<u8>,
+    pub early: Vec<u8>,
 }
 
 /// A socket of the rooms.
@@ -96,6 +116,22 @@ pub struct Joining {
 pub struct Member {
     pub stream: TcpStream,
     pub standing: Standing,
+
+    /// What the log tells of it.
+    pub record: Record,
+    target: Vec<u8>,
+
+    /// The socket may have something to read.
+    pub may_read: bool,
+
+    /// The socket gives no more bytes.
+    pub has_ended: bool,
+
+    /// Cuts its frames.
+    pub splitter: Splitter,
+
+    /// What came, and what its connection hasn't read.
+    pub inbox: Bytes,
 
     /// When something came last, in milliseconds of uptime.
     pub heard: u64,
@@ -105,15 +141,51 @@ pub struct Member {
 }
 
 impl Member {
-    /// One that joins now, in milliseconds of uptime. Its connection was told of its request.
-    pub fn new(stream: TcpStream, owed: Bytes, uptime: u64) -> Member {
-        let mut standing = Standing::new(owed);
-        standing.asks = true;
-        Member {
+    /// One that joins now, in milliseconds of uptime. Its messages have at most so many bytes.
+    pub fn new(
+        alloc: Global,
+        joining: Joining,
+        message: u64,
+        uptime: u64,
+    ) -> Result<Member, NoMemory> {
+        let Joining {
             stream,
-            standing,
+            record,
+            target,
+            owed,
+            request,
+            early,
+        } = joining;
+        let mut splitter = Splitter::new(alloc, message);
+        let mut came = request;
+        splitter.take(early.as_slice(), &mut came)?;
+        Ok(Member {
+            stream,
+            standing: Standing::new(owed),
+            record,
+            target,
+            may_read: true,
+            has_ended: false,
+            splitter,
+            inbox: Bytes::from_vec(came)?,
             heard: uptime,
             pinged: None,
+        })
+    }
+
+    /// What the log tells of it, now that it is gone.
+    pub fn into_gone(self) -> Gone {
+        let Member {
+            standing,
+            mut record,
+            target,
+            ..
+        } = self;
+        record.sent = record.sent.saturating_add(standing.written);
+        Gone {
+            record,
+            target,
+            code: standing.code,
         }
     }
 }

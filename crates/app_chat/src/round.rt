@@ -119,7 +119,9 @@ fn take_turns(house: &mut House, number: usize, standing: &mut Standing) -> Resu
 enum Effect {
     Nothing,
     Some,
-    SaysClose,
+
+    // A Close with this code is sent.
+    SaysClose(Option<u16>),
 
     // A rule is broken: it is told so once all else is written.
     Breaks(Farewell),
@@ -138,8 +140,9 @@ fn take_turn(house: &mut House, number: usize, standing: &mut Standing) -> Resul
             Ok(false)
         }
         Effect::Some => Ok(true),
-        Effect::SaysClose => {
+        Effect::SaysClose(code) => {
             standing.stage = Stage::Closing;
+            standing.code = code;
             Ok(true)
         }
         Effect::Breaks(farewell) => {
@@ -171,20 +174,19 @@ fn effect_of(turn: &Option<HubTurn>) -> Effect {
         Outcome::Pending => Effect::Nothing,
         Outcome::Closed(_) | Outcome::Abandoned => Effect::Ends,
         Outcome::Protocol(error) => Effect::Breaks(Farewell::of(*error)),
-        _ => {
-            if says_close(&turn.event) {
-                return Effect::SaysClose;
-            }
-            Effect::Some
-        }
+        _ => effect_of_event(&turn.event),
     }
 }
 
-// Whether the event sends a Close.
-fn says_close(event: &Event) -> bool {
-    match event {
-        Event::Send(message) => matches!(message.get(), Message::Close(_)),
-        _ => false,
+// What an event was that did something: it may send a Close.
+fn effect_of_event(event: &Event) -> Effect {
+    let Event::Send(message) = event else {
+        return Effect::Some;
+    };
+    match message.get() {
+        Message::Close(None) => Effect::SaysClose(None),
+        Message::Close(Some(reason)) => Effect::SaysClose(Some(u16::from(reason.code))),
+        _ => Effect::Some,
     }
 }
 
@@ -278,8 +280,9 @@ fn write_some<K: Sink + Polled>(
         return Ok(false);
     }
     match write(&mut standing.owed, sink)? {
-        Some(_) => {
+        Some(count) => {
             standing.stalled = None;
+            standing.written = standing.written.saturating_add(count as u64);
             Ok(true)
         }
         None => {

@@ -1,7 +1,10 @@
 //! The loop: it waits until a socket is ready, and gives every member and every visit of the page a round.
 use crate::gate::Gate;
 use crate::hall::{Hall, READ_SIZE};
+use crate::journal::{Asked, Deed, Journal};
+use crate::limits::{Limits, MOST_JOINING};
 use crate::member::Joining;
+use crate::record::Now;
 use crate::visit::{Progress, Visit};
 use http_types::{NoMemory, ServiceConfig};
 use mio::net::{TcpListener, TcpStream};
@@ -10,6 +13,7 @@ use mio::{Events, Interest, Poll, Token};
 use net_sockets::{moment, uptime};
 use std::alloc::Global;
 use std::io::{ErrorKind, Read};
+use std::net::SocketAddr;
 use std::time::Duration;
 use thiserror::Error;
 
@@ -22,13 +26,12 @@ const ROOMS_TOKEN: usize = 1;
 
 const PAGE_TOKEN: usize = 2;
 
+const LOG_TOKEN: usize = 3;
+
 /// The tokens of visits begin here, and those of members behind them.
 const VISITS: usize = 16;
 
-/// The most connections at once that haven't joined.
-const MAX_VISITS: usize = 256;
-
-const MEMBERS: usize = VISITS + MAX_VISITS;
+const MEMBERS: usize = VISITS + MOST_JOINING;
 
 /// The most events of one wait.
 const EVENTS: usize = 256;
@@ -38,6 +41,11 @@ const ROUNDS: u32 = 16;
 
 /// How long a wait takes at most, and how often the time is told, in milliseconds.
 const SECOND: u64 = 1000;
+
+/// How often, and how long each time in milliseconds, the end waits until somebody reads the rest of the log.
+const LAST_WAITS: u32 = 32;
+
+const LAST_WAIT: u64 = 10;
 
 /// Why the server ended before its input did.
 #[derive(Clone, Copy, Debug, Error)]
@@ -61,16 +69,21 @@ pub struct Server {
     rt: HostRuntime,
     alloc: Global,
     config: ServiceConfig,
+    limits: Limits,
     poll: Poll,
-    rooms: TcpListener,
-    pages: TcpListener,
+    rooms: Option<TcpListener>,
+    pages: Option<TcpListener>,
     hall: Hall,
     gate: Gate,
+    journal: Journal,
     visits: Vec<Option<Visit>>,
     room: Vec<u8>,
     may_accept: bool,
     may_visit: bool,
     input_ended: bool,
+
+    // Until when members may take what waits for them, once the input has ended, in milliseconds of uptime.
+    until: Option<u64>,
     last_tick: u64,
 }
 
@@ -79,44 +92,42 @@ impl Server {
     pub fn new(
         rt: HostRuntime,
         config: ServiceConfig,
+        limits: Limits,
         mut rooms: TcpListener,
         mut pages: TcpListener,
         gate: Gate,
+        mut journal: Journal,
     ) -> Result<Server, ServeError> {
         let alloc = rt.alloc();
         let Ok(poll) = Poll::new(&rt) else {
             return Err(ServeError::Poll);
         };
-        if poll
-            .registry()
-            .register(&mut rooms, Token(ROOMS_TOKEN), Interest::READABLE)
-            .is_err()
-            || poll
-                .registry()
-                .register(&mut pages, Token(PAGE_TOKEN), Interest::READABLE)
-                .is_err()
-        {
+        if !listens(&poll, &mut rooms, ROOMS_TOKEN) || !listens(&poll, &mut pages, PAGE_TOKEN) {
             return Err(ServeError::Poll);
         }
+        journal.watch(&poll, LOG_TOKEN);
         Ok(Server {
             rt,
             alloc,
             config,
+            limits,
             poll,
-            rooms,
-            pages,
-            hall: Hall::new(alloc, config)?,
+            rooms: Some(rooms),
+            pages: Some(pages),
+            hall: Hall::new(alloc, config, limits)?,
             gate,
-            visits: no_visits(alloc)?,
+            journal,
+            visits: no_visits(alloc, limits.joining)?,
             room: Vec::from_elem(alloc, 0, READ_SIZE)?,
             may_accept: true,
             may_visit: true,
             input_ended: false,
+            until: None,
             last_tick: 0,
         })
     }
 
-    /// Serves until the standard input ends, if it is watched.
+    /// Serves until the standard input ends, if it is watched. Then the members leave.
     pub fn run(&mut self, watches_input: bool) -> Result<(), ServeError> {
         if watches_input {
             self.watch_input();
@@ -124,21 +135,100 @@ impl Server {
         let mut events = Events::with_capacity(self.alloc, EVENTS)?;
         let mut moved = false;
         for _ in 0..u64::MAX {
-            let wait = if moved { 0 } else { SECOND };
-            if self
-                .poll
-                .poll(&mut events, Some(Duration::from_millis(wait)))
-                .is_err()
-            {
+            let wait = if moved { 0 } else { self.longest_wait() };
+            self.wait(&mut events, wait)?;
+            if self.input_ended {
+                self.close();
+            }
+            moved = self.turn()?;
+            if self.is_over() {
+                return self.end();
+            }
+        }
+        Ok(())
+    }
+
+    // Waits until something is ready, at most for so many milliseconds.
+    fn wait(&mut self, events: &mut Events, wait: u64) -> Result<(), ServeError> {
+        let wait = Some(Duration::from_millis(wait));
+        if self.poll.poll(events, wait).is_err() {
+            return Err(ServeError::Poll);
+        }
+        for event in &*events {
+            self.note(event.token().0, event.is_readable(), event.is_writable());
+        }
+        Ok(())
+    }
+
+    // The longest wait, in milliseconds.
+    fn longest_wait(&self) -> u64 {
+        match self.until {
+            Some(until) => until.saturating_sub(self.now().uptime).min(SECOND),
+            None => SECOND,
+        }
+    }
+
+    // The input has ended: nobody comes any more, and the members are to leave.
+    fn close(&mut self) {
+        if self.until.is_none() {
+            self.rooms = None;
+            self.pages = None;
+            self.hall.close();
+            self.until = Some(self.now().uptime.saturating_add(self.limits.leave));
+        }
+    }
+
+    // Nobody is left, or the time to leave is up.
+    fn is_over(&self) -> bool {
+        match self.until {
+            Some(until) => self.hall.is_empty() || self.now().uptime >= until,
+            None => false,
+        }
+    }
+
+    // Cuts off who is left, and writes the rest of the log where somebody reads it.
+    fn end(&mut self) -> Result<(), ServeError> {
+        self.hall.dismiss_all()?;
+        let now = self.now();
+        self.log_gone(now)?;
+        let mut events = Events::with_capacity(self.alloc, EVENTS)?;
+        for _ in 0..LAST_WAITS {
+            self.journal.tell_loss()?;
+            self.journal.flush(&self.poll, LOG_TOKEN);
+            if self.journal.is_empty() {
+                break;
+            }
+            let wait = Some(Duration::from_millis(LAST_WAIT));
+            if self.poll.poll(&mut events, wait).is_err() {
                 return Err(ServeError::Poll);
             }
             for event in &events {
-                self.note(event.token().0, event.is_readable(), event.is_writable());
+                if event.token().0 == LOG_TOKEN {
+                    self.journal.note();
+                }
             }
-            if self.input_ended {
-                return Ok(());
-            }
-            moved = self.turn()?;
+        }
+        Ok(())
+    }
+
+    // The two clocks.
+    fn now(&self) -> Now {
+        Now {
+            moment: moment(&self.rt).unwrap_or(0),
+            uptime: uptime(&self.rt).unwrap_or(0),
+        }
+    }
+
+    // Logs those who left.
+    fn log_gone(&mut self, now: Now) -> Result<(), NoMemory> {
+        let left = self.hall.take_gone();
+        for gone in &left {
+            let asked = Asked {
+                method: "GET",
+                target: gone.target.as_slice(),
+            };
+            self.journal
+                .tell(Deed::Left(gone.code), Some(asked), &gone.record, now)?;
         }
         Ok(())
     }
@@ -149,6 +239,7 @@ impl Server {
             INPUT_TOKEN => self.read_input(),
             ROOMS_TOKEN => self.may_accept = true,
             PAGE_TOKEN => self.may_visit = true,
+            LOG_TOKEN => self.journal.note(),
             _ if token >= MEMBERS => self.hall.note(token - MEMBERS, may_read, may_write),
             _ => {
                 if let Some(Some(visit)) = self.visits.get_mut(token.saturating_sub(VISITS)) {
@@ -160,20 +251,27 @@ impl Server {
 
     // The time is told, connections are accepted, and everybody has rounds. It says whether something may move at once.
     fn turn(&mut self) -> Result<bool, ServeError> {
-        let moment = moment(&self.rt).unwrap_or(0);
-        let uptime = uptime(&self.rt).unwrap_or(0);
-        if uptime.saturating_sub(self.last_tick) >= SECOND {
-            self.last_tick = uptime;
+        let now = self.now();
+        if now.uptime.saturating_sub(self.last_tick) >= SECOND {
+            self.last_tick = now.uptime;
             // Descriptors may be free again.
             self.may_accept = true;
             self.may_visit = true;
-            self.hall.tick(moment, uptime)?;
+            self.hall.tick(now.moment, now.uptime)?;
         }
-        self.accept(uptime);
-        let goes_on = self.serve_visits(moment, uptime)?;
+        self.accept(now.uptime);
+        let mut goes_on = self.serve_visits(now)?;
+        goes_on = self.serve_members(now)? || goes_on;
+        self.log_gone(now)?;
+        self.journal.flush(&self.poll, LOG_TOKEN);
+        Ok(goes_on)
+    }
+
+    // Gives all members rounds, and says whether something may move at once.
+    fn serve_members(&mut self, now: Now) -> Result<bool, NoMemory> {
         for _ in 0..ROUNDS {
-            if !self.hall.round(uptime)? {
-                return Ok(goes_on);
+            if !self.hall.round(now.uptime)? {
+                return Ok(false);
             }
         }
         Ok(true)
@@ -188,10 +286,12 @@ impl Server {
                 if accepted.is_none() {
                     accepted = accept(&self.pages, &mut self.may_visit);
                 }
-                if let Some(mut stream) = accepted
+                if let Some((mut stream, peer)) = accepted
                     && register(&self.poll, &mut stream, VISITS.saturating_add(slot))
                 {
-                    *place = Some(Visit::new(self.alloc, self.config, stream, uptime));
+                    let accepted = (stream, peer);
+                    let visit = Visit::new(self.alloc, self.config, &self.limits, accepted, uptime);
+                    *place = Some(visit);
                 }
             }
             slot = slot.saturating_add(1);
@@ -199,12 +299,14 @@ impl Server {
     }
 
     // Serves each visit for a while, and says whether one may go on at once.
-    fn serve_visits(&mut self, moment: u64, uptime: u64) -> Result<bool, ServeError> {
+    fn serve_visits(&mut self, now: Now) -> Result<bool, ServeError> {
         let mut goes_on = false;
         for place in &mut self.visits {
             let is_full = self.hall.next_number().is_none();
             let progress = match place {
-                Some(visit) => visit.serve(&self.gate, is_full, &mut self.room, moment, uptime)?,
+                Some(visit) => {
+                    visit.serve(&self.gate, is_full, &mut self.room, now, &mut self.journal)?
+                }
                 None => Progress::Waits,
             };
             match progress {
@@ -214,7 +316,7 @@ impl Server {
                 Progress::Joins => {
                     if let Some(visit) = place.take() {
                         let joining = visit.into_joining()?;
-                        admit(&mut self.hall, &self.poll, joining, moment, uptime)?;
+                        admit(&mut self.hall, &self.poll, &mut self.journal, joining, now)?;
                     }
                 }
             }
@@ -251,10 +353,17 @@ impl Server {
     }
 }
 
+// Has it told when a connection waits, and says whether that can be.
+fn listens(poll: &Poll, listener: &mut TcpListener, token: usize) -> bool {
+    poll.registry()
+        .register(listener, Token(token), Interest::READABLE)
+        .is_ok()
+}
+
 // Places for visits.
-fn no_visits(alloc: Global) -> Result<Vec<Option<Visit>>, NoMemory> {
+fn no_visits(alloc: Global, count: u64) -> Result<Vec<Option<Visit>>, NoMemory> {
     let mut visits = Vec::new(alloc);
-    for _ in 0..MAX_VISITS {
+    for _ in 0..count {
         visits.push(None)?;
     }
     Ok(visits)
@@ -264,9 +373,9 @@ fn no_visits(alloc: Global) -> Result<Vec<Option<Visit>>, NoMemory> {
 fn admit(
     hall: &mut Hall,
     poll: &Poll,
+    journal: &mut Journal,
     mut joining: Joining,
-    moment: u64,
-    uptime: u64,
+    now: Now,
 ) -> Result<(), NoMemory> {
     let Some(number) = hall.next_number() else {
         return Ok(());
@@ -278,21 +387,32 @@ fn admit(
         .reregister(&mut joining.stream, token, interests)
         .is_ok()
     {
-        hall.admit(joining, moment, uptime)?;
+        let asked = Asked {
+            method: "GET",
+            target: joining.target.as_slice(),
+        };
+        journal.tell(Deed::Joined, Some(asked), &joining.record, now)?;
+        hall.admit(joining, now.moment, now.uptime)?;
     }
     Ok(())
 }
 
 // The next connection, where one waits; `may_accept` says whether there may be more.
-fn accept(listener: &TcpListener, may_accept: &mut bool) -> Option<TcpStream> {
+fn accept(
+    listener: &Option<TcpListener>,
+    may_accept: &mut bool,
+) -> Option<(TcpStream, SocketAddr)> {
     if !*may_accept {
         return None;
     }
+    let Some(listener) = listener else {
+        return None;
+    };
     match listener.accept() {
-        Ok((stream, _)) => {
+        Ok((stream, peer)) => {
             // Small pieces go out at once.
             let _ = stream.set_nodelay(true);
-            Some(stream)
+            Some((stream, peer))
         }
         Err(error) => {
             let is_gone = matches!(

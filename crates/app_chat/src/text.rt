@@ -78,6 +78,7 @@ const REASONS = {
   1007: "The server was sent text that isn't UTF-8.",
   1008: "The server cut you off: too much was waiting for you, or nothing was heard of you.",
   1009: "A message was too long for the server.",
+  1013: "The server had no room for your message just then.",
 };
 let socket = null;
 let wait = 1;

@@ -1,11 +1,14 @@
 //! A connection that hasn't joined a room: it is answered, and joins where it asks for that and may.
 use crate::gate::{Gate, Verdict};
+use crate::journal::{Asked, Deed, Journal};
+use crate::limits::Limits;
 use crate::member::Joining;
 use crate::page::{Reply, forbidden, full, malformed, outdated, page_for};
+use crate::record::{Now, Record};
 use bytes::Bytes;
 use h1_connection::{
-    Accepted, BodySize, Connection, Expiry, HeadItem, NextHead, NoMemory, ReadFromError,
-    RequestHead, ServiceConfig,
+    Accepted, BodySize, Connection, End, Expiry, HeadFault, HeadItem, NextHead, NoMemory,
+    ReadFromError, RequestHead, ServiceConfig,
 };
 use http_types::Sink;
 use http_types::header::SEC_WEBSOCKET_KEY;
@@ -13,19 +16,13 @@ use mio::net::TcpStream;
 use net_sockets::{Incoming, Outgoing, Polled};
 use std::alloc::Global;
 use std::io::Read;
-use std::net::Shutdown;
+use std::net::{Shutdown, SocketAddr};
 
 /// The most requests that are answered in one round.
 const TURNS: u32 = 16;
 
-/// For how long a visit lasts, in milliseconds.
-const LONGEST: u64 = 30_000;
-
-/// How long a peer is waited for after the last byte was written, in milliseconds.
-const LINGER: u64 = 2000;
-
-/// The most bytes of a frame's payload.
-const FRAME: usize = 65_536;
+/// The most bytes of a frame's payload, which no frame of a member exceeds once it is cut.
+const FRAME: usize = 16_370;
 
 /// The lines of a request to join, but for its target and its key.
 const LINES: &[u8] =
@@ -52,33 +49,46 @@ pub enum Progress {
 pub struct Visit {
     alloc: Global,
     stream: TcpStream,
+    record: Record,
     connection: Connection,
     may_read: bool,
     may_write: bool,
 
-    // When it ends, in milliseconds of uptime.
+    // When it ends, in milliseconds of uptime, and how long its peer is waited for after the last byte was written.
     until: u64,
+    linger: u64,
 
     // Its connection has ended, and all was written.
     is_lingering: bool,
 
-    // The request by which it joins, and what is owed to it from before.
+    // The request by which it joins, and where a log is kept its target, and what is owed to it from before.
     request: Vec<u8>,
+    target: Vec<u8>,
     owed: Bytes,
 }
 
 impl Visit {
     /// A visit that begins now, in milliseconds of uptime.
-    pub fn new(alloc: Global, config: ServiceConfig, stream: TcpStream, uptime: u64) -> Visit {
+    pub fn new(
+        alloc: Global,
+        config: ServiceConfig,
+        limits: &Limits,
+        accepted: (TcpStream, SocketAddr),
+        uptime: u64,
+    ) -> Visit {
+        let (stream, peer) = accepted;
         Visit {
             alloc,
             stream,
+            record: Record::new(peer, uptime),
             connection: Connection::new(alloc, config),
             may_read: true,
             may_write: true,
-            until: uptime.saturating_add(LONGEST),
+            until: uptime.saturating_add(limits.visit),
+            linger: limits.linger,
             is_lingering: false,
             request: Vec::new(alloc),
+            target: Vec::new(alloc),
             owed: Bytes::new(),
         }
     }
@@ -95,31 +105,53 @@ impl Visit {
         gate: &Gate,
         is_full: bool,
         room: &mut [u8],
-        moment: u64,
-        uptime: u64,
+        now: Now,
+        journal: &mut Journal,
     ) -> Result<Progress, NoMemory> {
-        if uptime >= self.until {
+        if now.uptime >= self.until {
             return Ok(Progress::Over);
         }
         if self.is_lingering {
             return Ok(self.drop_rest(room));
         }
-        if self.tell_time(moment)? {
+        if self.tell_time(now, journal)? {
             return Ok(Progress::Over);
         }
-        self.take_turns(gate, is_full, uptime)
+        self.take_turns(gate, is_full, now, journal)
     }
 
     // Tells the moment, and says whether its peer took too long.
-    fn tell_time(&mut self, moment: u64) -> Result<bool, NoMemory> {
-        if !self.connection.can_tick(moment) {
+    fn tell_time(&mut self, now: Now, journal: &mut Journal) -> Result<bool, NoMemory> {
+        if !self.connection.can_tick(now.moment) {
             return Ok(false);
         }
-        match self.connection.tick(moment)? {
-            Expiry::Abandoned => Ok(true),
-            // Where it expired, the answer that says so is to be written, and then the connection has ended.
-            Expiry::None | Expiry::Expired(_) => Ok(false),
+        match self.connection.tick(now.moment)? {
+            Expiry::Abandoned => return Ok(true),
+            // The answer that says so is to be written, and then the connection has ended.
+            Expiry::Expired(End::SlowRequestTimeout) => self.tell(408, None, now, journal)?,
+            Expiry::None | Expiry::Expired(_) => {}
         }
+        Ok(false)
+    }
+
+    // Logs an answer, which may still have to be written.
+    fn tell(
+        &self,
+        status: u16,
+        item: Option<&HeadItem>,
+        now: Now,
+        journal: &mut Journal,
+    ) -> Result<(), NoMemory> {
+        let mut record = self.record;
+        record.send(self.connection.buffered());
+        let asked = match item {
+            Some(item) => Some(Asked {
+                method: item.head.method.as_str(),
+                target: item.target.as_slice(),
+            }),
+            None => None,
+        };
+        journal.tell(Deed::Answered(status), asked, &record, now)
     }
 
     // Reads, answers and writes.
@@ -127,7 +159,8 @@ impl Visit {
         &mut self,
         gate: &Gate,
         is_full: bool,
-        uptime: u64,
+        now: Now,
+        journal: &mut Journal,
     ) -> Result<Progress, NoMemory> {
         for _ in 0..TURNS {
             if self.read()? || self.write() {
@@ -138,17 +171,17 @@ impl Visit {
             }
             match self.connection.next()? {
                 NextHead::Head(item) => {
-                    if self.judge(gate, is_full, &item)? {
+                    if self.judge(gate, is_full, &item, now, journal)? {
                         return Ok(Progress::Joins);
                     }
                 }
-                NextHead::Fault(_) => {}
+                NextHead::Fault(fault) => self.tell(status_of(fault), None, now, journal)?,
                 NextHead::Pending => {
                     if !self.may_read {
                         return Ok(Progress::Waits);
                     }
                 }
-                NextHead::Closed(_) => return Ok(self.shut(uptime)),
+                NextHead::Closed(_) => return Ok(self.shut(now.uptime)),
             }
         }
         Ok(Progress::More)
@@ -165,7 +198,8 @@ impl Visit {
                 self.connection.eof();
                 self.may_read = false;
             }
-            Ok(_) | Err(ReadFromError::Full) => {}
+            Ok(count) => self.record.receive(count),
+            Err(ReadFromError::Full) => {}
             Err(ReadFromError::NoMemory) => return Err(std::alloc::AllocError),
             Err(ReadFromError::Failed) => {
                 if !source.is_not_now() {
@@ -178,7 +212,14 @@ impl Visit {
     }
 
     // Answers the open request, or accepts it, and says whether it joins by it.
-    fn judge(&mut self, gate: &Gate, is_full: bool, item: &HeadItem) -> Result<bool, NoMemory> {
+    fn judge(
+        &mut self,
+        gate: &Gate,
+        is_full: bool,
+        item: &HeadItem,
+        now: Now,
+        journal: &mut Journal,
+    ) -> Result<bool, NoMemory> {
         let reply = match gate.judge(&item.head) {
             Verdict::Page => page_for(self.alloc, &item.head, is_full)?,
             Verdict::Outdated => outdated(self.alloc)?,
@@ -186,12 +227,16 @@ impl Visit {
             Verdict::Join if is_full => full(self.alloc)?,
             Verdict::Join => {
                 if self.join(item)? {
+                    if journal.is_on() {
+                        self.target.extend_from_slice(item.target.as_slice())?;
+                    }
                     return Ok(true);
                 }
                 malformed(self.alloc)?
             }
         };
         self.answer(&reply)?;
+        self.tell(reply.head.status.as_u16(), Some(item), now, journal)?;
         Ok(false)
     }
 
@@ -216,17 +261,24 @@ impl Visit {
     /// What joins: its socket, with what is owed to it and what it sent.
     pub fn into_joining(self) -> Result<Joining, NoMemory> {
         let Visit {
+            alloc,
             stream,
+            record,
             connection,
-            mut request,
+            request,
+            target,
             owed,
             ..
         } = self;
-        put_held(&connection, &mut request)?;
+        let mut early = Vec::new(alloc);
+        put_held(&connection, &mut early)?;
         Ok(Joining {
             stream,
+            record,
+            target,
             owed,
             request,
+            early,
         })
     }
 
@@ -259,7 +311,10 @@ impl Visit {
             }
             let mut sink = Outgoing::new(&self.stream);
             match sink.write(self.connection.stretch()) {
-                Ok(count) => self.connection.advance(count),
+                Ok(count) => {
+                    self.record.send(count);
+                    self.connection.advance(count);
+                }
                 Err(_) => {
                     if !sink.is_not_now() {
                         return true;
@@ -277,7 +332,7 @@ impl Visit {
             return Progress::Over;
         }
         self.is_lingering = true;
-        self.until = uptime.saturating_add(LINGER).min(self.until);
+        self.until = uptime.saturating_add(self.linger).min(self.until);
         // What still comes is dropped.
         self.may_read = true;
         Progress::More
@@ -303,6 +358,14 @@ impl Visit {
     }
 }
 
+// The answer to what is no request.
+fn status_of(fault: HeadFault) -> u16 {
+    match fault {
+        HeadFault::Malformed => 400,
+        HeadFault::TooLarge => 431,
+    }
+}
+
 // The request by which a connection of the rooms is joined, behind nothing else.
 fn put_request(out: &mut Vec<u8>, target: &[u8], head: &RequestHead) -> Result<(), NoMemory> {
     out.extend_from_slice(b"GET ")?;
@@ -315,15 +378,13 @@ fn put_request(out: &mut Vec<u8>, target: &[u8], head: &RequestHead) -> Result<(
     Ok(())
 }
 
-// What a connection holds, behind other bytes.
+// What a connection holds, behind nothing else.
 fn put_held(connection: &Connection, out: &mut Vec<u8>) -> Result<(), NoMemory> {
-    let mut start: usize = 0;
     for _ in 0..connection.held() {
-        let piece = connection.held_bytes(start);
+        let piece = connection.held_bytes(out.len());
         if piece.is_empty() {
             break;
         }
-        start = start.saturating_add(piece.len());
         out.extend_from_slice(piece)?;
     }
     Ok(())

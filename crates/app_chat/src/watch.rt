@@ -1,14 +1,9 @@
 //! Members that are silent.
 use crate::control::{Farewell, PING, say};
 use crate::house::House;
+use crate::limits::Limits;
 use crate::member::{Member, Stage, Standing};
 use rooms::NoMemory;
-
-/// After how long without a byte a member is sent a Ping, in milliseconds.
-const IDLE: u64 = 20_000;
-
-/// For how long it may be silent after that, in milliseconds.
-const ANSWER: u64 = 20_000;
 
 /// Sends a Ping to a member that has been silent, and lets it go where it stays so. Where `reads` is false nobody is read, so
 /// nobody is silent. The moment is of uptime, in milliseconds.
@@ -17,6 +12,7 @@ pub fn watch(
     number: usize,
     member: &mut Member,
     reads: bool,
+    limits: &Limits,
     uptime: u64,
 ) -> Result<(), NoMemory> {
     if !reads {
@@ -24,15 +20,15 @@ pub fn watch(
         member.pinged = None;
     }
     if let Some(since) = member.pinged {
-        if uptime.saturating_sub(since) >= ANSWER {
+        if uptime.saturating_sub(since) >= limits.answer {
             dismiss(house, number, &mut member.standing, Farewell::Silent)?;
         }
         return Ok(());
     }
-    if uptime.saturating_sub(member.heard) >= IDLE
+    if uptime.saturating_sub(member.heard) >= limits.idle
         && is_between_frames(house, number)
         && member.standing.stage == Stage::Open
-        && !member.standing.has_ended
+        && !member.has_ended
         && say(&mut member.standing.owed, PING)
     {
         member.pinged = Some(uptime);

@@ -17,5 +17,5 @@ returns-then-is_not_now g c = λ number house left.
 
 pub returns-in-Some : goal.returns-in-Some
 returns-in-Some g c = λ number house left.
-    passes_written number house left (g.K.Sink.given c.args.sink.now) (g.K.Sink.given c.write.new.sink) c.args.standing.now.owed c.write.new.owed _ c.in-Some.field-0
+    passes_written number house left (g.K.Sink.given c.args.sink.now) (g.K.Sink.given c.write.new.sink) c.args.standing.now.owed c.write.new.owed _ c.in-Some.count
     (subst (λ (o : Option ℕ). Writes (g.K.Sink.given c.args.sink.now) c.args.standing.now.owed (g.K.Sink.given c.write.new.sink) c.write.new.owed o) c.in-Some.is c.in_ok-write.ensures)
