@@ -19,7 +19,7 @@ not_there done rest exact some = elim (cases_lt (length done) 2) [
 ]
 
 -- the bytes of a head, of which some may have come
-heads_told : (c : Cutter) (x : ℕ) (rest : List ℕ) → c.is_raw ≡ false → c.piece ≡ 0 → is_whole (c.head ++ x ∷ rest) ≡ true
+pub heads_told : (c : Cutter) (x : ℕ) (rest : List ℕ) → c.is_raw ≡ false → c.piece ≡ 0 → is_whole (c.head ++ x ∷ rest) ≡ true
     → length (c.head ++ x ∷ rest) ≡ head_size (get_or (c.head ++ x ∷ rest) 1 0)
     → all_told c (x ∷ rest) ≡ frame_head (record c { head = c.head ++ x ∷ rest })
 heads_told c x [] raw none whole exact =
@@ -35,7 +35,7 @@ heads_told c x (y ∷ ys) raw none whole exact =
     ∙ heads_told (with_head_byte c x) y ys raw none (ap is_whole longer ∙ whole) exact'
     ∙ ap (λ (h : List ℕ). frame_head (record c { head = h })) longer
 
-heads_after : (c : Cutter) (x : ℕ) (rest : List ℕ) → c.is_raw ≡ false → c.piece ≡ 0 → is_whole (c.head ++ x ∷ rest) ≡ true
+pub heads_after : (c : Cutter) (x : ℕ) (rest : List ℕ) → c.is_raw ≡ false → c.piece ≡ 0 → is_whole (c.head ++ x ∷ rest) ≡ true
     → length (c.head ++ x ∷ rest) ≡ head_size (get_or (c.head ++ x ∷ rest) 1 0)
     → after_all c (x ∷ rest) ≡ begun_frame (record c { head = c.head ++ x ∷ rest })
 heads_after c x [] raw none whole exact = head_after c x raw none ∙ cond-true _ _ _ whole

@@ -4,3 +4,4 @@ pub mod HouseLemmas
 pub mod FlowLemmas
 pub mod PieceLemmas
 pub mod LargeFrames
+pub mod SmallFrames

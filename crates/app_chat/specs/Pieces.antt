@@ -173,3 +173,39 @@ pub record IsToldInPieces (c : Cutter) (head payload : List ℕ) : Type 0 where
 pub record TellsFragments (before after : List ℕ) (c : Cutter) (head payload : List ℕ) : Type 0 where
   pub told : after ≡ before ++ fragments (length payload) head true payload
   pub idle : IsIdle c
+
+-- ---- all other frames go as they came
+
+-- a whole head and no more, of a frame that isn't cut
+pub record IsUncutHead (longest : ℕ) (head : List ℕ) : Type 0 where
+  pub whole : is_whole head ≡ true
+  pub exact : length head ≡ head_size (slice_index head 1)
+  pub uncut : is_cut longest head ≡ false
+
+-- such a head, with as much payload as it states: a control frame, or one of at most a piece
+pub record IsSmallFrame (longest : ℕ) (head payload : List ℕ) : Type 0 where
+  pub uncut : IsUncutHead longest head
+  pub accepted : is_refused head ≡ false
+  pub stated : length payload ≡ stated_size head
+
+-- such a head that the connection refuses, as that of a frame with more bytes of payload than the longest
+pub record IsRefusedFrame (longest : ℕ) (head : List ℕ) : Type 0 where
+  pub uncut : IsUncutHead longest head
+  pub refused : is_refused head ≡ true
+
+-- what was put behind these bytes are those that came, and nothing is under way
+pub record TellsAsItCame (before after : List ℕ) (c : Cutter) (bytes : List ℕ) : Type 0 where
+  pub told : after ≡ before ++ bytes
+  pub idle : IsIdle c
+
+-- the same, and so it stays
+pub record GoesRaw (before after : List ℕ) (c : Cutter) (bytes : List ℕ) : Type 0 where
+  pub told : after ≡ before ++ bytes
+  pub raw : c.is_raw ≡ true
+
+-- ---- many calls
+
+-- what was put behind these bytes since the start, and what is under way, are those of all bytes at once
+pub record TellsAtOnce (before after : List ℕ) (start c : Cutter) (bytes : List ℕ) : Type 0 where
+  pub told : after ≡ before ++ all_told start bytes
+  pub left : c ≡ after_all start bytes

@@ -1,5 +1,5 @@
 //! What a member sent, as its connection is to read it.
-ghost use Rattle.std.specs.Prelude.{Some};
+ghost use Rattle.std.specs.Prelude.{◌≡◌, ◌≤◌, ◌++◌, min, length, take, Some};
 
 use bytes::Bytes;
 use http_types::{Failed, Source};
@@ -41,20 +41,22 @@ impl Source for Inlet {
     ghost faults = { λ s. s.faults };
 
     fn read(&mut self, buf: &mut [u8]) -> Result<usize, Failed> {
-        let count = self.bytes.len().min(buf.len());
-        if count == 0 {
+        if self.bytes.is_empty() || buf.is_empty() {
             self.faults = self.faults.saturating_add(1);
             return Err(Failed);
         }
-        match self.bytes.split_to(count) {
-            Ok(front) => {
-                buf[..count].copy_from_slice(front.as_slice());
-                Ok(count)
-            }
-            Err(_) => {
-                self.faults = self.faults.saturating_add(1);
-                Err(Failed)
-            }
-        }
+        Ok(move_front(&mut self.bytes, buf))
     }
+}
+
+// Moves as many bytes as fit from the front of one to the front of the other.
+fn move_front(from: &mut Bytes, to: &mut [u8]) -> usize
+    ensures count { result ≡ min (length from.old) (length to.old) }
+    ensures bound { result ≤ length to.new }
+    ensures moved { from.old ≡ take result to.new ++ from.new }
+{
+    let count = from.len().min(to.len());
+    to[..count].copy_from_slice(&from.as_slice()[..count]);
+    from.advance(count);
+    count
 }

@@ -1,13 +1,15 @@
 //! The log: a line for each connection that joins, leaves or is answered otherwise, on standard error.
 //!
 //! Nothing waits for who reads it. As many lines as there is room for are kept meanwhile, and further ones are counted.
+ghost use Rattle.std.specs.Prelude.{◌≤◌};
+
 use crate::record::{Now, Record};
 use http_files::{json_text, line_text, log_time};
 use http_types::NoMemory;
 use mio::unix::SourceFd;
 use mio::{Interest, Poll, Token};
 use std::alloc::Global;
-use std::io::{ErrorKind, Write};
+use std::io::{self, ErrorKind, Write};
 
 /// The descriptor of standard error.
 const ERRORS: i32 = 2;
@@ -176,23 +178,31 @@ impl Journal {
             .reregister(&mut source, Token(token), Interest::WRITABLE);
     }
 
-    // Writes once. What nobody will read is dropped.
+    // Writes once.
     fn write(&mut self) {
         let mut errors = self.rt.stderr();
         let end = self.lines.len().min(PIECE);
-        let count = match errors.write(&self.lines[..end]) {
-            Ok(count) => count.min(self.lines.len()),
-            Err(error) => match error.kind() {
-                ErrorKind::WouldBlock | ErrorKind::Interrupted => 0,
-                _ => self.lines.len(),
-            },
-        };
+        let wrote = errors.write(&self.lines[..end]);
+        let count = done_with(wrote, self.lines.len());
         let _ = self.lines.drain(..count);
     }
 
     /// Whether all was written.
     pub fn is_empty(&self) -> bool {
         self.lines.is_empty()
+    }
+}
+
+// How many of so many bytes are done with after a write. What nobody will read is dropped.
+fn done_with(wrote: io::Result<usize>, all: usize) -> usize
+    ensures { result ≤ all }
+{
+    match wrote {
+        Ok(count) => count.min(all),
+        Err(error) => match error.kind() {
+            ErrorKind::WouldBlock | ErrorKind::Interrupted => 0,
+            _ => all,
+        },
     }
 }
 

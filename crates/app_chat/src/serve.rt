@@ -59,13 +59,12 @@ pub fn serve(
     if let Stage::Lingering(until) = member.standing.stage {
         return Ok(linger(member, room, until, uptime));
     }
-    let limit = if pace.reads { room.len() } else { 0 };
-    let came = fill(pace.alloc, member, &mut room[..limit], uptime)?;
+    let came = fill(member, room, pace)?;
     // The hub itself has the greatest limit of a message.
     if pace.limits.message < MOST_MESSAGE && member.splitter.begun() as u64 > pace.limits.message {
         dismiss(house, number, &mut member.standing, Farewell::TooBig)?;
     }
-    let mut round = go(house, number, member, &mut room[..limit], uptime)?;
+    let mut round = go(house, number, member, room, pace)?;
     round.moved = round.moved || came;
     if !round.moved {
         round.moved = leave(house, number, member, pace)?;
@@ -119,13 +118,8 @@ fn end(house: &House, number: usize, member: &mut Member, pace: &Pace, moved: &m
 }
 
 // Reads what came, where the last of it was taken, and says whether that was something. Its large frames are cut.
-fn fill(
-    alloc: Global,
-    member: &mut Member,
-    room: &mut [u8],
-    uptime: u64,
-) -> Result<bool, NoMemory> {
-    if room.is_empty()
+fn fill(member: &mut Member, room: &mut [u8], pace: &Pace) -> Result<bool, NoMemory> {
+    if !pace.reads
         || !member.inbox.is_empty()
         || !member.may_read
         || member.has_ended
@@ -134,9 +128,9 @@ fn fill(
     {
         return Ok(false);
     }
-    let mut came = Vec::new(alloc);
+    let mut came = Vec::new(pace.alloc);
     for _ in 0..READS {
-        if !came.is_empty() || !read(member, room, uptime, &mut came)? {
+        if !came.is_empty() || !read(member, room, pace.uptime, &mut came)? {
             break;
         }
     }
@@ -207,11 +201,11 @@ fn go(
     number: usize,
     member: &mut Member,
     room: &mut [u8],
-    uptime: u64,
+    pace: &Pace,
 ) -> Result<Round, NoMemory> {
     let inbox = mem::replace(&mut member.inbox, Bytes::new());
     let standing = &mut member.standing;
-    standing.may_read = !inbox.is_empty() && !standing.is_lost;
+    standing.may_read = pace.reads && !inbox.is_empty() && !standing.is_lost;
     standing.has_ended = standing.is_lost || (member.has_ended && inbox.is_empty());
     let mut source = Inlet::new(inbox);
     let mut sink = Outgoing::new(&member.stream);
@@ -222,7 +216,7 @@ fn go(
         &mut source,
         &mut sink,
         room,
-        uptime,
+        pace.uptime,
     )?;
     member.inbox = source.rest();
     Ok(round)

@@ -4,7 +4,7 @@
 //! 6455, section 5.4), so a connection has to hold no more than a piece of one.
 ghost use Rattle.std.specs.Prelude.{◌≡◌, ◌<◌, ◌≤◌, ◌+◌, ◌^◌, ◌++◌, ◌∷◌, [], ◌&&◌, ◌==◌, not, true, false, ℕ, List, OnOk, IfOk, length, take, slice_index};
 ghost use Rattle.model_h1.specs.FrameText.{frame_start, length_bytes, mask_bytes, payload_length_of};
-ghost use Rattle.app_chat.specs.Pieces.{fresh, all_told, after_all, told, after, with_head_byte, IsIdle, IsLargeFrame, TellsFragments, ran, spelled_at, begun_frame, frame_head, next_piece, next_head, ended, is_whole, head_size, stated_size, is_masked, is_control, is_last, is_cut, is_refused, first_byte, length_field, piece_head};
+ghost use Rattle.app_chat.specs.Pieces.{Cutter, fresh, all_told, after_all, told, after, with_head_byte, IsIdle, IsLargeFrame, TellsFragments, IsSmallFrame, TellsAsItCame, IsRefusedFrame, GoesRaw, TellsAtOnce, ran, spelled_at, begun_frame, frame_head, next_piece, next_head, ended, is_whole, head_size, stated_size, is_masked, is_control, is_last, is_cut, is_refused, first_byte, length_field, piece_head};
 
 use http_types::NoMemory;
 use std::alloc::Global;
@@ -63,12 +63,21 @@ impl Splitter {
         self.begun
     }
 
-    /// Puts what these bytes become behind others. A large frame becomes its fragments. Once memory ran out, it is of no use.
+    /// Puts what these bytes become behind others. A large frame becomes its fragments, any other goes as it came, and behind the
+    /// head of one that is refused all does. Once memory ran out, it is of no use.
     pub fn take(&mut self, bytes: &[u8], out: &mut Vec<u8>) -> Result<(), NoMemory>
         ensures told { OnOk result (out.new.items ≡ out.old.items ++ all_told self.old bytes.now) }
         ensures after { OnOk result (self.new ≡ after_all self.old bytes.now) }
         ensures cut { OnOk result ((head payload : List ℕ) → IsIdle self.old → IsLargeFrame self.old.longest head payload
             → bytes.now ≡ head ++ payload → TellsFragments out.old.items out.new.items self.new head payload) }
+        ensures kept { OnOk result ((head payload : List ℕ) → IsIdle self.old → IsSmallFrame self.old.longest head payload
+            → bytes.now ≡ head ++ payload → TellsAsItCame out.old.items out.new.items self.new bytes.now) }
+        ensures refused { OnOk result ((head rest : List ℕ) → IsIdle self.old → IsRefusedFrame self.old.longest head
+            → bytes.now ≡ head ++ rest → GoesRaw out.old.items out.new.items self.new bytes.now) }
+
+        // It doesn't matter how many calls the bytes come in.
+        ensures at_once { OnOk result ((start : Cutter) (earlier first : List ℕ) → self.old ≡ after_all start earlier
+            → out.old.items ≡ first ++ all_told start earlier → TellsAtOnce first out.new.items start self.new (earlier ++ bytes.now)) }
     {
         self.take_all(bytes, out)?;
         Ok(())
