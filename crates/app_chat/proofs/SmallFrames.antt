@@ -1,5 +1,5 @@
 -- A frame that isn't cut is told as it came.
-use Rattle.std.proofs.Common.{◌≡◌, ℕ, ◌<◌, ◌≤◌, ◌==◌, min, Bool, true, false, cond, not, ◌||◌, nat_lt, List, [], ◌∷◌, ◌++◌, length, get_or, refl, sym, ap, ap₂, ◌∙◌, subst, arith, append_assoc, append-nil, ltb-false}
+use Rattle.std.proofs.Common.{◌≡◌, ℕ, ◌≤◌, ◌==◌, min, Bool, true, false, cond, not, ◌||◌, nat_lt, List, [], ◌∷◌, ◌++◌, length, get_or, refl, sym, ap, ap₂, ◌∙◌, subst, arith, append_assoc, append-nil, ltb-false}
 use Rattle.std.proofs.lemmas.Bool.{cond-true, cond-false, eq-eqb, ne_eqb}
 use Rattle.app_chat.specs.Pieces.{Cutter, PIECE, all_told, after_all, is_whole, head_size, is_refused, is_masked, stated_size, frame_head, begun_frame, ran, ended, ended_if_empty, IsIdle, IsUncutHead, IsSmallFrame, IsRefusedFrame, TellsAsItCame, GoesRaw, TellsAtOnce}
 use Rattle.app_chat.proofs.PieceLemmas.{all_told-append, after_all-append, told_whole, after_whole, raw_all_told, raw_after_all}
@@ -42,12 +42,12 @@ payload_runs d [] raw all none =
     let empty : ended_if_empty d ≡ ended d = cond-true _ _ _ (eq-eqb d.piece 0 all) in
     record { told = refl; idle = subst IsIdle (sym empty) (record { head = refl; piece = all; raw = raw }) }
 payload_runs d (y ∷ ys) raw all none =
-    let payload : List ℕ = y ∷ ys in
     let some : ended_if_empty d ≡ d = cond-false _ _ _ (ne_eqb d.piece 0 (λ e. omega arith)) in
     let last : (d.rest == 0) ≡ true = eq-eqb d.rest 0 none in
-    let after : after_all d payload ≡ ended (ran d (length payload)) = after_whole d payload raw (omega arith) (sym all) ∙ cond-true _ _ _ last in
-    subst (λ (e : Cutter). Runs e payload) (sym some) (record {
-      told = told_whole d payload raw (omega arith) (sym all) ∙ ap (λ (t : List ℕ). payload ++ t) (cond-true _ _ _ last) ∙ append-nil payload;
+    let after : after_all d (y ∷ ys) ≡ ended (ran d (length (y ∷ ys)))
+    = after_whole d (y ∷ ys) raw (omega arith) (sym all) ∙ cond-true _ _ _ last in
+    subst (λ (e : Cutter). Runs e (y ∷ ys)) (sym some) (record {
+      told = told_whole d (y ∷ ys) raw (omega arith) (sym all) ∙ ap (λ (t : List ℕ). (y ∷ ys) ++ t) (cond-true _ _ _ last) ∙ append-nil (y ∷ ys);
       idle = subst IsIdle (sym after) (record { head = refl; piece = omega arith; raw = raw });
     })
 

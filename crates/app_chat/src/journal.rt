@@ -214,18 +214,34 @@ fn long_line(
     now: Now,
 ) -> Result<String, NoMemory> {
     let time = log_time(alloc, now.moment)?;
-    let (peer, name) = (record.peer, name_of(deed));
-    let (method, target) = match asked {
-        Some(asked) => (asked.method, line_text(alloc, asked.target)?),
-        None => ("-", String::from_str(alloc, "-")?),
-    };
-    let code = match code_of(deed) {
-        Some(code) => format!(in alloc; "{code}")?,
-        None => String::from_str(alloc, "-")?,
-    };
+    let target = target_text(alloc, asked)?;
+    let code = code_text(alloc, deed, "-")?;
+    let (peer, name, method) = (record.peer, name_of(deed), method_of(asked));
     let (received, sent) = (record.received, record.sent);
     let passed = now.uptime.saturating_sub(record.since);
     format!(in alloc; "{time} {peer} {name} {method} {target} {code} {received} {sent} {passed}\n")
+}
+
+fn method_of<'a>(asked: Option<Asked<'a>>) -> &'a str {
+    match asked {
+        Some(asked) => asked.method,
+        None => "-",
+    }
+}
+
+fn target_text(alloc: Global, asked: Option<Asked<'_>>) -> Result<String, NoMemory> {
+    match asked {
+        Some(asked) => line_text(alloc, asked.target),
+        None => String::from_str(alloc, "-"),
+    }
+}
+
+// The status, or the code of the Close, or what stands for none.
+fn code_text(alloc: Global, deed: Deed, none: &str) -> Result<String, NoMemory> {
+    match code_of(deed) {
+        Some(code) => format!(in alloc; "{code}"),
+        None => String::from_str(alloc, none),
+    }
 }
 
 fn json_line(
@@ -235,26 +251,15 @@ fn json_line(
     record: &Record,
     now: Now,
 ) -> Result<String, NoMemory> {
-    let time = log_time(alloc, now.moment)?;
-    let (peer, name) = (record.peer, name_of(deed));
     let (method, target) = match asked {
-        Some(asked) => (
-            quoted(alloc, asked.method.as_bytes())?,
-            quoted(alloc, asked.target)?,
-        ),
-        None => (
-            String::from_str(alloc, "null")?,
-            String::from_str(alloc, "null")?,
-        ),
+        Some(asked) => (Some(asked.method.as_bytes()), Some(asked.target)),
+        None => (None, None),
     };
-    let kind = match deed {
-        Deed::Left(_) => "code",
-        _ => "status",
-    };
-    let code = match code_of(deed) {
-        Some(code) => format!(in alloc; "{code}")?,
-        None => String::from_str(alloc, "null")?,
-    };
+    let time = log_time(alloc, now.moment)?;
+    let method = quoted(alloc, method)?;
+    let target = quoted(alloc, target)?;
+    let code = code_text(alloc, deed, "null")?;
+    let (peer, name, kind) = (record.peer, name_of(deed), kind_of(deed));
     let (received, sent) = (record.received, record.sent);
     let passed = now.uptime.saturating_sub(record.since);
     format!(in alloc;
@@ -262,10 +267,21 @@ fn json_line(
     )
 }
 
-// A text of JSON in its quotes.
-fn quoted(alloc: Global, bytes: &[u8]) -> Result<String, NoMemory> {
+// A text of JSON in its quotes, or null.
+fn quoted(alloc: Global, bytes: Option<&[u8]>) -> Result<String, NoMemory> {
+    let Some(bytes) = bytes else {
+        return String::from_str(alloc, "null");
+    };
     let text = json_text(alloc, bytes)?;
     format!(in alloc; "\"{text}\"")
+}
+
+// What the code is.
+fn kind_of(deed: Deed) -> &'static str {
+    match deed {
+        Deed::Left(_) => "code",
+        Deed::Answered(_) | Deed::Joined => "status",
+    }
 }
 
 fn name_of(deed: Deed) -> &'static str {

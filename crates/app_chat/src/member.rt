@@ -159,6 +159,7 @@ impl Member {
         let mut splitter = Splitter::new(alloc, message);
         let mut came = request;
         splitter.take(early.as_slice(), &mut came)?;
+        let inbox = Bytes::from_vec(came)?;
         Ok(Member {
             stream,
             standing: Standing::new(owed),
@@ -167,7 +168,7 @@ impl Member {
             may_read: true,
             has_ended: false,
             splitter,
-            inbox: Bytes::from_vec(came)?,
+            inbox,
             heard: uptime,
             pinged: None,
         })
