@@ -55,12 +55,14 @@ value() { [ $# -gt 1 ] || wrong Bind; }
 
 launch_serve() {
     flags="--dotfiles --lax --log --log=json --until-input-ends"
-    valued="--bind --cache-control --requests"
+    valued="--bind --cache-control --limit --requests"
     option_mark=--
+    wrong_words=64
     value() {
         case $1 in
             --bind) [ $# -gt 1 ] || wrong Bind ;;
             --cache-control) [ $# -gt 1 ] && [[ ${2//$'\t'/} != *[[:cntrl:]]* ]] || wrong CacheControl ;;
+            --limit) [ $# -gt 1 ] && is_limit "$2" || wrong Limit ;;
             --requests) [ $# -gt 1 ] && is_number "$2" "$most_64" || wrong Requests ;;
         esac
     }
@@ -73,7 +75,7 @@ launch_serve() {
     }
     read_words "$@"
     [ "$operands" -ge 2 ] || wrong TooFew
-    [ -d "$folder" ] || refuse 3 "there is no folder $folder"
+    [ -d "$folder" ] || refuse 1 "there is no folder $folder"
     ending=input
     serve --until-input-ends "$@"
 }
@@ -265,11 +267,10 @@ END
 }
 
 launch_hello() {
-    answers_help "$@" <<'END'
-It serves N connections on a port of this machine, AT_ONCE of them at once where that is given, and then ends. POST /echo is
-answered with the body that it brings, /silent not at all, and all else with a greeting. It ends with status 0, and with 1
-where the port can't be had or the server can't go on.
-END
+    case ${1-} in
+        --help | -h) text_of HELP | as_launched; exit 0 ;;
+        --version) text_of VERSION; exit 0 ;;
+    esac
     [ $# = 2 ] || [ $# = 3 ] && is_number "$1" 65535 && is_number "$2" "$most_64" && is_number "${3-0}" "$most_64" || refuse_usage
     words=("$@")
     serve "$@"
