@@ -108,13 +108,14 @@ refuse_usage() {
     exit 64
 }
 
-# Ends as the program does for wrong words: with what its sources say of this mistake.
+# Ends as the program does for wrong words: with its status, and what its sources say of this mistake.
+wrong_words=2
 wrong() {
     local said
     said=$(awk -v mistake="$1" '
         /#\[error\("/ { text = $0; sub(/^.*#\[error\("/, "", text); sub(/"\)\].*$/, "", text) }
         $1 == mistake "," { print text; exit }' "$root/crates/$name/src/options.rt")
-    refuse 2 "$said; --help says more"
+    refuse "$wrong_words" "$said; --help says more"
 }
 
 is_number() { [[ $1 =~ ^\+?[0-9]+$ ]] && [[ ${1#+} =~ ^0*([0-9]{1,20})$ ]] && fits "${BASH_REMATCH[1]}" "$2"; }

@@ -4,7 +4,7 @@ table='
 serve    | app_files    | one to three minutes   | PORT FOLDER             | serves the files of a folder
 get      | app_get      | a minute or two        | URL.. [FILE]            | asks for URLs, one after another
 chat     | app_chat     | one to three minutes   | PORT                    | chat rooms over WebSocket, and a page to chat with
-proxy    | app_proxy    | one to three minutes   | PORT SERVER             | a reverse proxy before one server
+proxy    | app_proxy    | one to three minutes   | PORT SERVER[,SERVER..]  | a reverse proxy before servers
 replay   | app_replay   | a minute or two        | replay, gen, hub, again | replays a script of events, or runs exchanges of a seed
 echo     | app_echo     | about a minute         | [MOMENT]                | answers requests on the standard input with their bodies
 site     | app_site     | one to three minutes   | PORT THREADS            | a small site by event loops
@@ -55,12 +55,14 @@ value() { [ $# -gt 1 ] || wrong Bind; }
 
 launch_serve() {
     flags="--dotfiles --lax --log --log=json --until-input-ends"
-    valued="--bind --cache-control --requests"
+    valued="--bind --cache-control --limit --requests"
     option_mark=--
+    wrong_words=64
     value() {
         case $1 in
             --bind) [ $# -gt 1 ] || wrong Bind ;;
             --cache-control) [ $# -gt 1 ] && [[ ${2//$'\t'/} != *[[:cntrl:]]* ]] || wrong CacheControl ;;
+            --limit) [ $# -gt 1 ] && is_limit "$2" || wrong Limit ;;
             --requests) [ $# -gt 1 ] && is_number "$2" "$most_64" || wrong Requests ;;
         esac
     }
@@ -73,7 +75,7 @@ launch_serve() {
     }
     read_words "$@"
     [ "$operands" -ge 2 ] || wrong TooFew
-    [ -d "$folder" ] || refuse 3 "there is no folder $folder"
+    [ -d "$folder" ] || refuse 1 "there is no folder $folder"
     ending=input
     serve --until-input-ends "$@"
 }
@@ -138,8 +140,9 @@ launch_chat() {
 }
 
 launch_proxy() {
-    flags="--trust-forwarded --lax --quiet --ignore-input"
+    flags="--trust-forwarded --lax --log --log=json --quiet --ignore-input"
     valued="--bind --limit"
+    wrong_words=64
     value() {
         case $1 in
             --bind) [ $# -gt 1 ] || wrong Bind ;;
@@ -149,17 +152,24 @@ launch_proxy() {
     operand() {
         case $1 in
             1) is_number "$2" 65535 || wrong Port ;;
-            2) server=$2 ;;
+            2) are_servers "$2" || wrong Server ;;
             *) wrong TooMany ;;
         esac
     }
     read_words "$@"
     [ "$operands" -ge 2 ] || wrong TooFew
-    if ! is_number "$server" 65535 && ! [[ $server =~ ^([0-9.]+|\[[0-9a-fA-F:.]+\]):[0-9]+$ ]]; then
-        refuse 2 "the server has to be a port of this machine, or an address and a port as 127.0.0.1:8080"
-    fi
     more=(--ignore-input)
     serve_to_input_end "$@"
+}
+
+# Ports, or hosts with ports, with commas between them.
+are_servers() {
+    local word rest="$1,"
+    while [ -n "$rest" ]; do
+        word=${rest%%,*} rest=${rest#*,}
+        [[ $word == *:* ]] || word=127.0.0.1:$word
+        [ -n "${word%:*}" ] && is_number "${word##*:}" 65535 || return 1
+    done
 }
 
 # NAME=NUMBER, with a name that the program's help lists.
@@ -265,11 +275,10 @@ END
 }
 
 launch_hello() {
-    answers_help "$@" <<'END'
-It serves N connections on a port of this machine, AT_ONCE of them at once where that is given, and then ends. POST /echo is
-answered with the body that it brings, /silent not at all, and all else with a greeting. It ends with status 0, and with 1
-where the port can't be had or the server can't go on.
-END
+    case ${1-} in
+        --help | -h) text_of HELP | as_launched; exit 0 ;;
+        --version) text_of VERSION; exit 0 ;;
+    esac
     [ $# = 2 ] || [ $# = 3 ] && is_number "$1" 65535 && is_number "$2" "$most_64" && is_number "${3-0}" "$most_64" || refuse_usage
     words=("$@")
     serve "$@"

@@ -4,6 +4,8 @@ import os, re, socket, subprocess, tempfile, threading, time
 from checks import check, connect, differs, free_port, has, read_all, run, statuses_of, wait_for
 from edge import default_clients, edge_clients
 from forwarder import GET, LAST, Forwarder, exchange
+from logs import log_clients
+from several import several_clients
 from upstream import BIG, Upstream
 
 NGINX = """
@@ -29,9 +31,10 @@ def forward_clients(program, quick, files=None):
         socket_clients(forwarder, server)
         bad_clients(forwarder.address)
         smuggling_clients(forwarder.address, server)
-        log_clients(forwarder)
         slow = [] if quick else silent_clients(forwarder.address) + [default_clients(program, server)]
         edge_clients(program, server)
+        log_clients(program, server)
+        several_clients(program)
         if has("nginx"):
             nginx_clients(program)
         for thread in slow:
@@ -52,11 +55,12 @@ def usage_clients(program):
         check("forwarder, " + name, make)
     ends("--help", 0, b"app_proxy PORT SERVER", "--help")
     ends("--version", 0, b"app_proxy 0.1.0\n", "--version")
-    ends("no words", 2, b"a port and a server are wanted")
-    ends("a port that is none", 2, b"at most 65535", "70000", "80")
-    ends("a server that is none", 2, b"127.0.0.1:8080", "0", "nowhere")
+    ends("no words", 64, b"a port and a server are wanted")
+    ends("a port that is none", 64, b"at most 65535", "70000", "80")
+    ends("a server that is none", 64, b"127.0.0.1:8080", "0", "nowhere")
+    ends("a limit that is none", 64, b"NAME=NUMBER", "0", "80", "--limit", "downs=1")
     with socket.create_server(("127.0.0.1", 0)) as taken:
-        ends("a port that is taken", 4, b"the port is taken", str(taken.getsockname()[1]), "80")
+        ends("a port that is taken", 1, b"the port is taken", str(taken.getsockname()[1]), "80")
 
 
 # ---- curl
@@ -305,14 +309,6 @@ def smuggling_clients(address, server):
     arrives("a URL of another scheme", b"GET ftp://smuggled/ HTTP/1.1\r\nhost: a\r\nconnection: close\r\n\r\n", [b"501"], [])
     arrives("OPTIONS of all", b"OPTIONS * HTTP/1.1\r\nhost: a\r\nconnection: close\r\n\r\n", [b"200"], [b"OPTIONS * HTTP/1.1"])
     arrives("a head of 200,000 bytes", b"GET / HTTP/1.1\r\nx: " + b"x" * 200_000 + b"\r\n\r\n", [b"431"], [])
-
-
-def log_clients(forwarder):
-    def make():
-        exchange(forwarder.address, b'GET /a"b?c\\d HTTP/1.1\r\nhost: a\r\nconnection: close\r\n\r\n')
-        lines = [line for line in forwarder.lines() if "/a" in line]
-        return None if lines and re.fullmatch(r'127\.0\.0\.1:\d+ \[.* GMT\] GET /a"b\?c\\x5cd 200', lines[-1]) else lines[-1:]
-    check("forwarder, a line for a reply", make)
 
 
 # ---- the server ends, and is there again

@@ -7,15 +7,22 @@ GET = b"GET /%s HTTP/1.1\r\nhost: a\r\n\r\n"
 LAST = b"GET /%s HTTP/1.1\r\nhost: a\r\nconnection: close\r\n\r\n"
 
 
+def servers_text(servers):
+    """The word for an address, several ones, or a word."""
+    if isinstance(servers, str):
+        return servers
+    return ",".join("%s:%d" % it for it in (servers if isinstance(servers, list) else [servers]))
+
+
 class Forwarder:
-    """The program before a server."""
+    """The program before a server, or several."""
     def __init__(self, program, server, *words, descriptors=None):
         def limit():
             if descriptors:
                 resource.setrlimit(resource.RLIMIT_NOFILE, (descriptors, descriptors))
         self.address = ("127.0.0.1", free_port())
         self.log = tempfile.TemporaryFile()
-        self.process = subprocess.Popen([program, str(self.address[1]), "%s:%d" % server, *words], preexec_fn=limit,
+        self.process = subprocess.Popen([program, str(self.address[1]), servers_text(server), *words], preexec_fn=limit,
                                         stdin=subprocess.PIPE, stdout=self.log, stderr=subprocess.DEVNULL)
         wait_for(self.address)
 

@@ -153,6 +153,24 @@ def deaf_client(hello, pid):
 
 # ---- limits
 
+def greeting_clients(program):
+    """The words of app_hello."""
+    def ends(name, status, wanted, *words):
+        def make():
+            done = run(program, *words)
+            return differs((done.returncode, (done.stdout + done.stderr).count(b"\n") == 1 or status == 0), (status, True)) \
+                or (None if wanted in done.stdout + done.stderr else done.stderr[:200])
+        check("app_hello, " + name, make)
+    ends("--help", 0, b"app_hello PORT CONNECTIONS [AT_ONCE]", "--help")
+    ends("--version", 0, b"app_hello 0.1.0\n", "--version")
+    ends("no words", 64, b"app_hello: a port")
+    ends("a word that is no number", 64, b"app_hello: a port", "0", "x")
+    ends("too many words", 64, b"app_hello: a port", "0", "0", "1", "1")
+    ends("where it listens", 0, b"app_hello: http://127.0.0.1:", "0", "0")
+    with socket.create_server(("127.0.0.1", 0)) as taken:
+        ends("a port that is taken", 1, b"the port is taken", str(taken.getsockname()[1]), "1")
+
+
 def first_served(address, seconds=20):
     """A connection whose first request was answered with 200, once there is one."""
     end = time.monotonic() + seconds

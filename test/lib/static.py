@@ -1,5 +1,5 @@
 """The file server's clients, for test/clients: conditions, ranges, names, pages, coded files, and the options of app_files."""
-import datetime, gzip, json, os, re, subprocess
+import datetime, gzip, json, os, re, socket, subprocess, time
 from checks import check, connect, differs, free_port, read_all, run, wait_for
 
 BEFORE = "Sat, 01 Jan 2000 00:00:00 GMT"
@@ -204,16 +204,26 @@ def served(program, folder, *words):
 
 
 def option_clients(program, folder):
-    def refused(name, *words):
+    def ends(name, status, *words):
         def make():
-            done = run(program, "0", folder, *words)
-            return differs((done.returncode, done.stderr.count(b"\n")), (2, 1))
+            done = run(program, *words)
+            return differs((done.returncode, done.stderr.count(b"\n")), (status, 1))
         check("app_files, " + name, make)
+
+    def refused(name, *words):
+        ends(name, 64, "0", folder, *words)
+    ends("no words", 64)
+    ends("a folder that isn't there", 1, "0", f"{folder}/nothing")
+    with socket.create_server(("127.0.0.1", 0)) as taken:
+        ends("a port that is taken", 1, str(taken.getsockname()[1]), folder)
+    refused("a limit that is none", "--limit", "heads=1")
+    refused("a limit without a number", "--limit", "head")
     refused("--cache-control without a text", "--cache-control")
     refused("--cache-control with the end of a line", "--cache-control", "a\r\nb: c")
     refused("--cache-control with a byte 127", "--cache-control", "a\x7f")
 
     log_clients(program, folder)
+    limit_clients(program, folder)
     server, url = served(program, folder, "--cache-control", "public, max-age=60")
     try:
         def kept(name, wanted, path, *words):
@@ -228,6 +238,44 @@ def option_clients(program, folder):
     finally:
         server.terminate()
         server.communicate()
+
+
+def limit_clients(program, folder):
+    head, whole = b"GET /a.txt HTTP/1.1\r\nhost: a\r\n", b"GET /a.txt HTTP/1.1\r\nhost: a\r\n\r\n"
+
+    def limited(name, limits, talk):
+        def make():
+            server, url = served(program, folder, *[word for limit in limits for word in ("--limit", limit)])
+            try:
+                return talk(("127.0.0.1", int(url.rsplit(":", 1)[1])))
+            finally:
+                server.terminate()
+                server.communicate()
+        check(f"app_files, --limit {' '.join(limits)}, {name}", make)
+
+    def ended(begin, status, seconds):
+        def talk(address):
+            start = time.monotonic()
+            with connect(address) as sock:
+                sock.sendall(begin)
+                seen = read_all(sock)
+            return differs((seen[9:12], time.monotonic() - start < seconds), (status, True))
+        return talk
+
+    def full(address):
+        with connect(address) as first:
+            first.sendall(whole)
+            seen = first.recv(1000)[9:12]
+            with connect(address) as second:
+                return differs((seen, read_all(second)[9:12]), (b"200", b"503"))
+    limited("half a head gets 408", ["head=500"], ended(head, b"408", 3))
+    limited("half a head, and no limit but that of its bytes", ["head=0", "stall=1000"], ended(head, b"", 4))
+    limited("an idle client is ended", ["idle=500"], ended(whole, b"200", 3))
+    limited("the first answer is the last", ["idle=0"], ended(whole, b"200", 2))
+    limited("half a second head", ["stall=1000"], ended(whole + head, b"200", 4))
+    limited("a second connection gets 503", ["connections=1"], full)
+    limited("a body of 100 bytes that isn't wanted ends the connection", ["drop=50"],
+            ended(b"POST /a.txt HTTP/1.1\r\nhost: a\r\ncontent-length: 100\r\n\r\n" + b"x" * 100, b"405", 4))
 
 
 def log_clients(program, folder):

@@ -6,6 +6,7 @@ mod asked;
 mod form;
 mod found;
 mod handler;
+mod limits;
 mod listed;
 mod lookup;
 mod options;
@@ -16,9 +17,8 @@ use crate::handler::FileHandlers;
 use crate::options::{Command, HELP, Options, VERSION};
 use crate::shared::Shared;
 use http_files::Folder;
-use http_types::ServiceConfig;
 use net_sockets::{BindError, Listener};
-use serve_blocking::{Limits, host, wake};
+use serve_blocking::{host, wake};
 use std::alloc::Global;
 use std::io::{ErrorKind, Read};
 use std::net::{Net, SocketAddr, TcpListener, TcpStream};
@@ -30,25 +30,17 @@ use std::time::Clock;
 use std::{env, fs, io, thread};
 
 /// The words are out of form.
-const USAGE: u8 = 2;
+const USAGE: u8 = 64;
 
-/// There is no such folder.
-const NO_FOLDER: u8 = 3;
+const NO_MEMORY: &str = "no memory is left";
 
-/// The address can't be listened on.
-const NO_PORT: u8 = 4;
-
-/// Memory has run out.
-const NO_MEMORY: u8 = 5;
-
-/// No thread can be started.
-const NO_THREAD: u8 = 6;
+const NO_THREAD: &str = "no thread can be started";
 
 fn main(rt: HostRuntime) -> ExitCode {
     let alloc = rt.alloc();
     let words = match words(&rt) {
         Ok(words) => words,
-        Err(error) if error.kind() == ErrorKind::OutOfMemory => return ExitCode::from(NO_MEMORY),
+        Err(error) if error.kind() == ErrorKind::OutOfMemory => return fail(rt, NO_MEMORY),
         // Words that can't be had are wrong words.
         Err(_) => Vec::new(alloc),
     };
@@ -70,6 +62,12 @@ fn print(rt: HostRuntime, text: &str) -> ExitCode {
     }
 }
 
+// Says why it can't go on.
+fn fail(rt: HostRuntime, why: &str) -> ExitCode {
+    let _ = eprintln!(rt; "app_files: {why}");
+    ExitCode::FAILURE
+}
+
 // The program's arguments, without its name.
 fn words(rt: &(impl Env + Alloc<A = Global>)) -> io::Result<Vec<String>> {
     Ok(env::args(rt)?.skip(1).collect(rt.alloc())?)
@@ -88,10 +86,10 @@ where
     let folder = options.folder;
     match fs::metadata(&system, folder) {
         Ok(found) if found.is_dir() => {}
-        Err(error) if error.kind() == ErrorKind::OutOfMemory => return ExitCode::from(NO_MEMORY),
+        Err(error) if error.kind() == ErrorKind::OutOfMemory => return fail(system, NO_MEMORY),
         _ => {
             let _ = eprintln!(system; "app_files: there is no folder {folder}");
-            return ExitCode::from(NO_FOLDER);
+            return ExitCode::FAILURE;
         }
     }
     match Listener::bind(rt, (options.address, options.port)) {
@@ -103,7 +101,7 @@ where
 fn refuse(system: HostRuntime, options: &Options<'_>, error: BindError) -> ExitCode {
     let (address, port) = (options.address, options.port);
     let _ = eprintln!(system; "app_files: can't listen on {address}, port {port}: {error}");
-    ExitCode::from(NO_PORT)
+    ExitCode::FAILURE
 }
 
 fn listen<R>(rt: &R, system: HostRuntime, options: &Options<'_>, listener: &Listener) -> ExitCode
@@ -121,25 +119,24 @@ where
         return refuse(system, options, BindError::Refused);
     };
     let Some(shared) = share(alloc, options) else {
-        return ExitCode::from(NO_MEMORY);
+        return fail(system, NO_MEMORY);
     };
     let folder = options.folder;
     let _ = eprintln!(system; "app_files: serving {folder} at http://{address}/");
     if options.until_input_ends {
         let Ok(watched) = Arc::try_clone(&shared) else {
-            return ExitCode::from(NO_MEMORY);
+            return fail(system, NO_MEMORY);
         };
         if !watch_input(rt, system, address, watched) {
-            return ExitCode::from(NO_THREAD);
+            return fail(system, NO_THREAD);
         }
     }
     let mut handlers = FileHandlers::new(system, shared);
-    let config = ServiceConfig::default();
-    let mut limits = Limits::default();
-    limits.judges_heads = !options.is_lax;
+    let config = options.limits.config();
+    let limits = options.limits.others(!options.is_lax);
     match host(rt, alloc, listener, config, &mut handlers, limits) {
         Ok(()) => ExitCode::SUCCESS,
-        Err(_) => ExitCode::from(NO_MEMORY),
+        Err(_) => fail(system, NO_MEMORY),
     }
 }
 

@@ -1,5 +1,6 @@
 //! The words that the program is started with.
 use crate::access::LineForm;
+use crate::limits::ServerLimits;
 use thiserror::Error;
 
 pub const VERSION: &str = "app_files 0.1.0";
@@ -15,6 +16,7 @@ Serves the files of a folder over HTTP/1.
   --dotfiles           serve and list names that begin with a dot, too
   --cache-control TEXT send TEXT as the field Cache-Control of files and pages of names
   --lax                answer requests too whose head RFC 9110 or 9112 refuses
+  --limit NAME=NUMBER  another limit than the default, once for each; times are in milliseconds
   --log                write a longer line for each request: the time, the peer, the method, the target, the version,
                        the status, the bytes of the body, and the milliseconds until it was handed over
   --log=json           write the same in JSON
@@ -23,9 +25,21 @@ Serves the files of a folder over HTTP/1.
   --help               print this and end
   --version            print the version and end
 
-It ends with status 0, 2 for words out of form, 3 where there is no such folder, 4 where the address can't be
-listened on, 5 where memory runs out, and 6 where no thread can be started. Each request gets a line on standard
-error.";
+The limits, and their defaults:
+
+  connections=10000    the most connections at once; a further one gets 503
+  head=5000            how long a client's first head may take
+  idle=5000            how long a client may send nothing before its next head
+  stall=30000          in so long a client that is waited for
+  least=1024           has to move so many bytes
+  drop=65536           the most bytes of a body that is read and dropped, so that the connection goes on
+  linger=2000          how long a client is waited for after the last byte was written
+  end=10000            how long connections that are still open have at the server's end
+
+With 0 for head there is no such limit, and with idle=0 a connection ends after its first answer.
+
+It ends with status 0, 64 for words out of form, and 1 where it can't go on: there is no such folder, the port can't be
+had, memory runs out, or no thread can be started. Each request gets a line on standard error.";
 
 /// What the program is to do.
 pub enum Command<'a> {
@@ -49,6 +63,8 @@ pub struct Options<'a> {
 
     /// Heads that RFC 9110 or RFC 9112 refuses are answered too.
     pub is_lax: bool,
+
+    pub limits: ServerLimits,
 
     /// What the line of a request says.
     pub lines: LineForm,
@@ -76,6 +92,9 @@ pub enum UsageError {
     #[error("--cache-control wants a text without control bytes")]
     CacheControl,
 
+    #[error("--limit wants NAME=NUMBER")]
+    Limit,
+
     #[error("--requests wants a number")]
     Requests,
 
@@ -94,6 +113,7 @@ pub fn read(words: &[String]) -> Result<Command<'_>, UsageError> {
     let mut until_input_ends = false;
     let mut shows_dots = false;
     let mut is_lax = false;
+    let mut limits = ServerLimits::new();
     let mut rest = words.iter();
     while let Some(word) = rest.next() {
         match word.as_str() {
@@ -106,6 +126,11 @@ pub fn read(words: &[String]) -> Result<Command<'_>, UsageError> {
             "--until-input-ends" => until_input_ends = true,
             "--bind" => address = Some(rest.next().ok_or(UsageError::Bind)?.as_str()),
             "--cache-control" => cache_control = Some(field_value(rest.next())?),
+            "--limit" => {
+                if !limits.set(rest.next().ok_or(UsageError::Limit)?.as_str()) {
+                    return Err(UsageError::Limit);
+                }
+            }
             "--requests" => {
                 let count = rest.next().ok_or(UsageError::Requests)?;
                 requests = Some(count.parse::<u64>().map_err(|_| UsageError::Requests)?);
@@ -128,6 +153,7 @@ pub fn read(words: &[String]) -> Result<Command<'_>, UsageError> {
         shows_dots,
         cache_control,
         is_lax,
+        limits,
         lines,
         requests,
         until_input_ends,

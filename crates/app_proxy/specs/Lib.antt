@@ -4,3 +4,4 @@ pub mod Patience
 pub mod Links
 pub mod Limits
 pub mod Pool
+pub mod Servers

@@ -18,6 +18,7 @@ defaults = record {
   linger = 2000;
   end = 10000;
   reuse = 4000;
+  down = 10000;
 }
 
 -- Of so many descriptors a quarter at most is for connections that wait, of which there are 128 at most.

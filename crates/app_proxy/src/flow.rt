@@ -44,6 +44,7 @@ fn follow_client(
     match came {
         TakenIn::Bytes(count) => {
             standing.asked = uptime;
+            standing.tally.ask(uptime);
             standing.pace.count(count);
             standing.client.read_some(count, limit);
             Ok(true)
@@ -101,6 +102,7 @@ fn follow_server(
                 standing.server_moved = uptime;
             }
             standing.server.read_some(count, limit);
+            standing.tally.hear(count);
             Ok(true)
         }
         TakenIn::End => {

@@ -49,8 +49,11 @@ pub struct Limits {
     /// How long a connection that ends has for what is left to write.
     pub end: u64,
 
-    /// How long a connection to the server may be idle and still be used again.
+    /// How long a connection to a server may be idle and still be used again.
     pub reuse: u64,
+
+    /// How long a server that failed is left out.
+    pub down: u64,
 }
 
 impl Limits {
@@ -72,6 +75,7 @@ impl Limits {
             linger: 2000,
             end: 10_000,
             reuse: 4000,
+            down: 10_000,
         }
     }
 
@@ -97,6 +101,7 @@ impl Limits {
             "linger" => self.linger = number,
             "end" => self.end = number,
             "reuse" => self.reuse = number,
+            "down" => self.down = number,
             _ => return false,
         }
         true

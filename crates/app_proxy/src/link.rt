@@ -1,8 +1,12 @@
-//! The socket of a client's connection to the server.
-ghost use Rattle.std.specs.Prelude.{OnOk};
-ghost use Rattle.app_proxy.specs.Links.{GivesUp, GivesBack, Finishes};
+//! The socket of a client's connection to a server.
+ghost use Rattle.std.specs.Prelude.{◌≡◌, ◌+◌, OnOk, map, if◌then◌else◌};
+ghost use Rattle.app_proxy.specs.Servers.{left_out, tries_another};
+ghost use Rattle.app_proxy.specs.Links.{GivesUp, GivesBack, Finishes, Misses, IsChosen, until_of, tried, given_up};
 
 use crate::flow::{break_off, hear_server, tell_server};
+use crate::limits::Limits;
+use crate::pool::Connection;
+use crate::servers::Servers;
 use crate::slot::Shared;
 use crate::standing::{Ready, Standing};
 use crate::upstream::Begun;
@@ -17,8 +21,8 @@ pub enum Link {
     None,
 
     /// It is there once it may be written.
-    Connecting(TcpStream),
-    Open(TcpStream),
+    Connecting(Connection),
+    Open(Connection),
 }
 
 impl Link {
@@ -43,65 +47,97 @@ impl Link {
         shared: &mut Shared,
         token: usize,
     ) -> Result<bool, NoMemory> {
-        if let Link::Connecting(stream) = self {
+        if let Link::Connecting(connection) = self {
             if !standing.server.may_write {
                 return Ok(false);
             }
-            let is_there = is_connected(stream);
-            self.finish(forwarder, is_there)?;
+            let is_there = is_connected(&connection.stream);
+            let servers = &mut shared.upstream.servers;
+            let (limits, uptime) = (&shared.limits, shared.uptime);
+            self.finish(forwarder, standing, servers, limits, uptime, is_there)?;
             return Ok(true);
         }
         if !forwarder.proxy().wants_server() {
             return Ok(false);
         }
-        standing.server_moved = shared.uptime;
+        // All servers that are tried for a request have the time of one.
+        if standing.tries == 0 {
+            standing.server_moved = shared.uptime;
+        }
         standing.server = Ready::unknown();
         self.begin(forwarder, standing, shared, token)?;
         Ok(true)
     }
 
-    // Begins a connection.
+    // Begins a connection to the server whose turn it is.
     fn begin(
         &mut self,
         forwarder: &mut Forwarder,
         standing: &mut Standing,
         shared: &mut Shared,
         token: usize,
-    ) -> Result<(), NoMemory> {
+    ) -> Result<(), NoMemory>
+        ensures { OnOk result (IsChosen shared.old.uptime shared.old.upstream.servers self.new shared.new.upstream.servers) }
+    {
+        *self = Link::None;
+        let Some(server) = shared.upstream.servers.give(shared.uptime) else {
+            forwarder.refused()?;
+            return Ok(());
+        };
         let begun = shared
             .upstream
-            .begin(&shared.poll, token, &shared.limits, shared.uptime);
+            .begin(server, &shared.poll, token, &shared.limits, shared.uptime);
         match begun {
-            Begun::Open(stream) => {
+            Begun::Open(connection) => {
                 standing.server.may_write = true;
-                *self = Link::Open(stream);
+                standing.tries = 0;
+                *self = Link::Open(connection);
                 forwarder.connected()?;
             }
-            Begun::Connecting(stream) => *self = Link::Connecting(stream),
+            Begun::Connecting(connection) => *self = Link::Connecting(connection),
             Begun::None => {
-                forwarder.refused()?;
+                let servers = &mut shared.upstream.servers;
+                miss(
+                    forwarder,
+                    standing,
+                    servers,
+                    server,
+                    &shared.limits,
+                    shared.uptime,
+                )?;
             }
         }
         Ok(())
     }
 
     // A connection was begun, and is there or can't be had. One that isn't wanted any more is closed.
-    fn finish(&mut self, forwarder: &mut Forwarder, is_there: bool) -> Result<(), NoMemory>
-        ensures { OnOk result (Finishes self.old is_there forwarder.old self.new forwarder.new) }
+    fn finish(
+        &mut self,
+        forwarder: &mut Forwarder,
+        standing: &mut Standing,
+        servers: &mut Servers,
+        limits: &Limits,
+        uptime: u64,
+        is_there: bool,
+    ) -> Result<(), NoMemory>
+        ensures tried { OnOk result (servers.new ≡ tried limits.now uptime self.old is_there servers.old) }
+        ensures finishes { OnOk result (Finishes self.old is_there (tries_another uptime standing.old.tries servers.new) forwarder.old self.new forwarder.new) }
     {
-        let stream = match mem::replace(self, Link::None) {
-            Link::Connecting(stream) => stream,
+        let connection = match mem::replace(self, Link::None) {
+            Link::Connecting(connection) => connection,
             link => {
                 *self = link;
                 return Ok(());
             }
         };
+        let server = connection.server;
         if !is_there {
-            forwarder.refused()?;
-            return Ok(());
+            return miss(forwarder, standing, servers, server, limits, uptime);
         }
+        servers.leave_out(server, 0);
+        standing.tries = 0;
         if forwarder.connected()? {
-            *self = Link::Open(stream);
+            *self = Link::Open(connection);
         }
         Ok(())
     }
@@ -113,13 +149,13 @@ impl Link {
         standing: &mut Standing,
         shared: &mut Shared,
     ) -> Result<bool, NoMemory> {
-        let Link::Open(stream) = self else {
+        let Link::Open(connection) = self else {
             return Ok(false);
         };
         if !standing.server.may_read {
             return Ok(false);
         }
-        let mut source = Incoming::new(stream);
+        let mut source = Incoming::new(&connection.stream);
         hear_server(
             forwarder,
             standing,
@@ -136,13 +172,13 @@ impl Link {
         standing: &mut Standing,
         uptime: u64,
     ) -> Result<bool, NoMemory> {
-        let Link::Open(stream) = self else {
+        let Link::Open(connection) = self else {
             return Ok(false);
         };
         if !standing.server.may_write || forwarder.proxy().server_front().is_empty() {
             return Ok(false);
         }
-        let mut sink = Outgoing::new(stream);
+        let mut sink = Outgoing::new(&connection.stream);
         tell_server(forwarder, standing, &mut sink, uptime)
     }
 
@@ -152,13 +188,28 @@ impl Link {
         &mut self,
         forwarder: &mut Forwarder,
         standing: &mut Standing,
+        servers: &mut Servers,
+        limits: &Limits,
+        uptime: u64,
     ) -> Result<(), NoMemory>
-        ensures { OnOk result (GivesUp self.old self.new forwarder.old standing.old.stage standing.new.stage forwarder.new) }
+        ensures left_out { OnOk result (servers.new ≡ given_up limits.now uptime self.old servers.old) }
+        ensures gives_up { OnOk result (GivesUp self.old self.new forwarder.old standing.old.stage standing.new.stage forwarder.new) }
     {
-        if let Link::Connecting(_) = self {
-            return self.finish(forwarder, false);
+        let until = uptime.saturating_add(limits.down);
+        match self {
+            Link::Connecting(connection) => {
+                servers.leave_out(connection.server, until);
+                *self = Link::None;
+                standing.tries = 0;
+                forwarder.refused()?;
+                Ok(())
+            }
+            Link::Open(connection) => {
+                servers.leave_out(connection.server, until);
+                break_off(forwarder, standing)
+            }
+            Link::None => break_off(forwarder, standing),
         }
-        break_off(forwarder, standing)
     }
 
     /// Gives a connection on which nothing is under way back, which was last in use at this moment of uptime. The forwarder is
@@ -176,10 +227,10 @@ impl Link {
         }
         forwarder.server_eof()?;
         match mem::replace(self, Link::None) {
-            Link::Open(stream) => {
+            Link::Open(connection) => {
                 shared
                     .upstream
-                    .keep(&shared.poll, stream, &shared.limits, used)
+                    .keep(&shared.poll, connection, &shared.limits, used)
             }
             Link::None | Link::Connecting(_) => Ok(()),
         }
@@ -193,6 +244,29 @@ impl Link {
             *self = Link::None;
         }
     }
+}
+
+// No connection to this server can be had: it is left out. Another one is tried, or the client gets 502. Nothing was sent yet.
+fn miss(
+    forwarder: &mut Forwarder,
+    standing: &mut Standing,
+    servers: &mut Servers,
+    server: usize,
+    limits: &Limits,
+    uptime: u64,
+) -> Result<(), NoMemory>
+    ensures left_out { OnOk result (servers.new ≡ map (left_out server (until_of limits.now uptime)) servers.old) }
+    ensures misses { OnOk result (Misses (tries_another uptime standing.old.tries servers.new) forwarder.old forwarder.new) }
+    ensures tries { OnOk result (standing.new.tries ≡ (if tries_another uptime standing.old.tries servers.new then standing.old.tries + 1 else 0)) }
+{
+    servers.leave_out(server, uptime.saturating_add(limits.down));
+    if servers.tries_another(standing.tries, uptime) {
+        standing.tries = standing.tries.saturating_add(1);
+        return Ok(());
+    }
+    standing.tries = 0;
+    forwarder.refused()?;
+    Ok(())
 }
 
 // Whether a connection that was begun is there.

@@ -1,4 +1,4 @@
-//! A reverse proxy for HTTP/1: `app_proxy PORT SERVER`.
+//! A reverse proxy for HTTP/1: `app_proxy PORT SERVER[,SERVER..]`.
 #![tactic(auto)]
 
 mod access;
@@ -6,41 +6,41 @@ mod flow;
 mod limits;
 mod line;
 mod link;
+mod lookup;
 mod options;
 mod places;
 mod pool;
 mod server;
+mod servers;
 mod slot;
 mod standing;
+mod tally;
 mod token;
 mod upstream;
 
 use crate::access::AccessLog;
 use crate::limits::{Limits, descriptors};
+use crate::lookup::{LookupError, look_up};
 use crate::options::{Command, HELP, Options, VERSION};
 use crate::server::{ServeError, Server, Target};
 use http_types::{KeepAlive, ServiceConfig, ServiceConfigBuilder};
 use std::alloc::Global;
 use std::io::ErrorKind;
-use std::net::{SocketAddr, TcpListener};
+use std::net::{IpAddr, Ipv4Addr, SocketAddr, TcpListener};
 use std::process::ExitCode;
 use std::rt::Env;
 use std::{env, io};
 
 /// The words are out of form.
-const USAGE: u8 = 2;
-
-/// The address can't be listened on.
-const NO_PORT: u8 = 4;
-
-/// Memory has run out.
-const NO_MEMORY: u8 = 5;
+const USAGE: u8 = 64;
 
 fn main(rt: HostRuntime) -> ExitCode {
     let alloc = rt.alloc();
     let words = match words(&rt) {
         Ok(words) => words,
-        Err(error) if error.kind() == ErrorKind::OutOfMemory => return ExitCode::from(NO_MEMORY),
+        Err(error) if error.kind() == ErrorKind::OutOfMemory => {
+            return fail(rt, ServeError::NoMemory);
+        }
         // Words that can't be had are wrong words.
         Err(_) => Vec::new(alloc),
     };
@@ -67,26 +67,29 @@ fn words(rt: &(impl Env + Alloc<A = Global>)) -> io::Result<Vec<String>> {
     Ok(env::args(rt)?.skip(1).collect(rt.alloc())?)
 }
 
+// Says why it can't go on.
+fn fail(rt: HostRuntime, error: ServeError) -> ExitCode {
+    let _ = eprintln!(rt; "app_proxy: {error}");
+    ExitCode::FAILURE
+}
+
 fn open(rt: HostRuntime, options: &Options<'_>) -> ExitCode {
-    let Some(server) = options.server_address() else {
-        let _ = eprintln!(rt;
-            "app_proxy: the server has to be a port of this machine, or an address and a port as 127.0.0.1:8080"
-        );
-        return ExitCode::from(USAGE);
+    let words = options.servers;
+    let servers = match look_up(rt, words) {
+        Ok(servers) => servers,
+        Err(LookupError::NoMemory) => return fail(rt, ServeError::NoMemory),
+        Err(LookupError::Unknown) => {
+            let _ = eprintln!(rt; "app_proxy: {words}: a server's name isn't known");
+            return ExitCode::FAILURE;
+        }
     };
     let Some((listener, at)) = listen(rt, options.address, options.port) else {
-        return ExitCode::from(NO_PORT);
+        return ExitCode::FAILURE;
     };
-    let _ = eprintln!(rt; "app_proxy: http://{at}/ goes to http://{server}/");
-    match run(rt, options, listener, server) {
+    let _ = eprintln!(rt; "app_proxy: http://{at}/ goes to {words}");
+    match run(rt, options, listener, servers) {
         Ok(()) => ExitCode::SUCCESS,
-        Err(error) => {
-            let _ = eprintln!(rt; "app_proxy: {error}");
-            match error {
-                ServeError::NoMemory => ExitCode::from(NO_MEMORY),
-                ServeError::Poll => ExitCode::FAILURE,
-            }
-        }
+        Err(error) => fail(rt, error),
     }
 }
 
@@ -94,12 +97,12 @@ fn run(
     rt: HostRuntime,
     options: &Options<'_>,
     listener: TcpListener,
-    server: SocketAddr,
+    servers: Vec<SocketAddr>,
 ) -> Result<(), ServeError> {
     let listener = mio::net::TcpListener::from_std(listener);
-    let log = AccessLog::new(rt, options.is_quiet);
+    let log = AccessLog::new(rt, options.lines);
     let target = Target {
-        server,
+        host: first_of(&servers),
         trusts_clients: options.trusts_clients,
         is_lax: options.is_lax,
     };
@@ -107,8 +110,17 @@ fn run(
     if let Some(count) = descriptors(rt) {
         limits.fit(count);
     }
-    let mut forwarder = Server::new(rt, config(&limits), listener, target, limits, log)?;
+    let config = config(&limits);
+    let mut forwarder = Server::new(rt, config, listener, servers, target, limits, log)?;
     forwarder.run(!options.ignores_input)
+}
+
+// The first server. There is one.
+fn first_of(servers: &[SocketAddr]) -> SocketAddr {
+    match servers.first() {
+        Some(server) => *server,
+        None => SocketAddr::new(IpAddr::V4(Ipv4Addr::LOCALHOST), 0),
+    }
 }
 
 // The settings of each connection.

@@ -189,8 +189,11 @@ impl Places {
         let round = slot
             .go_round(shared, server_token(number))
             .unwrap_or(Round::Over);
+        if round == Round::Over {
+            slot.end_reply(shared.uptime)?;
+        }
         if !log.is_quiet() {
-            log.add(slot.peer(), &slot.take_replies())?;
+            log.add(slot.peer(), &slot.take_replies(self.alloc))?;
         }
         Ok(round)
     }

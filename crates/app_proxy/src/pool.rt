@@ -1,4 +1,4 @@
-//! Connections to the server that wait to be used again.
+//! Connections to servers that wait to be used again.
 ghost use Rattle.std.specs.Prelude.{◌≡◌, ◌<◌, ◌≤◌, ◌++◌, ◌∷◌, [], true, false, IsTrue, IfSome, OnOk, length, min};
 ghost use Rattle.std.specs.Io.KnownBytes.{Keeps};
 ghost use Rattle.app_proxy.specs.Pool.{may_reuse};
@@ -12,10 +12,17 @@ use std::marker::Model;
 /// The most of them.
 const MOST: usize = 128;
 
+/// A connection to the server of this number.
+#[derive(Drop)]
+pub struct Connection {
+    pub stream: TcpStream,
+    pub server: usize,
+}
+
 /// A connection that waits.
 #[derive(Drop)]
 pub struct Idle {
-    stream: TcpStream,
+    connection: Connection,
 
     // When it was last in use, in milliseconds of uptime.
     since: u64,
@@ -24,26 +31,31 @@ pub struct Idle {
 
 impl Idle {
     /// One that wasn't looked at, and was last in use at this moment of uptime.
-    pub fn new(stream: TcpStream, since: u64) -> Idle
+    pub fn new(connection: Connection, since: u64) -> Idle
         ensures quiet { result.is_quiet ≡ false }
         ensures since { result.since ≡ since }
+        ensures server { result.connection.server ≡ connection.server }
     {
         Idle {
-            stream,
+            connection,
             since,
             is_quiet: false,
         }
     }
 
-    /// Its socket.
-    pub fn into_stream(self) -> TcpStream {
-        let Idle { stream, .. } = self;
-        stream
+    /// The connection.
+    pub fn into_connection(self) -> Connection
+        ensures { result.server ≡ self.connection.server }
+    {
+        let Idle { connection, .. } = self;
+        connection
     }
 
     // Looks whether neither a byte has come nor the end.
-    fn look(&mut self) {
-        let mut source = Incoming::new(&self.stream);
+    fn look(&mut self)
+        ensures { self.new.connection ≡ self.old.connection }
+    {
+        let mut source = Incoming::new(&self.connection.stream);
         self.is_quiet = is_quiet(&mut source);
     }
 
@@ -109,24 +121,33 @@ impl Pool {
         Ok(())
     }
 
-    /// The one that was used last of those that are still there and haven't been idle for so long. The others that are looked
-    /// at are closed. The moment is of uptime.
-    pub fn take(&mut self, reuse: u64, uptime: u64) -> Option<Idle>
-        ensures { IfSome result (λ idle. may_reuse reuse uptime idle ≡ true) }
+    /// Of the connections to this server the one that was used last of those that are still there and haven't been idle for so
+    /// long. The others of them that are looked at are closed. The moment is of uptime.
+    pub fn take(&mut self, server: usize, reuse: u64, uptime: u64) -> Option<Idle>
+        ensures may { IfSome result (λ idle. may_reuse reuse uptime idle ≡ true) }
+        ensures server { IfSome result (λ idle. idle.connection.server ≡ server) }
     {
+        let mut place = self.idle.len();
         for _ in 0..MOST {
-            let mut idle = self.take_last()?;
-            idle.look();
-            if idle.may_serve(reuse, uptime) {
-                return Some(idle);
+            place = place.checked_sub(1)?;
+            if let Some(mut idle) = self.take_of(server, place) {
+                idle.look();
+                if idle.may_serve(reuse, uptime) {
+                    return Some(idle);
+                }
             }
         }
         None
     }
 
-    // The last one.
-    fn take_last(&mut self) -> Option<Idle> {
-        self.idle.pop()
+    // The one at this place, where it is a connection to this server.
+    fn take_of(&mut self, server: usize, place: usize) -> Option<Idle>
+        ensures { IfSome result (λ idle. idle.connection.server ≡ server) }
+    {
+        if self.idle.get(place)?.connection.server != server {
+            return None;
+        }
+        Some(self.idle.remove(place))
     }
 
     /// Closes those on which something came, which the server has closed, or which have been idle for so long.

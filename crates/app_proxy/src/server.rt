@@ -52,7 +52,8 @@ impl From<NoMemory> for ServeError {
 /// Where clients go, and how their heads are judged.
 #[derive(Clone, Copy)]
 pub struct Target {
-    pub server: SocketAddr,
+    /// The host of a request that names none: the first server.
+    pub host: SocketAddr,
 
     /// What a client says of earlier clients goes on.
     pub trusts_clients: bool,
@@ -83,6 +84,7 @@ impl Server {
         rt: HostRuntime,
         config: ServiceConfig,
         mut listener: TcpListener,
+        servers: Vec<SocketAddr>,
         target: Target,
         limits: Limits,
         log: AccessLog,
@@ -100,7 +102,7 @@ impl Server {
         }
         let shared = Shared {
             poll,
-            upstream: Upstream::new(rt, alloc, target.server),
+            upstream: Upstream::new(rt, alloc, servers)?,
             limits,
             room: Vec::from_elem(alloc, 0, READ_SIZE)?,
             uptime: 0,
@@ -180,6 +182,7 @@ impl Server {
     fn turn(&mut self) -> Result<(), NoMemory> {
         let moment = moment(&self.rt).unwrap_or(0);
         self.shared.uptime = uptime(&self.rt).unwrap_or(0);
+        self.log.set_moment(moment);
         self.tick(moment)?;
         self.accept(moment)?;
         self.places.go_round(&mut self.shared, &mut self.log)?;
@@ -197,7 +200,6 @@ impl Server {
         self.last_tick = self.shared.uptime;
         // Descriptors may be free again.
         self.may_accept = true;
-        self.log.set_moment(moment)?;
         let shared = &mut self.shared;
         shared.upstream.sweep(&shared.limits, shared.uptime);
         self.places.tick(&mut self.shared, moment)
@@ -222,7 +224,7 @@ impl Server {
             return self.places.release(number);
         };
         let forwarder = self.new_forwarder(peer, moment)?;
-        let slot = Slot::new(forwarder, stream, peer, self.shared.uptime);
+        let slot = Slot::new(self.alloc, forwarder, stream, peer, self.shared.uptime);
         self.places.put(number, slot)
     }
 
@@ -237,7 +239,7 @@ impl Server {
 
     // A forwarder that knows the client and the time.
     fn new_forwarder(&self, peer: SocketAddr, moment: u64) -> Result<Forwarder, NoMemory> {
-        let mut edge = Edge::new(self.alloc, peer, self.target.server)?;
+        let mut edge = Edge::new(self.alloc, peer, self.target.host)?;
         edge.trusts_client = self.target.trusts_clients;
         edge.is_lax = self.target.is_lax;
         let config = ProxyConfig {

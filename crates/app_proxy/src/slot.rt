@@ -3,12 +3,15 @@ use crate::flow::{hear_client, tell_client};
 use crate::limits::Limits;
 use crate::link::Link;
 use crate::standing::{Awaited, Ready, Stage, Standing};
+use crate::tally::Took;
 use crate::upstream::Upstream;
 use http_types::Source;
 use mio::Poll;
 use mio::net::TcpStream;
 use net_sockets::{Incoming, Outgoing, Polled};
 use proxy_loop::{BegunReply, Expiry, Forwarder, NoMemory};
+use std::alloc::Global;
+use std::mem;
 use std::net::{Shutdown, SocketAddr};
 
 /// The most times that each direction is tried in a round, so that one who speaks a lot holds up nobody.
@@ -31,6 +34,13 @@ pub struct Shared {
     pub uptime: u64,
 }
 
+/// A reply that has ended, and what it took.
+#[derive(Drop)]
+pub struct Reply {
+    pub begun: BegunReply,
+    pub took: Took,
+}
+
 /// A client that is served.
 #[derive(Drop)]
 pub struct Slot {
@@ -39,6 +49,10 @@ pub struct Slot {
     peer: SocketAddr,
     client: TcpStream,
     link: Link,
+
+    // The reply that is under way, and those that have ended since they were last taken.
+    begun: Option<BegunReply>,
+    ended: Vec<Reply>,
 }
 
 /// What a round did.
@@ -54,23 +68,26 @@ pub enum Round {
 
 impl Slot {
     /// A client that has just come.
-    pub fn new(forwarder: Forwarder, client: TcpStream, peer: SocketAddr, uptime: u64) -> Slot {
+    pub fn new(
+        alloc: Global,
+        forwarder: Forwarder,
+        client: TcpStream,
+        peer: SocketAddr,
+        uptime: u64,
+    ) -> Slot {
         Slot {
             forwarder,
             standing: Standing::new(uptime),
             peer,
             client,
             link: Link::None,
+            begun: None,
+            ended: Vec::new(alloc),
         }
     }
 
     pub fn peer(&self) -> SocketAddr {
         self.peer
-    }
-
-    /// The replies that were begun since they were last taken.
-    pub fn take_replies(&mut self) -> Vec<BegunReply> {
-        self.forwarder.take_replies()
     }
 
     /// The client's socket is ready.
@@ -81,6 +98,35 @@ impl Slot {
     /// The server's is.
     pub fn note_server(&mut self, told: Ready) {
         self.standing.server.note(told);
+    }
+
+    // ---- replies
+
+    // The replies of a pass. Each but the last has ended, and so has that one unless its answer goes on. At most the first of them
+    // is of what the server sent: the next request goes there only once its reply has ended.
+    fn note_replies(&mut self, uptime: u64) -> Result<(), NoMemory> {
+        for begun in self.forwarder.take_replies() {
+            self.end_reply(uptime)?;
+            self.begun = Some(begun);
+        }
+        if !self.forwarder.proxy().is_answering() {
+            self.end_reply(uptime)?;
+        }
+        Ok(())
+    }
+
+    /// The reply that is under way ends now, whole or cut off.
+    pub fn end_reply(&mut self, uptime: u64) -> Result<(), NoMemory> {
+        if let Some(begun) = self.begun.take() {
+            let took = self.standing.tally.end(uptime);
+            self.ended.push(Reply { begun, took })?;
+        }
+        Ok(())
+    }
+
+    /// The replies that have ended since they were last taken.
+    pub fn take_replies(&mut self, alloc: Global) -> Vec<Reply> {
+        mem::replace(&mut self.ended, Vec::new(alloc))
     }
 
     // ---- time
@@ -105,7 +151,10 @@ impl Slot {
             .standing
             .tick_server(&shared.limits, is_awaited, uptime)
         {
-            self.link.give_up(&mut self.forwarder, &mut self.standing)?;
+            let servers = &mut shared.upstream.servers;
+            let (forwarder, standing) = (&mut self.forwarder, &mut self.standing);
+            self.link
+                .give_up(forwarder, standing, servers, &shared.limits, uptime)?;
         }
         if uptime.saturating_sub(self.standing.asked) < KEPT {
             return Ok(());
@@ -151,12 +200,19 @@ impl Slot {
             .link
             .write(&mut self.forwarder, &mut self.standing, shared.uptime)?;
         let replied = self.write_client(shared.uptime)?;
+        self.note_replies(shared.uptime)?;
         Ok(heard || read || connects || asked || replied)
     }
 
     fn read_server(&mut self, shared: &mut Shared) -> Result<bool, NoMemory> {
-        self.link
-            .read(&mut self.forwarder, &mut self.standing, shared)
+        let is_unasked = self.forwarder.proxy().is_reusable();
+        let heard = self
+            .link
+            .read(&mut self.forwarder, &mut self.standing, shared)?;
+        if is_unasked {
+            self.standing.tally.forget();
+        }
+        Ok(heard)
     }
 
     fn read_client(&mut self, shared: &mut Shared) -> Result<bool, NoMemory> {

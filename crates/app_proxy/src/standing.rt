@@ -3,6 +3,7 @@ ghost use Rattle.std.specs.Prelude.{◌≡◌, ◌-◌};
 ghost use Rattle.app_proxy.specs.Patience.{moved, silence, is_too_long, waits_too_long, is_over, is_slow, no_pace, paced, ticked};
 
 use crate::limits::Limits;
+use crate::tally::Tally;
 
 /// What a socket may do without waiting, as far as it is known.
 #[derive(Clone, Copy)]
@@ -112,6 +113,12 @@ pub struct Standing {
 
     /// When the connection to the server was last in use.
     pub used: u64,
+
+    /// How many servers didn't accept a connection for the request that waits for one.
+    pub tries: usize,
+
+    /// What came for the request that is under way.
+    pub tally: Tally,
 }
 
 impl Standing {
@@ -128,6 +135,8 @@ impl Standing {
             there: uptime,
             server_moved: uptime,
             used: uptime,
+            tries: 0,
+            tally: Tally::new(uptime),
         }
     }
 
