@@ -1,7 +1,6 @@
 //! The socket of a client's connection to a server.
-ghost use Rattle.std.specs.Prelude.{◌≡◌, ◌+◌, OnOk, map, if◌then◌else◌};
-ghost use Rattle.app_proxy.specs.Servers.{left_out, tries_another};
-ghost use Rattle.app_proxy.specs.Links.{GivesUp, GivesBack, Finishes, Misses, IsChosen, until_of, tried, given_up};
+ghost use Rattle.std.specs.Prelude.{◌≡◌, OnOk};
+ghost use Rattle.app_proxy.specs.Links.{GivesUp, GivesBack, Finishes, Fails, Begins, TakesUp, IsChosen, given_up};
 
 use crate::flow::{break_off, hear_server, tell_server};
 use crate::limits::Limits;
@@ -70,6 +69,7 @@ impl Link {
     }
 
     // Begins a connection to the server whose turn it is.
+    #[tactic(auto, using(crate::proofs::LinkLemmas::asks))]
     fn begin(
         &mut self,
         forwarder: &mut Forwarder,
@@ -77,37 +77,52 @@ impl Link {
         shared: &mut Shared,
         token: usize,
     ) -> Result<(), NoMemory>
-        ensures { OnOk result (IsChosen shared.old.uptime shared.old.upstream.servers self.new shared.new.upstream.servers) }
+        ensures { OnOk result (IsChosen shared.old.limits shared.old.uptime shared.old.upstream.servers standing.old.tries forwarder.old self.new shared.new.upstream.servers standing.new.tries forwarder.new) }
     {
-        *self = Link::None;
-        let Some(server) = shared.upstream.servers.give(shared.uptime) else {
+        let (limits, uptime) = (&shared.limits, shared.uptime);
+        let Some(server) = shared.upstream.servers.give(uptime) else {
+            *self = Link::None;
             forwarder.refused()?;
             return Ok(());
         };
         let begun = shared
             .upstream
-            .begin(server, &shared.poll, token, &shared.limits, shared.uptime);
+            .begin(server, &shared.poll, token, limits, uptime);
+        let servers = &mut shared.upstream.servers;
+        self.take_up(forwarder, standing, servers, limits, uptime, server, begun)
+    }
+
+    // A connection to this server was begun, or none can be.
+    fn take_up(
+        &mut self,
+        forwarder: &mut Forwarder,
+        standing: &mut Standing,
+        servers: &mut Servers,
+        limits: &Limits,
+        uptime: u64,
+        server: usize,
+        begun: Begun,
+    ) -> Result<(), NoMemory>
+        requires { Begins server begun }
+        ensures { OnOk result (TakesUp limits.now uptime server servers.old standing.old.tries forwarder.old self.new servers.new standing.new.tries forwarder.new) }
+    {
         match begun {
             Begun::Open(connection) => {
                 standing.server.may_write = true;
                 standing.tries = 0;
                 *self = Link::Open(connection);
                 forwarder.connected()?;
+                Ok(())
             }
-            Begun::Connecting(connection) => *self = Link::Connecting(connection),
+            Begun::Connecting(connection) => {
+                *self = Link::Connecting(connection);
+                Ok(())
+            }
             Begun::None => {
-                let servers = &mut shared.upstream.servers;
-                miss(
-                    forwarder,
-                    standing,
-                    servers,
-                    server,
-                    &shared.limits,
-                    shared.uptime,
-                )?;
+                *self = Link::None;
+                miss(forwarder, standing, servers, server, limits, uptime)
             }
         }
-        Ok(())
     }
 
     // A connection was begun, and is there or can't be had. One that isn't wanted any more is closed.
@@ -120,8 +135,7 @@ impl Link {
         uptime: u64,
         is_there: bool,
     ) -> Result<(), NoMemory>
-        ensures tried { OnOk result (servers.new ≡ tried limits.now uptime self.old is_there servers.old) }
-        ensures finishes { OnOk result (Finishes self.old is_there (tries_another uptime standing.old.tries servers.new) forwarder.old self.new forwarder.new) }
+        ensures { OnOk result (Finishes limits.now uptime self.old is_there servers.old standing.old.tries forwarder.old self.new servers.new standing.new.tries forwarder.new) }
     {
         let connection = match mem::replace(self, Link::None) {
             Link::Connecting(connection) => connection,
@@ -255,9 +269,7 @@ fn miss(
     limits: &Limits,
     uptime: u64,
 ) -> Result<(), NoMemory>
-    ensures left_out { OnOk result (servers.new ≡ map (left_out server (until_of limits.now uptime)) servers.old) }
-    ensures misses { OnOk result (Misses (tries_another uptime standing.old.tries servers.new) forwarder.old forwarder.new) }
-    ensures tries { OnOk result (standing.new.tries ≡ (if tries_another uptime standing.old.tries servers.new then standing.old.tries + 1 else 0)) }
+    ensures { OnOk result (Fails limits.now uptime server servers.old standing.old.tries forwarder.old servers.new standing.new.tries forwarder.new) }
 {
     servers.leave_out(server, uptime.saturating_add(limits.down));
     if servers.tries_another(standing.tries, uptime) {
