@@ -21,6 +21,16 @@ impl Turn {
     {
         self.until.saturating_sub(uptime)
     }
+
+    // Where it is this server's, it is left out until this moment.
+    fn left_out(self, server: usize, until: u64) -> Turn
+        ensures { result ≡ left_out server until self }
+    {
+        if self.server == server {
+            return Turn { until, ..self };
+        }
+        self
+    }
 }
 
 /// The servers in the order in which they were given last, the next one first.
@@ -33,6 +43,7 @@ pub struct Servers {
 
 impl Model for Servers {
     ghost use Rattle.std.specs.Prelude.{List};
+    ghost use Rattle.app_proxy.specs.declared.servers.Turn.{Turn};
 
     ghost Value = { List Turn };
 
@@ -130,12 +141,11 @@ fn has_free(turns: &[Turn], uptime: u64) -> bool
     turns.iter().any(|turn| turn.until <= uptime)
 }
 
+#[tactic(auto, using(std::proofs::lemmas::List::Edits::map_over_more))]
 fn leave_out(turns: &mut [Turn], server: usize, until: u64)
     ensures { turns.new ≡ map (left_out server until) turns.old }
 {
-    for turn in turns.iter_mut() {
-        if turn.server == server {
-            turn.until = until;
-        }
+    for place in 0..turns.len() {
+        turns[place] = turns[place].left_out(server, until);
     }
 }
