@@ -6,7 +6,7 @@ get      | app_get      | a minute or two        | URL.. [FILE]            | ask
 chat     | app_chat     | one to three minutes   | PORT                    | chat rooms over WebSocket, and a page to chat with
 proxy    | app_proxy    | one to three minutes   | PORT SERVER             | a reverse proxy before one server
 replay   | app_replay   | a minute or two        | replay, gen, hub, again | replays a script of events, or runs exchanges of a seed
-echo     | app_echo     | about a minute         | [MOMENT]                | answers requests on the standard input with their bodies
+echo     | app_echo     | about a minute         | [MOMENT] or --websocket | answers requests on the standard input with their bodies
 site     | app_site     | one to three minutes   | PORT THREADS            | a small site by event loops
 counters | app_counters | one to three minutes   | PORT N POLLS            | counters on one board, a thread for each connection
 hello    | app_hello    | one to three minutes   | PORT N [AT_ONCE]        | a greeting and an echo by a handler
@@ -233,7 +233,15 @@ It serves one HTTP/1 connection over the standard input and output, and answers 
 
 MOMENT is where its clock stands, in milliseconds since 1970. It ends with status 0, and with 1 where the connection wasn't
 served to its end.
+
+echo --websocket PORT [THREADS] is a server, the site with an echo over WebSocket at ws://127.0.0.1:PORT/socket: a text comes
+back as a text, bytes as bytes, a message in fragments in one frame. It goes on until a signal ends it.
 END
+    if [ "${1-}" = --websocket ]; then
+        shift
+        launch_sockets "$@"
+        return
+    fi
     [ $# -le 1 ] && is_number "${1-0}" "$most_64" || refuse_usage
     limits=()
     words=("$@")
@@ -251,6 +259,17 @@ END
     ending=input
     words=("$@")
     serve "$@"
+}
+
+# The WebSocket echo is a page of the site.
+launch_sockets() {
+    [ $# -ge 1 ] && [ $# -le 2 ] && is_number "$1" 65535 && is_number "${2-1}" 1024 || refuse_usage
+    name=app_site
+    takes=$(field takes site)
+    ready() { echo "ready: ws://$1/socket"; }
+    ending=input
+    words=("$1" "${2-1}" sockets)
+    serve "${words[@]}"
 }
 
 launch_counters() {

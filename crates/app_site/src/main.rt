@@ -1,17 +1,21 @@
-//! A small site by event loops: `app_site PORT THREADS`. It listens on the port of this machine, and serves it by so many
+//! A small site by event loops: `app_site PORT THREADS [sockets]`. It listens on the port of this machine, and serves it by so many
 //! threads, each with a loop of its own, or with 0 by its first one alone, until its standard input ends or has a line; where
 //! that can't be watched, as a file, it goes on.
 #![tactic(auto)]
 
+mod echo;
 mod input;
 mod sites;
+mod sockets;
 
 use http_types::ServiceConfig;
 use input::InputWatch;
+use matchit::{InsertError, Router};
 use net_sockets::Linger;
-use serve_async::{Limits, Stop, serve};
-use site::all_routes;
+use serve_async::{Limits, Stop, serve, serve_sockets};
+use site::{Route, all_routes};
 use sites::Sites;
+use sockets::{PATH, Sockets};
 use std::alloc::AllocGlobal;
 use std::env;
 use std::net::{Net, TcpListener};
@@ -39,6 +43,7 @@ fn main(rt: HostRuntime) -> ExitCode {
     let Ok(words) = env::args(&rt) else {
         return ExitCode::FAILURE;
     };
+    let has_sockets = words.len() > 3;
     for (number, word) in numbers.iter_mut().zip(words.skip(1)) {
         *number = word.parse().unwrap_or(0);
     }
@@ -54,7 +59,7 @@ fn main(rt: HostRuntime) -> ExitCode {
         return ExitCode::FAILURE;
     }
     if threads == 0 {
-        return status(is_served(rt, listener, stop));
+        return status(is_served(rt, listener, stop, has_sockets));
     }
     let mut handles = Vec::new(rt.alloc());
     let mut are_all = true;
@@ -63,7 +68,7 @@ fn main(rt: HostRuntime) -> ExitCode {
             are_all = false;
             break;
         };
-        let started = thread::spawn(&rt, move || is_served(rt, copy, told));
+        let started = thread::spawn(&rt, move || is_served(rt, copy, told, has_sockets));
         if !keep(started.ok(), &mut handles) {
             are_all = false;
             break;
@@ -122,19 +127,32 @@ fn join_all<R: Threads>(rt: &R, handles: Vec<JoinHandle<bool>>) -> bool {
 }
 
 // Serves what a listener gives, by this thread, and says whether it ended well.
-fn is_served<R>(rt: R, listener: TcpListener, stop: Stop) -> bool
+fn is_served<R>(rt: R, listener: TcpListener, stop: Stop, has_sockets: bool) -> bool
 where
     R: Wait + Clock + Net + RandomSource + AllocGlobal + Drop,
 {
-    let Ok(routes) = all_routes(rt.alloc()) else {
+    let Ok(routes) = routes_of(&rt, has_sockets) else {
         return false;
     };
-    let sites = Sites::new(rt.alloc(), &routes);
+    let alloc = rt.alloc();
+    let sites = Sites::new(alloc, &routes);
     let config = ServiceConfig::default();
-    match serve(&rt, &listener, &sites, config, LIMITS, &stop) {
-        Ok(()) => true,
-        Err(_) => false,
+    let served = if has_sockets {
+        let sockets = Sockets::new(alloc);
+        serve_sockets(&rt, &listener, (&sites, &sockets), config, LIMITS, &stop)
+    } else {
+        serve(&rt, &listener, &sites, config, LIMITS, &stop)
+    };
+    served.is_ok()
+}
+
+// The routes of the site, and one to the echo where there is one.
+fn routes_of<R: AllocGlobal>(rt: &R, has_sockets: bool) -> Result<Router<Route>, InsertError> {
+    let mut all = all_routes(rt.alloc())?;
+    if has_sockets {
+        all.insert(PATH, Route::Socket)?;
     }
+    Ok(all)
 }
 
 fn status(is_well: bool) -> ExitCode {

@@ -4,7 +4,8 @@ use std::sync::Arc;
 use std::sync::atomic::Ordering::SeqCst;
 use std::sync::atomic::{AtomicBool, AtomicU64};
 
-/// What a transport tells who polls it, who has it too: how many bytes have moved, and whether its write is put off.
+/// What a transport tells who polls it, who has it too: how many bytes have moved, and whether its write is put off. And what
+/// it is told of a WebSocket: whether a Close was sent, and the code of one that is still to be.
 #[derive(Drop)]
 pub struct Gauge {
     told: Arc<Told>,
@@ -14,6 +15,9 @@ pub struct Gauge {
 struct Told {
     moved: AtomicU64,
     is_put_off: AtomicBool,
+    has_closed: AtomicBool,
+    is_closing: AtomicBool,
+    last_code: AtomicU64,
 }
 
 impl Gauge {
@@ -22,6 +26,9 @@ impl Gauge {
         let told = Told {
             moved: AtomicU64::new(0),
             is_put_off: AtomicBool::new(false),
+            has_closed: AtomicBool::new(false),
+            is_closing: AtomicBool::new(false),
+            last_code: AtomicU64::new(0),
         };
         Ok(Gauge {
             told: Arc::new(alloc, told)?,
@@ -53,5 +60,34 @@ impl Gauge {
     /// Whether a write was put off since this was last asked, and not tried: then one more poll tries it.
     pub fn take_put_off(&self) -> bool {
         self.told.is_put_off.swap(false, SeqCst)
+    }
+
+    /// A Close was sent.
+    pub fn close(&self) {
+        self.told.has_closed.store(true, SeqCst);
+        self.told.is_closing.store(true, SeqCst);
+    }
+
+    /// Whether a Close was sent since this was last asked.
+    pub fn take_closing(&self) -> bool {
+        self.told.is_closing.swap(false, SeqCst)
+    }
+
+    /// A Close with this code is to be the last that is written, unless one was sent, or another code came before.
+    pub fn end_with(&self, code: u16) {
+        if self.told.last_code.load(SeqCst) == 0 {
+            self.told.last_code.store(u64::from(code), SeqCst);
+        }
+    }
+
+    /// The code of the Close that is still to be written.
+    pub fn last_code(&self) -> Option<u16> {
+        if self.told.has_closed.load(SeqCst) {
+            return None;
+        }
+        match u16::try_from(self.told.last_code.load(SeqCst)) {
+            Ok(0) | Err(_) => None,
+            Ok(code) => Some(code),
+        }
     }
 }

@@ -2,8 +2,9 @@
 //!
 //! - [`serve`] serves all connections of a listener by the thread that calls it; any number of threads may. [`Services`] gives
 //!   each connection a service, [`Limits`] bound what peers may do, and [`Stop`] ends it.
-//! - [`serve_jobs`] does the same for any [`Job`], as a dispatcher that may be upgraded, which a [`Makes`] makes of each
-//!   connection.
+//! - [`serve_sockets`] does the same, and makes WebSockets of the connections that ask for it and are wanted ([`WebSockets`]).
+//! - [`serve_jobs`] does it for any [`Job`], which a [`Makes`] makes of each connection. [`Upgrading`] is one that becomes another
+//!   one where a [`Takes`] decides so.
 //! - [`Door`] is the new connections as a stream of [`Serving`] tasks, for a runtime of one's own, and [`TokioTransport`] a
 //!   socket as a transport.
 //!
@@ -34,19 +35,28 @@ mod limits;
 mod live_job;
 mod maker;
 mod pace;
+mod parting;
 mod run;
 mod served;
 mod serving;
 mod stop;
+mod to_web_socket;
 mod tokio_transport;
+mod upgradable;
+mod upgrading;
+mod web_socket;
 
 pub use door::Door;
 pub use job::{Job, Makes};
-pub use laws::{ends_have_causes, jobs_are_served, requests_have_the_peer};
+pub use laws::{ends_have_causes, jobs_are_served, requests_have_the_peer, sockets_are_served};
 pub use limits::Limits;
-pub use maker::{Maker, Services};
-pub use run::{serve, serve_jobs};
+pub use maker::{Maker, Services, SocketMaker};
+pub use run::{serve, serve_jobs, serve_sockets};
 pub use served::Served;
 pub use serving::Serving;
 pub use stop::Stop;
+pub use to_web_socket::{ToWebSocket, WebSockets};
 pub use tokio_transport::{ENOUGH, TokioTransport};
+pub use upgradable::Upgradable;
+pub use upgrading::{Phase, Taken, Takes, Upgrading, UpgradingEnd};
+pub use web_socket::WebSocket;

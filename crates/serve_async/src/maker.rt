@@ -6,15 +6,30 @@ ghost use Rattle.serve_async.specs.Jobs.{IsNew};
 ghost use Rattle.serve_async.specs.declared.served.Served.{Served as Job};
 
 use crate::job::Makes;
+use crate::parting::Watch;
 use crate::served::Served;
+use crate::to_web_socket::{ToWebSocket, WebSockets};
+use crate::tokio_transport::TokioTransport;
+use crate::upgradable::{Upgradable, hold};
+use crate::upgrading::Upgrading;
+use crate::web_socket::WebSocket;
 use h1_dispatcher::Dispatcher;
 use h1_traced::NoRecord;
 use http_bodies::MessageBody;
 use http_services::Service;
 use http_services::h1::Payload;
 use http_transport::Transport;
-use http_types::{Request, Response, ServiceConfig};
+use http_types::{Error, Request, Response, ServiceConfig};
 use std::alloc::Global;
+use std::time;
+use ws_service::{Message, UpgradeItem};
+
+/// A connection that begins with a service of requests, and becomes a WebSocket where `G` wants it.
+pub type SocketJob<'a, T, S, C, B, U, D, G> = Upgrading<
+    Upgradable<T, S, C, B>,
+    WebSocket<T, U, D>,
+    ToWebSocket<'a, G>,
+>;
 
 /// Gives each connection a service of its own.
 pub trait Services<S>: Drop {
@@ -38,6 +53,58 @@ impl<'a, F> Maker<'a, F> {
             services,
             config,
         }
+    }
+}
+
+/// Makes a job of each connection that begins as [`Maker`]'s do, and becomes a WebSocket where `sockets` wants it.
+#[derive(Drop)]
+pub struct SocketMaker<'a, F, G> {
+    http: Maker<'a, F>,
+    sockets: &'a G,
+}
+
+impl<'a, F, G> SocketMaker<'a, F, G> {
+    /// Jobs with services of requests and of frames from here.
+    pub fn new(
+        alloc: Global,
+        services: &'a F,
+        sockets: &'a G,
+        config: ServiceConfig,
+    ) -> SocketMaker<'a, F, G> {
+        SocketMaker {
+            http: Maker::new(alloc, services, config),
+            sockets,
+        }
+    }
+}
+
+impl<'a, R, F, G, S, B, U> Makes<
+    TokioTransport<R>,
+    SocketJob<'a, TokioTransport<R>, S, S::Call, B, U, U::Call, G>,
+> for SocketMaker<'a, F, G>
+where
+    R: time::Clock + Drop,
+    F: Services<S>,
+    G: WebSockets<U>,
+    S: Service<Request<(), ()>, Response = Response<B>, Error = Response<B>, Lent = Payload>,
+    B: MessageBody,
+    U: Service<UpgradeItem, Response = Message, Error = Error, Lent = ()>,
+{
+    fn job(
+        &self,
+        connection: TokioTransport<R>,
+    ) -> SocketJob<'a, TokioTransport<R>, S, S::Call, B, U, U::Call, G> {
+        let parting = connection.parting();
+        let watch = Watch::new(parting.share());
+        let service = self.http.services.service();
+        let job = hold(
+            self.http.alloc,
+            connection,
+            service,
+            self.http.config,
+            watch,
+        );
+        Upgrading::new(job, ToWebSocket::new(self.sockets, parting))
     }
 }
 

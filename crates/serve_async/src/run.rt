@@ -2,14 +2,15 @@
 use crate::door::Door;
 use crate::job::{Job, Makes};
 use crate::limits::Limits;
-use crate::maker::{Maker, Services};
+use crate::maker::{Maker, Services, SocketJob, SocketMaker};
 use crate::served::Served;
 use crate::stop::Stop;
+use crate::to_web_socket::WebSockets;
 use crate::tokio_transport::TokioTransport;
 use http_bodies::MessageBody;
 use http_services::Service;
 use http_services::h1::Payload;
-use http_types::{Request, Response, ServiceConfig};
+use http_types::{Error, Request, Response, ServiceConfig};
 use std::alloc::AllocGlobal;
 use std::io::{self, ErrorKind};
 use std::net::{Net, TcpListener};
@@ -18,6 +19,7 @@ use std::sync::Wait;
 use std::thread;
 use std::time::{Clock, Duration};
 use tokio::runtime::LocalRuntime;
+use ws_service::{Message, UpgradeItem};
 
 /// How long nothing is let in where there was no memory, in milliseconds.
 const PAUSE: u64 = 100;
@@ -48,6 +50,37 @@ where
     serve_jobs::<R, Maker<'_, F>, Served<TokioTransport<&R>, S, S::Call, B>>(
         rt, listener, &maker, limits, stop,
     )
+}
+
+/// Serves as [`serve`] does, and makes WebSockets of the connections that `sockets` wants: each has a service of its frames. What
+/// comes and goes on a connection is copied once more.
+///
+/// # Errors
+///
+/// Those of [`serve`].
+pub fn serve_sockets<R, F, G, S, B, U>(
+    rt: &R,
+    listener: &TcpListener,
+    services: (&F, &G),
+    config: ServiceConfig,
+    limits: Limits,
+    stop: &Stop,
+) -> io::Result<()>
+where
+    R: Wait + Clock + Net + RandomSource + AllocGlobal + Drop,
+    F: Services<S>,
+    G: WebSockets<U>,
+    S: Service<Request<(), ()>, Response = Response<B>, Error = Response<B>, Lent = Payload>,
+    B: MessageBody,
+    U: Service<UpgradeItem, Response = Message, Error = Error, Lent = ()>,
+{
+    let (services, sockets) = services;
+    let maker = SocketMaker::new(rt.alloc(), services, sockets, config);
+    serve_jobs::<
+        R,
+        SocketMaker<'_, F, G>,
+        SocketJob<'_, TokioTransport<&R>, S, S::Call, B, U, U::Call, G>,
+    >(rt, listener, &maker, limits, stop)
 }
 
 /// Runs a job of each connection of a listener, as [`serve`] does.

@@ -8,6 +8,7 @@ ghost use Rattle.http_transport.specs.Wiring.{ReadSays, WriteSays};
 
 use crate::drain::Drain;
 use crate::gauge::Gauge;
+use crate::parting::Parting;
 use futures::task::{Context, Poll, Source, Waker};
 use http_config::Failed;
 use http_transport::Transport;
@@ -41,6 +42,9 @@ pub struct TokioTransport<R> {
     gauge: Gauge,
     linger: Linger,
     drain: Option<Drain>,
+
+    // How many bytes of a last Close were written.
+    said: usize,
 
     // Where a write waits that is put off.
     later: Source,
@@ -86,6 +90,7 @@ impl<R: time::Clock> TokioTransport<R> {
             gauge,
             linger,
             drain: None,
+            said: 0,
             later: Source::new(),
             waker: None,
             waits: false,
@@ -124,9 +129,38 @@ impl<R: time::Clock> TokioTransport<R> {
         self.gauge.put_off(is_put_off);
     }
 
+    // What the transport tells, for who notes what a WebSocket does.
+    pub(crate) fn parting(&self) -> Parting {
+        Parting::of(&self.gauge)
+    }
+
+    // Writes the Close that is to be the last, if one is. A write that fails is passed over: the shutdown tells it.
+    fn say(&mut self, cx: &mut Context<'_>) -> Poll<()>
+        ensures same { self.new ≡ record self.old { stream = self.new.stream; said = self.new.said } }
+        ensures armed { OnPending result (IsArmed cx.new) }
+        ensures kept { Keeps cx.old cx.new }
+    {
+        let Some(code) = self.gauge.last_code() else {
+            return Poll::Ready(());
+        };
+        let [high, low] = code.to_be_bytes();
+        let close = [0x88, 2, high, low];
+        if self.said >= close.len() {
+            return Poll::Ready(());
+        }
+        match self.stream.poll_write(cx, &close[self.said..]) {
+            Poll::Pending => Poll::Pending,
+            Poll::Ready(Ok(0)) | Poll::Ready(Err(_)) => Poll::Ready(()),
+            Poll::Ready(Ok(count)) => {
+                self.said = self.said.saturating_add(count);
+                cx.yield_now()
+            }
+        }
+    }
+
     // Ends the side that writes, and then drops what the peer still sends.
     fn end(&mut self, cx: &mut Context<'_>) -> Poll<Result<(), Failed>>
-        ensures same { self.new ≡ record self.old { stream = self.new.stream; drain = self.new.drain } }
+        ensures same { self.new ≡ record self.old { stream = self.new.stream; drain = self.new.drain; said = self.new.said } }
         ensures armed { OnPending result (IsArmed cx.new) }
         ensures kept { Keeps cx.old cx.new }
     {
@@ -141,10 +175,13 @@ impl<R: time::Clock> TokioTransport<R> {
 
     // Where there is no memory for a timer, nothing is dropped.
     fn begin_end(&mut self, cx: &mut Context<'_>) -> Poll<Result<(), Failed>>
-        ensures same { self.new ≡ record self.old { stream = self.new.stream; drain = self.new.drain } }
+        ensures same { self.new ≡ record self.old { stream = self.new.stream; drain = self.new.drain; said = self.new.said } }
         ensures armed { OnPending result (IsArmed cx.new) }
         ensures kept { Keeps cx.old cx.new }
     {
+        if self.say(cx).is_pending() {
+            return Poll::Pending;
+        }
         match self.stream.poll_shutdown(cx) {
             Poll::Pending => return Poll::Pending,
             Poll::Ready(Err(_)) => return Poll::Ready(Err(Failed)),

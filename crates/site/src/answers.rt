@@ -2,7 +2,7 @@
 use crate::lines::Lines;
 use bytes::Bytes;
 use http_bodies::{BodyStream, Counted, EitherBody};
-use http_types::header::names::ALLOW;
+use http_types::header::names::{ALLOW, SEC_WEBSOCKET_VERSION, UPGRADE};
 use http_types::{HeaderValue, NoMemory, Response, StatusCode};
 use serde_json::{Value, json};
 use std::alloc::Global;
@@ -62,6 +62,19 @@ pub fn error(alloc: Global, status: StatusCode, what: &str) -> Response<Page> {
 /// No page has this path.
 pub fn not_found(alloc: Global) -> Response<Page> {
     error(alloc, StatusCode::NOT_FOUND, "there is no such page")
+}
+
+/// The page is a WebSocket of version 13 (RFC 6455, section 4.4).
+pub fn upgrade_wanted(alloc: Global) -> Response<Page> {
+    let mut response = Response::build(alloc, StatusCode::UPGRADE_REQUIRED);
+    let built = response
+        .insert_header((UPGRADE, HeaderValue::from_static("websocket")))
+        .insert_header((SEC_WEBSOCKET_VERSION, HeaderValue::from_static("13")))
+        .body(EitherBody::left(Bytes::new()));
+    match built {
+        Ok(response) => response,
+        Err(_) => unavailable(alloc),
+    }
 }
 
 /// The page doesn't answer such requests, but those of these methods.

@@ -20,9 +20,12 @@ pub enum Route {
 
     /// The sum of numbers that came as JSON.
     Sum,
+
+    /// A WebSocket. Its requests come here where they aren't upgraded.
+    Socket,
 }
 
-/// The routes of the site.
+/// The routes of the site. A server that speaks WebSocket adds one to `Route::Socket`.
 pub fn all_routes(alloc: Global) -> Result<Router<Route>, InsertError> {
     let mut routes = Router::new(alloc);
     routes.insert("/", Route::Hello)?;
@@ -38,7 +41,7 @@ impl Route {
     pub fn takes(self, method: &Method) -> bool {
         match self {
             Route::Echo | Route::Sum => *method == Method::POST,
-            Route::Hello | Route::Lines | Route::Greet => *method == Method::GET
+            Route::Hello | Route::Lines | Route::Greet | Route::Socket => *method == Method::GET
                 || *method == Method::HEAD,
         }
     }
@@ -47,7 +50,9 @@ impl Route {
     pub fn allowed(self) -> HeaderValue {
         match self {
             Route::Echo | Route::Sum => HeaderValue::from_static("POST"),
-            Route::Hello | Route::Lines | Route::Greet => HeaderValue::from_static("GET, HEAD"),
+            Route::Hello | Route::Lines | Route::Greet | Route::Socket => HeaderValue::from_static(
+                "GET, HEAD",
+            ),
         }
     }
 }

@@ -1,6 +1,7 @@
 //! What is answered to which request.
 use crate::answers::{
-    Page, error, hello, lines, not_allowed, not_found, plain, unavailable, with_json,
+    Page, error, hello, lines, not_allowed, not_found, plain, unavailable, upgrade_wanted,
+    with_json,
 };
 use crate::receive::{Received, Refusal, receive};
 use crate::routes::Route;
@@ -131,6 +132,7 @@ impl PlainService<Request<(), ()>> for Site<'_> {
         match route {
             Route::Hello => Poll::Ready(Ok(hello(alloc))),
             Route::Lines => Poll::Ready(Ok(lines(alloc))),
+            Route::Socket => Poll::Ready(Ok(upgrade_wanted(alloc))),
             Route::Greet => { Poll::Ready(Ok(self.greet(found.params.get("name").unwrap_or("")))) }
             Route::Echo | Route::Sum => match receive(&mut call.came, lent, cx) {
                 Poll::Pending => Poll::Pending,
