@@ -98,9 +98,9 @@ def echo_sockets(address):
     answered("a text, then no UTF-8", masked(0x81, b"first") + masked(0x81, b"\xff"), [(0x81, b"first"), closed(1007)])
 
     # What is too large.
-    answered("a frame of 65,537 bytes, by its head", head(0x82, LIMIT + 1), [closed(1009)])
-    answered("a frame of 200,000 bytes", frame(0x82, bytes(200_000)), [closed(1009)])
-    answered("a frame of 2 to the 63rd bytes", b"\x82\xff\x7f" + b"\xff" * 7 + bytes(4), [closed(1009)])
+    answered("a frame of 65,537 bytes, by its head", head(0x82, LIMIT + 1), [closed(1002)])
+    answered("a frame of 200,000 bytes", frame(0x82, bytes(200_000)), [closed(1002)])
+    answered("a frame of 2 to the 63rd bytes", b"\x82\xff\x7f" + b"\xff" * 7 + bytes(4), [closed(1002)])
     answered("65,537 bytes in fragments", frame(0x02, bytes(LIMIT)) + frame(0x80, b"a"), [closed(1009)])
 
     def early():

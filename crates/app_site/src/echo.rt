@@ -1,7 +1,13 @@
 //! An echo over WebSocket (RFC 6455).
+ghost use Rattle.std.specs.Prelude.{◌≡◌, ◌++◌, IfOk};
+ghost use Rattle.model_h1.specs.Frame as model;
+ghost use Rattle.ws_frames.specs.Codec.{frame_says, item_says};
+ghost use Rattle.ws_frames.specs.Sent.{message_says};
+ghost use Rattle.app_site.specs.Echoes.{Joins, Answers, Handles};
+
 use bytes::Bytes;
 use http_services::Handler;
-use http_types::{Error, NoMemory};
+use http_types::Error;
 use std::alloc::Global;
 use std::{mem, str};
 use ws_frames::{CloseCode, CloseReason, Frame, Item, Message};
@@ -10,21 +16,16 @@ use ws_service::UpgradeItem;
 /// The most bytes of a frame, and of a message in fragments.
 pub const MOST: usize = 65_536;
 
-/// What is said of a message whose end hasn't come.
-#[derive(Clone, Copy, Debug, PartialEq, Eq)]
-enum Kind {
-    Text,
-    Binary,
-}
-
-/// Sends each message back: a text as a text, bytes as bytes, one in fragments in one frame. A Ping gets a Pong, a Close a
+/// Sends each message back: a text as a text, bytes as bytes, one in fragments in one frame. A Ping gets a Pong, a Close the same
 /// Close; text that isn't UTF-8 gets Close 1007, a message in fragments of more than 65,536 bytes 1009, and where there is no
 /// memory 1011. After a Close nothing is sent.
 #[derive(Drop)]
 pub struct Echo {
     alloc: Global,
-    kind: Option<Kind>,
+
+    // What came of a message in fragments, and whether it is a text.
     came: Vec<u8>,
+    is_text: bool,
     has_closed: bool,
 }
 
@@ -33,93 +34,74 @@ impl Echo {
     pub fn new(alloc: Global) -> Echo {
         Echo {
             alloc,
-            kind: None,
             came: Vec::new(alloc),
+            is_text: false,
             has_closed: false,
         }
     }
 
-    // The answer to a frame.
-    fn answer(&mut self, frame: Frame) -> Message {
+    // The answer to a frame, or the code by which it closes.
+    fn answer(&mut self, frame: Frame) -> Result<Message, CloseCode>
+        ensures { IfOk result (λ message. Answers self.old (frame_says frame) (message_says message) self.new) }
+    {
         match frame {
-            Frame::Text(payload) => self.whole(Kind::Text, payload),
-            Frame::Binary(payload) => self.whole(Kind::Binary, payload),
+            Frame::Text(payload) => text(self.alloc, payload.as_slice()),
+            Frame::Binary(payload) => Ok(Message::Binary(payload)),
             Frame::Continuation(item) => self.join(item),
-            Frame::Ping(payload) => Message::Pong(payload),
-            Frame::Pong(_) => Message::Nop,
-            Frame::Close(reason) => self.close(reason),
-        }
-    }
-
-    // A message came whole.
-    fn whole(&mut self, kind: Kind, payload: Bytes) -> Message {
-        match kind {
-            Kind::Binary => Message::Binary(payload),
-            Kind::Text => self.text(payload.as_slice()),
-        }
-    }
-
-    fn text(&mut self, payload: &[u8]) -> Message {
-        let Ok(text) = str::from_utf8(payload) else {
-            return self.end(CloseCode::Invalid);
-        };
-        match String::from_str(self.alloc, text) {
-            Ok(text) => Message::Text(text),
-            Err(_) => self.end(CloseCode::Error),
+            Frame::Ping(payload) => Ok(Message::Pong(payload)),
+            Frame::Pong(_) => Ok(Message::Nop),
+            Frame::Close(reason) => {
+                self.has_closed = true;
+                Ok(Message::Close(reason))
+            }
         }
     }
 
     // A fragment came. The rules of their order are the connection's.
-    fn join(&mut self, item: Item) -> Message {
+    fn join(&mut self, item: Item) -> Result<Message, CloseCode>
+        ensures { IfOk result (λ message. Answers self.old (item_says item) (message_says message) self.new) }
+    {
         match item {
-            Item::FirstText(payload) => self.begin(Kind::Text, payload.as_slice()),
-            Item::FirstBinary(payload) => self.begin(Kind::Binary, payload.as_slice()),
+            Item::FirstText(payload) => self.begin(true, payload.as_slice()),
+            Item::FirstBinary(payload) => self.begin(false, payload.as_slice()),
             Item::Continue(payload) => self.add(payload.as_slice()),
-            Item::Last(payload) => match self.add(payload.as_slice()) {
-                Message::Nop => self.joined(),
-                close => close,
-            },
+            Item::Last(payload) => self.end(payload.as_slice()),
         }
     }
 
-    fn begin(&mut self, kind: Kind, payload: &[u8]) -> Message {
-        self.kind = Some(kind);
+    fn begin(&mut self, is_text: bool, payload: &[u8]) -> Result<Message, CloseCode>
+        ensures { IfOk result (λ message. (message ≡ Message.Nop) × (self.new.is_text ≡ is_text) × (self.new.came.items ≡ payload.now)) }
+    {
+        self.is_text = is_text;
         self.came = Vec::new(self.alloc);
         self.add(payload)
     }
 
-    fn add(&mut self, payload: &[u8]) -> Message {
+    fn add(&mut self, payload: &[u8]) -> Result<Message, CloseCode>
+        ensures { IfOk result (λ message. (message ≡ Message.Nop) × (self.new.is_text ≡ self.old.is_text) × (self.new.came.items ≡ self.old.came.items ++ payload.now)) }
+    {
         if self.came.len().saturating_add(payload.len()) > MOST {
-            return self.end(CloseCode::Size);
+            return Err(CloseCode::Size);
         }
-        match put(&mut self.came, payload) {
-            Ok(()) => Message::Nop,
-            Err(_) => self.end(CloseCode::Error),
+        match self.came.extend_from_slice(payload) {
+            Ok(()) => Ok(Message::Nop),
+            Err(_) => Err(CloseCode::Error),
         }
     }
 
     // The last fragment came.
-    fn joined(&mut self) -> Message {
+    fn end(&mut self, payload: &[u8]) -> Result<Message, CloseCode>
+        ensures { IfOk result (λ message. Joins self.old payload.now (message_says message)) }
+    {
+        let _ = self.add(payload)?;
         let came = mem::replace(&mut self.came, Vec::new(self.alloc));
-        match self.kind.take() {
-            Some(Kind::Text) => self.text(came.as_slice()),
-            _ => match Bytes::copy_from_slice(self.alloc, came.as_slice()) {
-                Ok(payload) => Message::Binary(payload),
-                Err(_) => self.end(CloseCode::Error),
-            },
+        if self.is_text {
+            return text(self.alloc, came.as_slice());
         }
-    }
-
-    fn close(&mut self, reason: Option<CloseReason>) -> Message {
-        self.has_closed = true;
-        Message::Close(reason)
-    }
-
-    fn end(&mut self, code: CloseCode) -> Message {
-        self.close(Some(CloseReason {
-            code,
-            description: None,
-        }))
+        match Bytes::copy_from_slice(self.alloc, came.as_slice()) {
+            Ok(payload) => Ok(Message::Binary(payload)),
+            Err(_) => Err(CloseCode::Error),
+        }
     }
 }
 
@@ -128,18 +110,37 @@ impl Handler<UpgradeItem> for Echo {
 
     type Error = Error;
 
+    ghost handled = { Handles };
+
     fn handle(&mut self, item: UpgradeItem) -> Result<Message, Error> {
-        match item {
-            UpgradeItem::Open(_) => Ok(Message::Nop),
-            UpgradeItem::Frame(_) if self.has_closed => Ok(Message::Nop),
-            UpgradeItem::Frame(frame) => match frame.get().copy() {
-                Ok(frame) => Ok(self.answer(frame)),
-                Err(_) => Ok(self.end(CloseCode::Error)),
-            },
+        let UpgradeItem::Frame(frame) = item else {
+            return Ok(Message::Nop);
+        };
+        if self.has_closed {
+            return Ok(Message::Nop);
+        }
+        let answer = match frame.get().copy() {
+            Ok(frame) => self.answer(frame),
+            Err(_) => Err(CloseCode::Error),
+        };
+        match answer {
+            Ok(message) => Ok(message),
+            Err(code) => {
+                self.has_closed = true;
+                Ok(Message::Close(Some(CloseReason::from(code))))
+            }
         }
     }
 }
 
-fn put(came: &mut Vec<u8>, payload: &[u8]) -> Result<(), NoMemory> {
-    Ok(came.extend_from_slice(payload)?)
+fn text(alloc: Global, payload: &[u8]) -> Result<Message, CloseCode>
+    ensures { IfOk result (λ message. message_says message ≡ model.frame (model.text payload.now)) }
+{
+    let Ok(text) = str::from_utf8(payload) else {
+        return Err(CloseCode::Invalid);
+    };
+    match String::from_str(alloc, text) {
+        Ok(text) => Ok(Message::Text(text)),
+        Err(_) => Err(CloseCode::Error),
+    }
 }

@@ -5,9 +5,12 @@ use Rattle.futures.specs.declared.task.Poll.TheVariants.{Ready, Pending}
 use Rattle.futures.specs.declared.task.context.Context.{Context}
 use Rattle.http_types.specs.declared.error.DispatchError.{DispatchError}
 use Rattle.h1_dispatcher.specs.Acts as acts
+use Rattle.h1_dispatcher.specs.Order.{waits_in}
+use Rattle.h1_dispatcher.specs.Peers.{AreFrom, TellsPeer}
 use Rattle.h1_dispatcher.specs.Steps.{Step, IsRun, declined, refused, asked_to_drain}
 use Rattle.h1_dispatcher.specs.View.{View, Asking, with_drain, with_release}
 use Rattle.h1_dispatcher.proofs.Acts.{acts_run}
+use Rattle.h1_dispatcher.proofs.Peers.{run_tells}
 use Rattle.h1_dispatcher.proofs.Runs as runs
 use Rattle.ws_service.specs.View as ws
 use Rattle.ws_service.specs.Steps as ws_steps
@@ -17,7 +20,7 @@ use Rattle.ws_service.proofs.Runs as ws_runs
 use Rattle.serve_async.specs.JobRuns.{Polling, Draining, Act, poll, drain, Does, Runs, Lives}
 use Rattle.serve_async.specs.Phases.{PhasePolls, PhaseDrains, PhaseDecides, PhaseBegun}
 use Rattle.serve_async.specs.Jobs.{Polls, Drains}
-use Rattle.serve_async.specs.WebSockets.{PhaseHolds, SocketJobPolls, SocketJobDrains, SocketJobBegun, IsHolding, IsHoldingNew, HoldsNone, Decides, Declines, Refuses, Becomes, IsWanted, HasHeld, HasUpgraded, SocketPolls, SocketDrains}
+use Rattle.serve_async.specs.WebSockets.{PhaseHolds, SocketJobPolls, SocketJobDrains, SocketJobBegun, IsHolding, IsHoldingNew, HoldsNone, Decides, Becomes, IsWanted, HasHeld, HasUpgraded, SocketPolls, SocketDrains}
 use Rattle.serve_async.specs.declared.upgrading.Phase.{Phase}
 use Rattle.serve_async.specs.declared.upgrading.Phase.TheVariants.{First, Second, Gone}
 use Rattle.serve_async.specs.declared.upgrading.Upgrading.{Upgrading}
@@ -39,9 +42,14 @@ poll_runs v w moment cx result says =
     (ran.steps, ran.run)
 
 module _ (wants : Asking → Type 0) (limit : ℕ) where
+  held_by : (first w : View) (steps : List Step) → IsHoldingNew first → IsRun first steps w → HasHeld wants limit w
+  held_by first w steps new run =
+      let none : AreFrom first.peer (waits_in first.stage) = subst (λ (v : View). AreFrom v.peer (waits_in v.stage)) (sym new.is) tt in
+      let tells : TellsPeer first steps w = run_tells first w steps run none in
+      record { first = first; new = new; steps = steps; run = run; called = tells.called }
+
   held_on : (v w : View) (steps : List Step) → HasHeld wants limit v → IsRun v steps w → HasHeld wants limit w
-  held_on v w steps held run =
-      record { first = held.first; new = held.new; steps = held.steps ++ steps; run = runs.run_on held.first v w held.steps steps held.run run }
+  held_on v w steps held run = held_by held.first w (held.steps ++ steps) held.new (runs.run_on held.first v w held.steps steps held.run run)
 
   held_polled : (v w : View) (moment : ℕ) (cx : Context) (result : Poll (Result Unit DispatchError)) → acts.ActSays v (acts.polled moment cx result) w → HasHeld wants limit v → HasHeld wants limit w
   held_polled v w moment cx result says held = let ran = poll_runs v w moment cx result says in held_on v w ran.0 held ran.1
@@ -50,8 +58,9 @@ module _ (wants : Asking → Type 0) (limit : ℕ) where
   held_drained v w is held = held_on v w (asked_to_drain ∷ []) held (runs.one v w asked_to_drain is)
 
   held_decided : (v w : View) → Decides wants limit v w → HasHeld wants limit v → HasHeld wants limit w
-  held_decided v w (inl declines) held = held_on v w (declined ∷ []) held (runs.one v w declined declines.is)
-  held_decided v w (inr refuses) held = held_on v w (refused limit refuses.error ∷ declined ∷ []) held (refuses.between, refuses.refused, (w, refuses.is, refl))
+  held_decided v w (inl declines) held = held_on v w (declined ∷ []) held (runs.one v w declined declines.1)
+  held_decided v w (inr refuses) held =
+      held_on v w (refused limit refuses.1.error ∷ declined ∷ []) held (refuses.1.between, refuses.1.refused, (w, refuses.1.is, refl))
 
   -- ---- the WebSocket
 
@@ -64,12 +73,9 @@ module _ (wants : Asking → Type 0) (limit : ℕ) where
 
   module _ {J : Type 0} (view : J → ws.View) where
     upgraded_polled : (a b : J) (moment : ℕ) (cx : Context) (result : Poll (Result Unit UpgradeError)) → SocketPolls view a moment cx result b → HasUpgraded wants limit (view a) → HasUpgraded wants limit (view b)
-    upgraded_polled a b moment cx result (inl says) up =
+    upgraded_polled a b moment cx result says up =
         let ran = poll_ran (view a) (view b) cx moment result says in
         upgraded_on (view a) (view b) ran.steps up ran.run
-    upgraded_polled a b moment cx result (inr (pending, woken, (left, m, says, kept, is))) up =
-        let ran = poll_ran (view a) m left moment Pending says in
-        upgraded_drained m (view b) is (upgraded_on (view a) m ran.steps up ran.run)
 
   upgraded_begun : (v : View) (w : ws.View) → HasHeld wants limit v → Becomes wants limit v w → HasUpgraded wants limit w
   upgraded_begun v w held became = record { until = v; held = held; begun = w; became = became; steps = []; run = refl }
@@ -138,7 +144,7 @@ module _ (wants : Asking → Type 0) (limit : ℕ) where
     phase_drained Gone (Second b) holds says = absurd says
 
     phase_begun : (p : Phase A B) → PhaseBegun (IsHolding view) p → PhaseHolds wants limit view socket p
-    phase_begun (First a) new = record { first = view a; new = new; steps = []; run = refl }
+    phase_begun (First a) new = held_by wants limit (view a) (view a) [] new refl
     phase_begun (Second b) new = absurd new
     phase_begun Gone new = absurd new
 

@@ -2,10 +2,10 @@
 use std::alloc::{AllocError, Global};
 use std::sync::Arc;
 use std::sync::atomic::Ordering::SeqCst;
-use std::sync::atomic::{AtomicBool, AtomicU64};
+use std::sync::atomic::{AtomicBool, AtomicU16, AtomicU64};
 
 /// What a transport tells who polls it, who has it too: how many bytes have moved, and whether its write is put off. And what
-/// it is told of a WebSocket: whether a Close was sent, and the code of one that is still to be.
+/// it is told of a WebSocket: that its service has closed, and with which code it is else to end.
 #[derive(Drop)]
 pub struct Gauge {
     told: Arc<Told>,
@@ -16,8 +16,7 @@ struct Told {
     moved: AtomicU64,
     is_put_off: AtomicBool,
     has_closed: AtomicBool,
-    is_closing: AtomicBool,
-    last_code: AtomicU64,
+    last_code: AtomicU16,
 }
 
 impl Gauge {
@@ -27,8 +26,7 @@ impl Gauge {
             moved: AtomicU64::new(0),
             is_put_off: AtomicBool::new(false),
             has_closed: AtomicBool::new(false),
-            is_closing: AtomicBool::new(false),
-            last_code: AtomicU64::new(0),
+            last_code: AtomicU16::new(0),
         };
         Ok(Gauge {
             told: Arc::new(alloc, told)?,
@@ -62,32 +60,36 @@ impl Gauge {
         self.told.is_put_off.swap(false, SeqCst)
     }
 
-    /// A Close was sent.
+    /// A service has answered by a Close: no input is taken any more, and no other Close is written.
     pub fn close(&self) {
         self.told.has_closed.store(true, SeqCst);
-        self.told.is_closing.store(true, SeqCst);
     }
 
-    /// Whether a Close was sent since this was last asked.
-    pub fn take_closing(&self) -> bool {
-        self.told.is_closing.swap(false, SeqCst)
+    /// Whether one has.
+    pub fn has_closed(&self) -> bool {
+        self.told.has_closed.load(SeqCst)
     }
 
-    /// A Close with this code is to be the last that is written, unless one was sent, or another code came before.
+    /// The connection is a WebSocket, and a Close with this code is the last that is written, unless its service has answered by
+    /// one or its input has ended.
     pub fn end_with(&self, code: u16) {
-        if self.told.last_code.load(SeqCst) == 0 {
-            self.told.last_code.store(u64::from(code), SeqCst);
-        }
+        self.told.last_code.store(code, SeqCst);
     }
 
-    /// The code of the Close that is still to be written.
+    /// The code of the Close that is to be the last.
     pub fn last_code(&self) -> Option<u16> {
-        if self.told.has_closed.load(SeqCst) {
+        if self.has_closed() {
             return None;
         }
-        match u16::try_from(self.told.last_code.load(SeqCst)) {
-            Ok(0) | Err(_) => None,
-            Ok(code) => Some(code),
+        match self.told.last_code.load(SeqCst) {
+            0 => None,
+            code => Some(code),
         }
     }
+}
+
+/// A transport that has a gauge.
+pub trait HasGauge {
+    /// The same gauge.
+    fn gauge(&self) -> Result<Gauge, AllocError>;
 }

@@ -1,12 +1,12 @@
 //! What holds of each connection that is served.
-ghost use Rattle.std.specs.Prelude.{None, false, true, ℕ, Result};
+ghost use Rattle.std.specs.Prelude.{None, false, ℕ, Result};
 ghost use Rattle.http_types.specs.declared.error.DispatchError.{DispatchError};
 ghost use Rattle.serve_async.specs.JobRuns.{Lives, EndsBy};
 ghost use Rattle.h1_dispatcher.specs.View.{view_of, parts_of, View, MayBePolled};
 ghost use Rattle.h1_dispatcher.specs.Causes.{HasCause};
 ghost use Rattle.serve_async.specs.Jobs.{IsNew, Polls, Drains, HasServed, TellsPeerOf};
 ghost use Rattle.serve_async.specs.Phases.{PhaseIsOpen};
-ghost use Rattle.serve_async.specs.WebSockets.{SocketJobPolls, SocketJobDrains, SocketJobBegun, PhaseHolds};
+ghost use Rattle.serve_async.specs.WebSockets.{SocketJobPolls, SocketJobDrains, SocketJobBegun, PhaseHolds, parted};
 ghost use Rattle.serve_async.specs.declared.served.Served.{Served as Job};
 ghost use Rattle.serve_async.specs.declared.to_web_socket.ToWebSocket.{ToWebSocket as To};
 ghost use Rattle.serve_async.specs.declared.upgradable.Upgradable.{Upgradable as Holding};
@@ -59,7 +59,8 @@ where
 /// A job that lives and may become a WebSocket stands where polls, drains and decisions have brought it, and these are runs of
 /// steps. Until its connection became one, they are of the dispatcher that held requests for an upgrade back. Then that went on,
 /// from the request that was accepted on: with the connection and the transport as they were, and with a service of its own. No
-/// request became one that wasn't wanted.
+/// request became one that wasn't wanted. All requests with which the service was called before have the address of the
+/// dispatcher's peer.
 pub fn sockets_are_served<T, S, B, U, F>()
 where
     T: Transport,
@@ -67,8 +68,8 @@ where
     B: MessageBody,
     U: Service<UpgradeItem, Response = Message, Error = Error, Lent = ()>,
     F: WebSockets<U>,
-    ensures { let view = λ (j : Holding T S S.Call B). view_of T.wiring S.served S.calling B.gives (λ _. None) (λ _. true) j.dispatcher in
-        let socket = λ (j : Socket T U U.Call). ws.view_of T.wiring U.served (λ _. None) (λ _. true) j.dispatcher in
+    ensures { let view = λ (j : Holding T S S.Call B). view_of T.wiring S.served S.calling B.gives (λ _. None) (λ _. false) j.dispatcher in
+        let socket = λ (j : Socket T U U.Call). ws.view_of T.wiring (parted U.served) (λ _. None) (λ _. false) j.dispatcher in
         let wants = λ (by : To F). F.wants by.sockets.now in
         let most = λ (by : To F). F.most by.sockets.now in
         (job : Upgrading (Holding T S S.Call B) (Socket T U U.Call) (To F))

@@ -5,11 +5,10 @@ ghost use Rattle.h1_dispatcher.specs.View.{view_of, parts_of, MayBePolled};
 ghost use Rattle.serve_async.specs.Jobs.{IsNew};
 ghost use Rattle.serve_async.specs.declared.served.Served.{Served as Job};
 
+use crate::gauge::HasGauge;
 use crate::job::Makes;
-use crate::parting::Watch;
 use crate::served::Served;
 use crate::to_web_socket::{ToWebSocket, WebSockets};
-use crate::tokio_transport::TokioTransport;
 use crate::upgradable::{Upgradable, hold};
 use crate::upgrading::Upgrading;
 use crate::web_socket::WebSocket;
@@ -21,7 +20,6 @@ use http_services::h1::Payload;
 use http_transport::Transport;
 use http_types::{Error, Request, Response, ServiceConfig};
 use std::alloc::Global;
-use std::time;
 use ws_service::{Message, UpgradeItem};
 
 /// A connection that begins with a service of requests, and becomes a WebSocket where `G` wants it.
@@ -78,33 +76,20 @@ impl<'a, F, G> SocketMaker<'a, F, G> {
     }
 }
 
-impl<'a, R, F, G, S, B, U> Makes<
-    TokioTransport<R>,
-    SocketJob<'a, TokioTransport<R>, S, S::Call, B, U, U::Call, G>,
-> for SocketMaker<'a, F, G>
+impl<'a, T, F, G, S, B, U> Makes<T, SocketJob<'a, T, S, S::Call, B, U, U::Call, G>>
+    for SocketMaker<'a, F, G>
 where
-    R: time::Clock + Drop,
+    T: Transport + HasGauge,
     F: Services<S>,
     G: WebSockets<U>,
     S: Service<Request<(), ()>, Response = Response<B>, Error = Response<B>, Lent = Payload>,
     B: MessageBody,
     U: Service<UpgradeItem, Response = Message, Error = Error, Lent = ()>,
 {
-    fn job(
-        &self,
-        connection: TokioTransport<R>,
-    ) -> SocketJob<'a, TokioTransport<R>, S, S::Call, B, U, U::Call, G> {
-        let parting = connection.parting();
-        let watch = Watch::new(parting.share());
+    fn job(&self, connection: T) -> SocketJob<'a, T, S, S::Call, B, U, U::Call, G> {
         let service = self.http.services.service();
-        let job = hold(
-            self.http.alloc,
-            connection,
-            service,
-            self.http.config,
-            watch,
-        );
-        Upgrading::new(job, ToWebSocket::new(self.sockets, parting))
+        let job = hold(self.http.alloc, connection, service, self.http.config);
+        Upgrading::new(job, ToWebSocket::new(self.sockets))
     }
 }
 

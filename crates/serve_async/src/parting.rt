@@ -1,118 +1,87 @@
-//! How a WebSocket ends: with a Close that says why.
-ghost use Rattle.std.specs.Prelude.{None};
+//! A service of frames that ends its connection by a Close.
+ghost use Rattle.std.specs.Prelude.{◌≡◌};
+ghost use Rattle.serve_async.specs.WebSockets.{answers_close, is_close};
 
 use crate::gauge::Gauge;
-use h1_connection::{Event, Message, NoMemory, Outcome, ProtocolError};
-use h1_traced::Recorder;
+use futures::task::{Context, Poll};
+use http_services::Service;
+use http_types::Error;
+use ws_service::{Message, UpgradeItem};
 
-/// The server ends (RFC 6455, section 7.4.1).
-pub const GOING_AWAY: u16 = 1001;
-
-/// The peer broke a rule.
-const PROTOCOL: u16 = 1002;
-
-/// It sent a frame that is too large.
-const TOO_LARGE: u16 = 1009;
-
-/// The service sent a fragment that may not stand there.
-const OWN_MISTAKE: u16 = 1011;
-
-/// What is told of how a WebSocket ends, to its transport and its job. Without a share of the gauge nothing is.
+/// A service of frames. Once it has answered by a Close, the transport shows the end of the input: so the Close is written, and then
+/// the connection ends.
 #[derive(Drop)]
-pub struct Parting {
-    gauge: Option<Gauge>,
+pub struct Parting<U> {
+    service: U,
+    gauge: Gauge,
 }
 
-impl Parting {
-    /// What this gauge's transport is told.
-    pub fn of(gauge: &Gauge) -> Parting {
-        Parting {
-            gauge: gauge.share().ok(),
-        }
+impl<U> Parting<U> {
+    /// One whose transport has this gauge.
+    pub fn new(service: U, gauge: Gauge) -> Parting<U>
+        ensures { result.service ≡ service }
+    {
+        Parting { service, gauge }
     }
 
-    /// The same.
-    pub fn share(&self) -> Parting {
-        match &self.gauge {
-            Some(gauge) => Parting::of(gauge),
-            None => Parting { gauge: None },
-        }
-    }
-
-    /// A Close with this code is to be the last that is written, unless one was sent, or another code came before.
+    /// It is to end with a Close with this code, unless it has answered by one.
     pub fn end_with(&self, code: u16) {
-        if let Some(gauge) = &self.gauge {
-            gauge.end_with(code);
+        self.gauge.end_with(code);
+    }
+}
+
+impl<U> Service<UpgradeItem> for Parting<U>
+where
+    U: Service<UpgradeItem, Response = Message, Error = Error, Lent = ()>,
+{
+    type Response = Message;
+
+    type Error = Error;
+
+    type Call = U::Call;
+
+    type Lent = ();
+
+    ghost served = { λ s. U.served s.service };
+
+    ghost echoes = { U.echoes };
+
+    ghost calling = { U.calling };
+
+    fn poll_ready(&mut self, cx: &mut Context<'_>) -> Poll<Result<(), Error>> {
+        self.service.poll_ready(cx)
+    }
+
+    fn call(&mut self, item: UpgradeItem) -> U::Call {
+        self.service.call(item)
+    }
+
+    fn poll_call(
+        &mut self,
+        call: &mut U::Call,
+        lent: &mut (),
+        cx: &mut Context<'_>,
+    ) -> Poll<Result<Message, Error>> {
+        let answer = self.service.poll_call(call, lent, cx);
+        if answers_close(&answer) {
+            self.gauge.close();
         }
-    }
-
-    /// Whether a Close was sent since this was last asked.
-    pub fn take_closing(&self) -> bool {
-        match &self.gauge {
-            Some(gauge) => gauge.take_closing(),
-            None => false,
-        }
-    }
-
-    // A Close was sent.
-    fn close(&self) {
-        if let Some(gauge) = &self.gauge {
-            gauge.close();
-        }
+        answer
     }
 }
 
-/// Is told of the steps of a connection, and tells of them what a WebSocket's end rests on: that a Close was sent, and that a
-/// rule was broken. What comes and goes is copied for it.
-#[derive(Drop)]
-pub struct Watch {
-    parting: Parting,
-}
-
-impl Watch {
-    /// One that tells it so.
-    pub fn new(parting: Parting) -> Watch {
-        Watch { parting }
+// Whether a call has answered by a Close.
+fn answers_close(answer: &Poll<Result<Message, Error>>) -> bool
+    ensures { result ≡ answers_close answer.now }
+{
+    match answer {
+        Poll::Ready(Ok(message)) => is_close(message),
+        Poll::Ready(Err(_)) | Poll::Pending => false,
     }
 }
 
-impl Recorder for Watch {
-    ghost use Rattle.std.specs.Prelude.{true};
-
-    ghost noted = { λ _. None };
-
-    ghost is_listening = { λ _. true };
-
-    fn listens(&self) -> bool {
-        true
-    }
-
-    fn note(&mut self, event: &Event, outcome: &Outcome) -> Result<(), NoMemory> {
-        match outcome {
-            Outcome::Protocol(error) => self.parting.end_with(code_of(event, *error)),
-            _ => {
-                if says_close(event) {
-                    self.parting.close();
-                }
-            }
-        }
-        Ok(())
-    }
-}
-
-// Whether a Close was sent.
-fn says_close(event: &Event) -> bool {
-    match event {
-        Event::Send(message) => matches!(message.get(), Message::Close(_)),
-        _ => false,
-    }
-}
-
-// The code that tells that a rule was broken.
-fn code_of(event: &Event, error: ProtocolError) -> u16 {
-    match (event, error) {
-        (Event::Send(_), _) => OWN_MISTAKE,
-        (_, ProtocolError::Overflow) => TOO_LARGE,
-        _ => PROTOCOL,
-    }
+fn is_close(message: &Message) -> bool
+    ensures { result ≡ is_close message.now }
+{
+    matches!(message, Message::Close(_))
 }

@@ -52,8 +52,8 @@ where
     )
 }
 
-/// Serves as [`serve`] does, and makes WebSockets of the connections that `sockets` wants: each has a service of its frames. What
-/// comes and goes on a connection is copied once more.
+/// Serves as [`serve`] does, and makes WebSockets of the connections that the second of `services` wants: each has a service of its
+/// frames.
 ///
 /// # Errors
 ///

@@ -7,12 +7,12 @@ ghost use Rattle.http_transport.specs.Opening.{IsFresh};
 ghost use Rattle.http_transport.specs.Wiring.{ReadSays, WriteSays};
 
 use crate::drain::Drain;
-use crate::gauge::Gauge;
-use crate::parting::Parting;
+use crate::gauge::{Gauge, HasGauge};
 use futures::task::{Context, Poll, Source, Waker};
 use http_config::Failed;
 use http_transport::Transport;
 use net_sockets::Linger;
+use std::alloc::AllocError;
 use std::net::SocketAddr;
 use std::time;
 use tokio::io::{AsyncRead, AsyncWrite};
@@ -30,7 +30,9 @@ pub const ENOUGH: usize = 4096;
 ///   pieces is one call of the system. Such a write is pending at a source of its own, which nobody fires: who polls the
 ///   transport sees by its [`Gauge`] that a write is put off, and polls once more.
 ///
-/// Its shutdown loses no answer: it ends the side that writes, and then reads and drops what the peer still sends, until
+/// Once the service of a WebSocket has answered by a Close, it shows the end of its input ([`Gauge::has_closed`]).
+///
+/// Its shutdown writes the last Close of a WebSocket, where one is due, and loses no answer: it ends the side that writes, and then reads and drops what the peer still sends, until
 /// the peer ends too or the bounds are reached. A socket that is closed over unread bytes is reset, and the reset may
 /// overtake the last answer (RFC 7230, section 6.6).
 #[derive(Drop)]
@@ -129,9 +131,12 @@ impl<R: time::Clock> TokioTransport<R> {
         self.gauge.put_off(is_put_off);
     }
 
-    // What the transport tells, for who notes what a WebSocket does.
-    pub(crate) fn parting(&self) -> Parting {
-        Parting::of(&self.gauge)
+    // The code of the Close that is to be the last: none once the input has ended.
+    fn last_code(&self) -> Option<u16> {
+        if self.ended {
+            return None;
+        }
+        self.gauge.last_code()
     }
 
     // Writes the Close that is to be the last, if one is. A write that fails is passed over: the shutdown tells it.
@@ -140,7 +145,7 @@ impl<R: time::Clock> TokioTransport<R> {
         ensures armed { OnPending result (IsArmed cx.new) }
         ensures kept { Keeps cx.old cx.new }
     {
-        let Some(code) = self.gauge.last_code() else {
+        let Some(code) = self.last_code() else {
             return Poll::Ready(());
         };
         let [high, low] = code.to_be_bytes();
@@ -153,6 +158,7 @@ impl<R: time::Clock> TokioTransport<R> {
             Poll::Ready(Ok(0)) | Poll::Ready(Err(_)) => Poll::Ready(()),
             Poll::Ready(Ok(count)) => {
                 self.said = self.said.saturating_add(count);
+                self.gauge.add(count);
                 cx.yield_now()
             }
         }
@@ -199,6 +205,12 @@ impl<R: time::Clock> TokioTransport<R> {
     }
 }
 
+impl<R> HasGauge for TokioTransport<R> {
+    fn gauge(&self) -> Result<Gauge, AllocError> {
+        self.gauge.share()
+    }
+}
+
 impl<R: time::Clock + Drop> Transport for TokioTransport<R> {
     ghost wiring = { tokio_wiring };
 
@@ -218,6 +230,10 @@ impl<R: time::Clock + Drop> Transport for TokioTransport<R> {
         if self.waits {
             self.reads = self.reads.saturating_add(1);
             return self.hold(cx);
+        }
+        if self.gauge.has_closed() && !buf.is_empty() {
+            self.ended = true;
+            return Poll::Ready(Ok(0));
         }
         match self.stream.poll_read(cx, buf) {
             Poll::Ready(Ok(0)) => {

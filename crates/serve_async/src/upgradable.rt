@@ -1,5 +1,5 @@
 //! A service over a transport as a job that may be upgraded.
-ghost use Rattle.std.specs.Prelude.{◌≡◌, None, true};
+ghost use Rattle.std.specs.Prelude.{◌≡◌, None, false};
 ghost use Rattle.http_transport.specs.Opening.{IsFresh};
 ghost use Rattle.h1_dispatcher.specs.View.{view_of, MayBePolled};
 ghost use Rattle.serve_async.specs.Jobs.{Polls, Drains, due_of};
@@ -7,9 +7,9 @@ ghost use Rattle.serve_async.specs.WebSockets.{IsHolding};
 ghost use Rattle.serve_async.specs.declared.upgradable.Upgradable.{Upgradable as Holding};
 
 use crate::job::Job;
-use crate::parting::Watch;
 use futures::task::{Context, Poll};
 use h1_dispatcher::Dispatcher;
+use h1_traced::NoRecord;
 use http_bodies::MessageBody;
 use http_services::Service;
 use http_services::h1::Payload;
@@ -20,7 +20,7 @@ use std::alloc::Global;
 /// A service over a transport, by one connection of HTTP/1, as a job. Requests for an upgrade are held back.
 #[derive(Drop)]
 pub struct Upgradable<T, S, C, B> {
-    pub(crate) dispatcher: Dispatcher<T, S, C, Watch, B>,
+    pub(crate) dispatcher: Dispatcher<T, S, C, NoRecord, B>,
 }
 
 /// A job of a fresh connection, with this service. Each request has the address that the connection tells.
@@ -29,19 +29,18 @@ pub fn hold<T, S, B>(
     connection: T,
     service: S,
     config: ServiceConfig,
-    watch: Watch,
 ) -> Upgradable<T, S, S::Call, B>
 where
     T: Transport,
     S: Service<Request<(), ()>, Response = Response<B>, Error = Response<B>, Lent = Payload>,
     B: MessageBody,
     requires { IsFresh (T.wiring connection) }
-    ensures begun { IsHolding (λ (j : Holding T S S.Call B). view_of T.wiring S.served S.calling B.gives (λ _. None) (λ _. true) j.dispatcher) result }
-    ensures peer { (view_of T.wiring S.served S.calling B.gives (λ _. None) (λ _. true) result.dispatcher).peer ≡ T.peer connection }
+    ensures begun { IsHolding (λ (j : Holding T S S.Call B). view_of T.wiring S.served S.calling B.gives (λ _. None) (λ _. false) j.dispatcher) result }
+    ensures peer { (view_of T.wiring S.served S.calling B.gives (λ _. None) (λ _. false) result.dispatcher).peer ≡ T.peer connection }
     ensures open { MayBePolled S.calling result.dispatcher }
 {
     let peer = connection.peer_addr();
-    let mut dispatcher = Dispatcher::new(alloc, connection, service, config, peer, watch);
+    let mut dispatcher = Dispatcher::new(alloc, connection, service, config, peer, NoRecord);
     dispatcher.hold_upgrades(true);
     Upgradable { dispatcher }
 }
@@ -54,15 +53,15 @@ where
 {
     type Output = Result<(), DispatchError>;
 
-    ghost begun = { IsHolding (λ j. view_of T.wiring S.served S.calling B.gives (λ _. None) (λ _. true) j.dispatcher) };
+    ghost begun = { IsHolding (λ j. view_of T.wiring S.served S.calling B.gives (λ _. None) (λ _. false) j.dispatcher) };
 
     ghost can_poll = { λ j. MayBePolled S.calling j.dispatcher };
 
-    ghost polled = { Polls (λ j. view_of T.wiring S.served S.calling B.gives (λ _. None) (λ _. true) j.dispatcher) };
+    ghost polled = { Polls (λ j. view_of T.wiring S.served S.calling B.gives (λ _. None) (λ _. false) j.dispatcher) };
 
-    ghost drained = { Drains (λ j. view_of T.wiring S.served S.calling B.gives (λ _. None) (λ _. true) j.dispatcher) };
+    ghost drained = { Drains (λ j. view_of T.wiring S.served S.calling B.gives (λ _. None) (λ _. false) j.dispatcher) };
 
-    ghost due = { λ j. due_of (view_of T.wiring S.served S.calling B.gives (λ _. None) (λ _. true) j.dispatcher) };
+    ghost due = { λ j. due_of (view_of T.wiring S.served S.calling B.gives (λ _. None) (λ _. false) j.dispatcher) };
 
     #[tactic(auto, using(crate::proofs::Waiting::names_none))]
     fn poll(&mut self, moment: u64, cx: &mut Context<'_>) -> Poll<Result<(), DispatchError>> {

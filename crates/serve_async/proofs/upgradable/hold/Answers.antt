@@ -1,4 +1,4 @@
-use Rattle.std.proofs.Common.{None, true, sym, ap, ◌∙◌}
+use Rattle.std.proofs.Common.{None, false, sym, ap, ◌∙◌}
 use Rattle.http_transport.specs.Peer.{PeerAddress}
 use Rattle.h1_dispatcher.specs.View.{View, view_begun, with_holds, told_service}
 use Rattle.serve_async.proofs.upgradable.hold.Goals as goal
