@@ -52,12 +52,9 @@ fn main(rt: HostRuntime) -> ExitCode {
     let Ok(listener) = TcpListener::bind(&rt, ("127.0.0.1", port)) else {
         return ExitCode::FAILURE;
     };
-    let Ok(stop) = Stop::new(rt.alloc()) else {
+    let Some(stop) = watch_input(&rt, rt) else {
         return ExitCode::FAILURE;
     };
-    if !watch_input(&rt, rt, &stop) {
-        return ExitCode::FAILURE;
-    }
     if threads == 0 {
         return status(is_served(rt, listener, stop, has_sockets));
     }
@@ -80,22 +77,28 @@ fn main(rt: HostRuntime) -> ExitCode {
     status(join_all(&rt, handles) && are_all)
 }
 
-// Has a thread tell the server to end once the standard input ends or has a line.
-fn watch_input<R: Threads>(rt: &R, system: HostRuntime, stop: &Stop) -> bool {
+// The server's end, which a thread tells once the standard input ends or has a line.
+fn watch_input<R: Threads>(rt: &R, system: HostRuntime) -> Option<Stop> {
+    let Ok(stop) = Stop::new(system.alloc()) else {
+        return None;
+    };
     let Ok(watched) = InputWatch::new(&system) else {
-        return false;
+        return None;
     };
     let Some(input) = watched else {
-        return true;
+        return Some(stop);
     };
     let Ok(ender) = stop.share() else {
-        return false;
+        return None;
     };
     let watching = thread::spawn(rt, move || {
         input.wait();
         ender.tell();
     });
-    watching.is_ok()
+    if watching.is_err() {
+        return None;
+    }
+    Some(stop)
 }
 
 // What a thread is given: the listener and the end, for it alone.
