@@ -1,5 +1,5 @@
 -- What was done to a job that may become another one, as what was done to the two dispatchers.
-use Rattle.std.proofs.Common.{◌≡◌, ◌⊎◌, ℕ, true, List, [], ◌∷◌, ◌++◌, ◌∙◌, Result, refl, sym, subst, inl, inr}
+use Rattle.std.proofs.Common.{◌≡◌, ℕ, List, [], ◌∷◌, ◌++◌, ◌∙◌, Result, refl, sym, subst, inl, inr}
 use Rattle.futures.specs.declared.task.Poll.{Poll}
 use Rattle.futures.specs.declared.task.Poll.TheVariants.{Ready, Pending}
 use Rattle.futures.specs.declared.task.context.Context.{Context}
@@ -144,7 +144,7 @@ module _ (wants : Asking → Type 0) (limit : ℕ) where
     phase_drained Gone (Second b) holds says = absurd says
 
     phase_begun : (p : Phase A B) → PhaseBegun (IsHolding view) p → PhaseHolds wants limit view socket p
-    phase_begun (First a) new = held_by wants limit (view a) (view a) [] new refl
+    phase_begun (First a) new = held_by (view a) (view a) [] new refl
     phase_begun (Second b) new = absurd new
     phase_begun Gone new = absurd new
 

@@ -15,3 +15,7 @@ returns-clause-begun g c =
       settings = c.args.config;
       is = c.hold_upgrades.ensures.view ∙ ap (λ (v : View). with_holds true v.expects v) c.new-dispatcher.ensures.view;
     }
+
+pub returns-clause-peer : goal.returns-clause-peer
+returns-clause-peer g c =
+    ap (λ (v : View). v.peer) c.hold_upgrades.ensures.view ∙ ap (λ (v : View). v.peer) c.new-dispatcher.ensures.view ∙ c.peer_addr-peer.ensures
