@@ -1,5 +1,5 @@
 -- What the echo answers to which frame.
-use Rattle.std.specs.Prelude.{◌≡◌, ◌⊎◌, ◌++◌, Bool, true, false, List, ℕ, if◌then◌else◌, ⊤, Result, Ok}
+use Rattle.std.specs.Prelude.{◌≡◌, ◌⊎◌, ◌++◌, Bool, true, false, List, ℕ, if◌then◌else◌, ⊤, Result, Ok, Err}
 use Rattle.http_types.specs.declared.error.Error.{Error}
 use Rattle.model_h1.specs.Frame as model
 use Rattle.ws_frames.specs.declared.message.Message.{Message}
@@ -42,7 +42,8 @@ abbrev pub HandlesFrame : Bool → Echo → model.Frame → model.Message → Ec
 HandlesFrame true old frame answer new = answer ≡ model.nop
 HandlesFrame false old frame answer new = Answers old frame answer new ⊎ (Closes answer × (new.has_closed ≡ true))
 
--- each item gets an answer; none says anything to the request
+-- each item gets an answer; the request none that is sent
 abbrev pub Handles : Echo → UpgradeItem → Result Message Error → Echo → Type 0
-Handles old (items.Open request) result new = (message : Message) × (result ≡ Ok message) × (message_says message ≡ model.nop)
-Handles old (items.Frame frame) result new = (message : Message) × (result ≡ Ok message) × HandlesFrame old.has_closed old frame (message_says message) new
+Handles old (items.Open request) (Ok message) new = message_says message ≡ model.nop
+Handles old (items.Frame frame) (Ok message) new = HandlesFrame old.has_closed old frame (message_says message) new
+Handles old item (Err error) new = ⊥
